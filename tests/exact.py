@@ -1,0 +1,487 @@
+#!/usr/bin/env python3
+"""Reference implementation of the mixture search over exact fractions.
+
+The tests compare the main program with this file, so it is written on its
+own: it takes the published Frank-Wolfe iteration as it stands, over
+fractions.Fraction, and turns the fractions into whole numbers only at the end.
+
+The problem: the rows of a fleet book are the vertices, the target of a sheet
+is the point u, and f(x) = |x - u|^2 / 2 is minimised over the convex hull of
+the rows.  With x_0 the row of boat 0 and k = 0, 1, 2, ...
+
+    s       = the lowest-numbered row v where <x_k - u, v> is least
+    x_(k+1) = (1 - gamma) x_k + gamma s,   gamma = 2 / (k + 2)
+
+and the weights of the rows move in the same way.  After t steps, with
+W = t (t + 1) / 2, the whole numbers of an answer are
+
+    share of a boat = its weight * W           (the shares total W)
+    E               = squared distance * W^2   (squared distance |x_t - u|^2)
+    G               = duality gap * W^2        (greatest <x_t - u, x_t - v>)
+
+The three files.  All numbers are little-endian; a value is a signed 16-bit
+number, every other field is unsigned.  Each file is front text (never read),
+then the body, then the trailer.  "back" is the size of the body in bytes.
+
+    fleet book  body: rows, boat 0 first, 2 bytes a value
+                trailer, 12 bytes: back 4, boats 2, columns 2, "WBK1"
+    sheet       body: the target, 2 bytes a value
+                trailer, 16 bytes: back 4, columns 2, steps 2, tolerance 4,
+                "WSH1"
+    card        body: boat 2, share 2 for each boat with a share above zero,
+                boats ascending
+                trailer, 36 bytes: back 4, verdict 2, steps used 2,
+                tolerance 4, E 8, G 8, boats 2, columns 2, "WCD1"
+
+A refusal is a number; 0 stands for accepted.  The lowest number that applies
+is the one given back.
+
+     1  book shorter than 12 or longer than 40,000 bytes
+     2  letters not WBK1
+     3  boats outside 1 to 256
+     4  columns outside 1 to 64
+     5  back not 2 * boats * columns, or reaching before the first byte
+     6  a value outside -2,000 to 2,000
+    11  sheet shorter than 16 or longer than 40,000 bytes
+    12  letters not WSH1
+    13  columns not those of the book
+    14  steps outside 1 to 360
+    15  tolerance above 1,024,000,000
+    16  back not 2 * columns, or reaching before the first byte
+    17  a value outside -2,000 to 2,000
+    21  share list shorter than the number of boats
+    22  card buffer shorter than the card
+    31  card shorter than 36 or longer than 40,000 bytes
+    32  letters not WCD1
+    33  boats or columns not those of the book
+    34  verdict outside 1 to 3, or steps used 0 or above the sheet's
+    35  back 0, no multiple of 4, above 4 * boats, or before the first byte
+    36  boats not strictly ascending, a boat not in the book, or a share of 0
+    37  more boats than steps used, or shares not totalling t (t + 1) / 2
+    38  E, G or the verdict not true of the shares
+    39  tolerance not that of the sheet
+
+Use from a shell:  python3 tests/exact.py FLEET SHEET
+"""
+
+from __future__ import annotations
+
+import struct
+import sys
+from dataclasses import dataclass
+from fractions import Fraction
+from math import gcd
+from operator import mul
+
+MOST_BYTES = 40000
+MOST_BOATS = 256
+MOST_COLUMNS = 64
+MOST_VALUE = 2000
+MOST_STEPS = 360
+MOST_TOLERANCE = 1024000000
+
+WITHIN, BEYOND, SPENT = 1, 2, 3
+VERDICT_NAMES = {WITHIN: "within", BEYOND: "beyond", SPENT: "spent"}
+
+# Trailer layouts, in the order of the fields given at the top of the file.
+BOOK_TRAILER = struct.Struct("<IHH4s")
+SHEET_TRAILER = struct.Struct("<IHHI4s")
+CARD_TRAILER = struct.Struct("<IHHIQQHH4s")
+
+
+@dataclass(frozen=True)
+class Answer:
+    """What a search or an accepted card gives back."""
+
+    steps: int      # t, the steps taken
+    weight: int     # W = t (t + 1) / 2
+    distance: int   # E, the squared distance times W^2
+    gap: int        # G, the duality gap times W^2
+    verdict: int    # 1 Within, 2 Beyond, 3 Spent
+    carried: int | None  # Within: None; Beyond: E - 2G; Spent: E - tolerance * W^2
+
+
+# ---------------------------------------------------------------- the files
+
+
+def split(file, layout):
+    """The fields of the trailer, and the bytes that stand before the trailer."""
+    before = len(file) - layout.size
+    return layout.unpack(file[before:]), file[:before]
+
+
+def body_values(before, back):
+    """The signed 16-bit values in the last `back` bytes before a trailer."""
+    body = before[len(before) - back:]
+    return [value for (value,) in struct.iter_unpack("<h", body)]
+
+
+def out_of_range(values):
+    """True if some value is outside -2,000 to 2,000."""
+    return any(value < -MOST_VALUE or value > MOST_VALUE for value in values)
+
+
+def book_refusal(book: bytes) -> int:
+    """The refusal of a fleet book, 0 if it is accepted."""
+    if len(book) < BOOK_TRAILER.size or len(book) > MOST_BYTES:
+        return 1
+    (back, boats, columns, letters), before = split(book, BOOK_TRAILER)
+    if letters != b"WBK1":
+        return 2
+    if boats < 1 or boats > MOST_BOATS:
+        return 3
+    if columns < 1 or columns > MOST_COLUMNS:
+        return 4
+    if back != 2 * boats * columns or back > len(before):
+        return 5
+    if out_of_range(body_values(before, back)):
+        return 6
+    return 0
+
+
+def sheet_refusal(sheet: bytes, columns: int) -> int:
+    """The refusal of a sheet for a book of so many columns, 0 if accepted."""
+    if len(sheet) < SHEET_TRAILER.size or len(sheet) > MOST_BYTES:
+        return 11
+    (back, own_columns, steps, tolerance, letters), before = split(sheet, SHEET_TRAILER)
+    if letters != b"WSH1":
+        return 12
+    if own_columns != columns:
+        return 13
+    if steps < 1 or steps > MOST_STEPS:
+        return 14
+    if tolerance > MOST_TOLERANCE:
+        return 15
+    if back != 2 * own_columns or back > len(before):
+        return 16
+    if out_of_range(body_values(before, back)):
+        return 17
+    return 0
+
+
+def files_refusal(book: bytes, sheet: bytes) -> int:
+    """The refusal of a book and a sheet together, the book's checks first."""
+    refusal = book_refusal(book)
+    if refusal:
+        return refusal
+    (_, _, columns, _), _ = split(book, BOOK_TRAILER)
+    return sheet_refusal(sheet, columns)
+
+
+def read_book(book: bytes) -> list[list[int]]:
+    """The rows of an accepted fleet book, boat 0 first."""
+    (back, boats, columns, _), before = split(book, BOOK_TRAILER)
+    values = body_values(before, back)
+    return [values[i * columns:(i + 1) * columns] for i in range(boats)]
+
+
+def read_sheet(sheet: bytes) -> tuple[list[int], int, int]:
+    """Target, steps and tolerance of an accepted sheet."""
+    (back, _, steps, tolerance, _), before = split(sheet, SHEET_TRAILER)
+    return body_values(before, back), steps, tolerance
+
+
+# --------------------------------------------------------------- the method
+
+
+def over_common_denominator(values):
+    """Whole numerators of the fractions over their least common denominator."""
+    denominator = 1
+    for value in values:
+        denominator = denominator * value.denominator // gcd(denominator, value.denominator)
+    return [v.numerator * (denominator // v.denominator) for v in values], denominator
+
+
+def dot(left, right):
+    """Inner product of two lists of whole numbers."""
+    return sum(map(mul, left, right))
+
+
+def measure(point, rows, target):
+    """Squared distance and duality gap of a point, and its next vertex.
+
+    The next vertex is the lowest-numbered row v where <x - u, v> is least.
+
+    The gradient x - u is put over one common denominator so that the inner
+    products with all rows are sums of whole numbers.  This only saves time:
+    the values are those of the fractions.
+    """
+    gradient = [x - u for x, u in zip(point, target)]
+    slope, d = over_common_denominator(gradient)     # gradient = slope / d
+    scores = [dot(slope, row) for row in rows]       # <x - u, v> = score / d
+    least = min(scores)
+    vertex = scores.index(least)                     # the first of equal scores
+    # The target is whole, so d is a common denominator of the point as well.
+    place = [x.numerator * (d // x.denominator) for x in point]
+    squared_distance = Fraction(dot(slope, slope), d * d)
+    # The greatest <x - u, x - v> is <x - u, x> less the least <x - u, v>.
+    duality_gap = Fraction(dot(slope, place), d * d) - Fraction(least, d)
+    return squared_distance, duality_gap, vertex
+
+
+def judge(squared_distance, duality_gap, tolerance, step, steps):
+    """The verdict after a step, 0 if the search goes on."""
+    if squared_distance <= tolerance:
+        return WITHIN
+    if squared_distance - 2 * duality_gap > tolerance:
+        return BEYOND
+    if step == steps:
+        return SPENT
+    return 0
+
+
+def frank_wolfe(rows, target, steps, tolerance):
+    """The published iteration, judged after each step.
+
+    Gives back steps taken, weights, point, squared distance, duality gap
+    and verdict; all but the first and last are fractions.
+    """
+    point = [Fraction(value) for value in rows[0]]
+    weights = [Fraction(0)] * len(rows)
+    weights[0] = Fraction(1)
+    _, _, vertex = measure(point, rows, target)
+    k = 0
+    while True:
+        gamma = Fraction(2, k + 2)
+        rest = 1 - gamma
+        point = [rest * x + gamma * s for x, s in zip(point, rows[vertex])]
+        # Multiplying a weight of 0 is left out; it stays 0.
+        weights = [rest * w if w else w for w in weights]
+        weights[vertex] += gamma
+        k += 1
+        squared_distance, duality_gap, vertex = measure(point, rows, target)
+        verdict = judge(squared_distance, duality_gap, tolerance, k, steps)
+        if verdict:
+            return k, weights, point, squared_distance, duality_gap, verdict
+
+
+def whole(value):
+    """The whole number a fraction is equal to; an error if there is none."""
+    if value.denominator != 1:
+        raise ArithmeticError("not a whole number: %s" % value)
+    return value.numerator
+
+
+def total_of_steps(t):
+    """W after t steps."""
+    return t * (t + 1) // 2
+
+
+def answer_of(t, squared_distance, duality_gap, verdict, tolerance):
+    """The answer in whole numbers from the fractions after t steps."""
+    w = total_of_steps(t)
+    distance = whole(squared_distance * w * w)
+    gap = whole(duality_gap * w * w)
+    carried = None
+    if verdict == BEYOND:
+        carried = distance - 2 * gap
+    elif verdict == SPENT:
+        carried = distance - tolerance * w * w
+    return Answer(t, w, distance, gap, verdict, carried)
+
+
+def run(rows, target, steps, tolerance):
+    """Answer and shares of one search."""
+    t, weights, _, squared_distance, duality_gap, verdict = frank_wolfe(
+        rows, target, steps, tolerance)
+    answer = answer_of(t, squared_distance, duality_gap, verdict, tolerance)
+    return answer, [whole(weight * answer.weight) for weight in weights]
+
+
+# ---------------------------------------------------------------- the calls
+
+
+def search(book: bytes, sheet: bytes, slots: list[int]):
+    """Refusal, answer (None if refused) and the share list afterwards."""
+    refusal = files_refusal(book, sheet)
+    if refusal:
+        return refusal, None, list(slots)
+    rows = read_book(book)
+    if len(slots) < len(rows):
+        return 21, None, list(slots)
+    answer, shares = run(rows, *read_sheet(sheet))
+    return 0, answer, shares + list(slots[len(rows):])
+
+
+def write_card(book: bytes, sheet: bytes, buffer: bytes):
+    """Refusal, answer, number of bytes written and the buffer afterwards."""
+    refusal = files_refusal(book, sheet)
+    if refusal:
+        return refusal, None, 0, bytes(buffer)
+    rows = read_book(book)
+    target, steps, tolerance = read_sheet(sheet)
+    answer, shares = run(rows, target, steps, tolerance)
+    card = card_bytes(answer, shares, tolerance, len(rows), len(target))
+    if len(buffer) < len(card):
+        return 22, None, 0, bytes(buffer)
+    return 0, answer, len(card), card + bytes(buffer[len(card):])
+
+
+def check_card(book: bytes, sheet: bytes, card: bytes, slots: list[int]):
+    """Refusal, the card's answer and the share list afterwards.
+
+    The point is formed anew from the card's shares; no search is made.
+    """
+    refusal = files_refusal(book, sheet)
+    if refusal:
+        return refusal, None, list(slots)
+    rows = read_book(book)
+    target, steps, tolerance = read_sheet(sheet)
+    if len(slots) < len(rows):
+        return 21, None, list(slots)
+    refusal, answer, shares = judge_card(rows, target, steps, tolerance, card)
+    if refusal:
+        return refusal, None, list(slots)
+    return 0, answer, shares + list(slots[len(rows):])
+
+
+def judge_card(rows, target, steps, tolerance, card):
+    """Checks 31 to 39: refusal, answer and shares of a card."""
+    if len(card) < CARD_TRAILER.size or len(card) > MOST_BYTES:
+        return 31, None, None
+    fields, before = split(card, CARD_TRAILER)
+    back, verdict, t, own_tolerance, distance, gap, boats, columns, letters = fields
+    if letters != b"WCD1":
+        return 32, None, None
+    if boats != len(rows) or columns != len(target):
+        return 33, None, None
+    if verdict not in VERDICT_NAMES or t < 1 or t > steps:
+        return 34, None, None
+    if back == 0 or back % 4 or back > 4 * boats or back > len(before):
+        return 35, None, None
+    entries = list(struct.iter_unpack("<HH", before[len(before) - back:]))
+    last = -1
+    for boat, share in entries:
+        if boat <= last or boat >= boats or share == 0:
+            return 36, None, None
+        last = boat
+    w = total_of_steps(t)
+    if len(entries) > t or sum(share for _, share in entries) != w:
+        return 37, None, None
+    # The point is the mean of the rows with the weights share / W.
+    point = [Fraction(0)] * columns
+    for boat, share in entries:
+        weight = Fraction(share, w)
+        point = [x + weight * value for x, value in zip(point, rows[boat])]
+    squared_distance, duality_gap, _ = measure(point, rows, target)
+    # 0 where no verdict is due yet; it then differs from every card's verdict.
+    true_verdict = judge(squared_distance, duality_gap, tolerance, t, steps)
+    if (squared_distance * w * w != distance or duality_gap * w * w != gap
+            or true_verdict != verdict):
+        return 38, None, None
+    if own_tolerance != tolerance:
+        return 39, None, None
+    shares = [0] * boats
+    for boat, share in entries:
+        shares[boat] = share
+    return 0, answer_of(t, squared_distance, duality_gap, verdict, tolerance), shares
+
+
+def card_bytes(answer: Answer, shares: list[int], tolerance: int,
+               boats: int, columns: int) -> bytes:
+    """The card of an answer, without front text."""
+    entries = [(boat, share) for boat, share in enumerate(shares[:boats]) if share]
+    return make_card(entries, answer.verdict, answer.steps, tolerance,
+                     answer.distance, answer.gap, boats, columns)
+
+
+# -------------------------------------------------------------- the listing
+
+
+def listing_lines(rows, steps, tolerance, answer, shares):
+    """The listing of an answer as bytes."""
+    lines = [
+        "fleet %d %d" % (len(rows), len(rows[0])),
+        "sheet %d %d" % (tolerance, steps),
+        "%s %d %d" % (VERDICT_NAMES[answer.verdict], answer.steps, answer.weight),
+        "distance %d" % answer.distance,
+        "gap %d" % answer.gap,
+    ]
+    for boat in range(len(rows)):
+        if shares[boat]:
+            lines.append("boat %d %d" % (boat, shares[boat]))
+    return "".join(line + "\n" for line in lines).encode("ascii")
+
+
+def refused(refusal):
+    """The listing of a refusal."""
+    return b"refused %d\n" % refusal
+
+
+def listing(book: bytes, sheet: bytes) -> bytes:
+    """The listing of a search, or the one line of its refusal."""
+    refusal, answer, shares = search(book, sheet, [0] * MOST_BOATS)
+    if refusal:
+        return refused(refusal)
+    _, steps, tolerance = read_sheet(sheet)
+    return listing_lines(read_book(book), steps, tolerance, answer, shares)
+
+
+def card_listing(book: bytes, sheet: bytes, card: bytes) -> bytes:
+    """The listing of a card's answer, or the one line of its refusal."""
+    refusal, answer, shares = check_card(book, sheet, card, [0] * MOST_BOATS)
+    if refusal:
+        return refused(refusal)
+    _, steps, tolerance = read_sheet(sheet)
+    return listing_lines(read_book(book), steps, tolerance, answer, shares)
+
+
+# ------------------------------------------------------- builders for tests
+#
+# Fields left at None follow from the body; any field may be given another
+# content to make a faulty file.  Nothing here is checked.
+
+
+def make_book(rows, front: bytes = b"", back=None, boats=None, columns=None,
+              letters: bytes = b"WBK1") -> bytes:
+    """A fleet book of the given rows."""
+    body = b"".join(struct.pack("<h", value) for row in rows for value in row)
+    return front + body + BOOK_TRAILER.pack(
+        len(body) if back is None else back,
+        len(rows) if boats is None else boats,
+        (len(rows[0]) if rows else 0) if columns is None else columns,
+        letters)
+
+
+def make_sheet(target, steps: int, tolerance: int, front: bytes = b"", back=None,
+               columns=None, letters: bytes = b"WSH1") -> bytes:
+    """A sheet of the given target, steps and tolerance."""
+    body = b"".join(struct.pack("<h", value) for value in target)
+    return front + body + SHEET_TRAILER.pack(
+        len(body) if back is None else back,
+        len(target) if columns is None else columns,
+        steps, tolerance, letters)
+
+
+def make_card(entries, verdict: int, steps: int, tolerance: int, distance: int,
+              gap: int, boats: int, columns: int, front: bytes = b"", back=None,
+              letters: bytes = b"WCD1") -> bytes:
+    """A card; entries are the pairs (boat, share) of its body."""
+    body = b"".join(struct.pack("<HH", boat, share) for boat, share in entries)
+    return front + body + CARD_TRAILER.pack(
+        len(body) if back is None else back,
+        verdict, steps, tolerance, distance, gap, boats, columns, letters)
+
+
+# ------------------------------------------------------------ from a shell
+
+
+def read_file(path):
+    """The bytes of a file; none if it can't be opened."""
+    try:
+        with open(path, "rb") as file:
+            return file.read()
+    except OSError:
+        return b""
+
+
+def main(arguments):
+    if len(arguments) != 2:
+        sys.stderr.write("use: python3 tests/exact.py FLEET SHEET\n")
+        return 2
+    sys.stdout.buffer.write(listing(read_file(arguments[0]), read_file(arguments[1])))
+    return 0
+
+
+if __name__ == "__main__":
+    sys.exit(main(sys.argv[1:]))

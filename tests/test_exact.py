@@ -1,0 +1,576 @@
+#!/usr/bin/env python3
+"""Checks of the reference implementation tests/exact.py.
+
+Run as  python3 tests/test_exact.py .  The expected numbers are written by
+hand here.  It ends with one line that gives the number of checks and exit
+code 0, or prints what differs and ends with exit code 1.
+"""
+
+import os
+import random
+import subprocess
+import sys
+import tempfile
+from fractions import Fraction
+
+HERE = os.path.dirname(os.path.abspath(__file__))
+sys.path.insert(0, HERE)
+
+import exact  # noqa: E402
+from exact import make_book, make_card, make_sheet  # noqa: E402
+
+checks = 0
+differences = 0
+
+
+def agree(label, got, wanted):
+    """Count one check; print it if the two differ."""
+    global checks, differences
+    checks += 1
+    if got != wanted:
+        differences += 1
+        print("%s:\n  got    %r\n  wanted %r" % (label, got, wanted))
+
+
+P = [(0, 0), (4, 0), (0, 4)]
+LINE = [(-2000,), (2000,)]
+
+# name, rows, target, tolerance, steps, verdict, t, shares, E, G, carried
+MARKED = [
+    ("a", P, (1, 1), 1, 9, 1, 3, [3, 1, 2], 8, 56, None),
+    ("b", P, (1, 1), 1, 3, 1, 3, [3, 1, 2], 8, 56, None),
+    ("c", P, (1, 1), 1, 2, 3, 2, [0, 1, 2], 26, 44, 17),
+    ("d", P, (5, 5), 1, 9, 2, 2, [0, 1, 2], 170, 32, 106),
+    ("e", [(0, 0)], (3, 4), 25, 1, 1, 1, [1], 25, 0, None),
+    ("f", [(0, 0)], (3, 4), 24, 1, 2, 1, [1], 25, 0, 25),
+    ("g", [(0, 0), (0, 0)], (0, 0), 0, 1, 1, 1, [1, 0], 0, 0, None),
+    ("h", LINE, (2000,), 0, 1, 1, 1, [0, 1], 0, 0, None),
+    ("i", LINE, (0,), 0, 2, 3, 2, [2, 1], 4000000, 16000000, 4000000),
+]
+
+LISTING_A = (b"fleet 3 2\n"
+             b"sheet 1 9\n"
+             b"within 3 6\n"
+             b"distance 8\n"
+             b"gap 56\n"
+             b"boat 0 3\n"
+             b"boat 1 1\n"
+             b"boat 2 2\n")
+
+# The card of case a, byte for byte.
+CARD_A = bytes.fromhex(
+    "0000 0300  0100 0100  0200 0200"      # boats 0, 1, 2 with shares 3, 1, 2
+    "0c000000 0100 0300 01000000"          # back, verdict, steps used, tolerance
+    "0800000000000000 3800000000000000"    # E, G
+    "0300 0200 57434431".replace(" ", ""))  # boats, columns, WCD1
+
+BOOK_A = make_book(P)
+SHEET_A = make_sheet((1, 1), 9, 1)
+
+
+def marked_sheets():
+    """The nine accepted marked sheets through every call, and the refused one."""
+    for name, rows, target, tolerance, steps, verdict, t, shares, e, g, carried in MARKED:
+        book, sheet = make_book(rows), make_sheet(target, steps, tolerance)
+        wanted = exact.Answer(t, t * (t + 1) // 2, e, g, verdict, carried)
+        agree("case %s files" % name, exact.files_refusal(book, sheet), 0)
+        agree("case %s search" % name, exact.search(book, sheet, [7] * (len(rows) + 2)),
+              (0, wanted, shares + [7, 7]))
+        refusal, answer, size, buffer = exact.write_card(book, sheet, b"\xaa" * 60)
+        agree("case %s writer" % name, (refusal, answer), (0, wanted))
+        agree("case %s card size" % name, size, 36 + 4 * sum(1 for s in shares if s))
+        agree("case %s bytes past the card" % name, buffer[size:], b"\xaa" * (60 - size))
+        card = buffer[:size]
+        agree("case %s card" % name, card, make_card(
+            [(boat, s) for boat, s in enumerate(shares) if s], verdict, t, tolerance,
+            e, g, len(rows), len(target)))
+        for front in (b"", b"front text", b"WCD1" * 20):
+            agree("case %s check" % name,
+                  exact.check_card(book, sheet, front + card, [9] * (len(rows) + 1)),
+                  (0, wanted, shares + [9]))
+        agree("case %s listings" % name, exact.card_listing(book, sheet, card),
+              exact.listing(book, sheet))
+    agree("case a listing", exact.listing(BOOK_A, SHEET_A), LISTING_A)
+    agree("case a card bytes", exact.write_card(BOOK_A, SHEET_A, bytes(48))[3], CARD_A)
+    agree("case d listing", exact.listing(make_book(P), make_sheet((5, 5), 9, 1)),
+          b"fleet 3 2\nsheet 1 9\nbeyond 2 3\ndistance 170\ngap 32\nboat 1 1\nboat 2 2\n")
+    agree("case i listing", exact.listing(make_book(LINE), make_sheet((0,), 2, 0)),
+          b"fleet 2 1\nsheet 0 2\nspent 2 3\ndistance 4000000\ngap 16000000\n"
+          b"boat 0 2\nboat 1 1\n")
+    agree("case j", exact.listing(BOOK_A, make_sheet((1, 1), 0, 1)), b"refused 14\n")
+
+
+def readers():
+    """The readers give back what the builders were given; front text is not read."""
+    book = make_book([(-2000, 2000, -1), (0, 1, 258)])
+    agree("book bytes", book, bytes.fromhex("30f8d007ffff000001000201"
+                                            "0c000000" "0200" "0300") + b"WBK1")
+    agree("book rows", exact.read_book(book), [[-2000, 2000, -1], [0, 1, 258]])
+    sheet = make_sheet((-3, 4, 5), 360, 1024000000)
+    agree("sheet bytes", sheet, bytes.fromhex("fdff04000500" "06000000" "0300" "6801"
+                                              "0000093d") + b"WSH1")
+    agree("sheet fields", exact.read_sheet(sheet), ([-3, 4, 5], 360, 1024000000))
+    for front in (b"x", b"\xff" * 31, book, sheet):
+        agree("book front text", exact.read_book(front + book), exact.read_book(book))
+        agree("sheet front text", exact.read_sheet(front + sheet), exact.read_sheet(sheet))
+        agree("listing front text", exact.listing(front + BOOK_A, front + SHEET_A), LISTING_A)
+
+
+def book_and_sheet_refusals():
+    """Each refusal of a book or a sheet beside its nearest neighbours."""
+    full = 40000 - len(BOOK_A)
+    cut = make_book(P)[1:]          # the body lacks its first byte
+    zeros = [(0,) * 64]
+    books = [
+        ("empty", b"", 1),
+        ("11 bytes", BOOK_A[-11:], 1),
+        ("12 bytes, no body", BOOK_A[-12:], 5),
+        ("12 bytes of zeros", bytes(12), 2),
+        ("smallest", make_book([(5,)]), 0),
+        ("smallest less its first byte", make_book([(5,)])[1:], 5),
+        ("40,000 bytes", make_book(P, front=b"f" * full), 0),
+        ("40,001 bytes", make_book(P, front=b"f" * (full + 1)), 1),
+        ("letters", make_book(P, letters=b"WBK2"), 2),
+        ("small letters", make_book(P, letters=b"wbk1"), 2),
+        ("a sheet's letters", make_book(P, letters=b"WSH1"), 2),
+        ("0 boats", make_book([], columns=2), 3),
+        ("1 boat", make_book([(1, 2)]), 0),
+        ("256 boats", make_book([(1,)] * 256), 0),
+        ("257 boats", make_book([(1,)] * 257), 3),
+        ("65,535 boats", make_book(P, boats=65535), 3),
+        ("0 columns", make_book([(), ()]), 4),
+        ("1 column", make_book([(1,), (2,)]), 0),
+        ("64 columns", make_book(zeros * 2), 0),
+        ("65 columns", make_book([(0,) * 65]), 4),
+        ("256 boats of 64 columns", make_book(zeros * 256), 0),
+        ("back 0", make_book(P, back=0), 5),
+        ("back one less", make_book(P, back=11), 5),
+        ("back one more", make_book(P, front=b"x", back=13), 5),
+        ("back a row less", make_book(P, back=8), 5),
+        ("back greatest", make_book(P, back=0xFFFFFFFF), 5),
+        ("back before the first byte", cut, 5),
+        ("one byte of front text", b"x" + cut, 0),
+        ("more boats than rows", make_book(P, boats=4), 5),
+        ("more boats, back to match", make_book(P, boats=4, back=16), 5),
+        ("value 2,000", make_book([(2000, -2000)]), 0),
+        ("first value 2,001", make_book([(2001, 0)]), 6),
+        ("last value 2,001", make_book(P[:2] + [(0, 2001)]), 6),
+        ("value -2,001", make_book([(0, -2001)]), 6),
+        ("value 32,767", make_book([(0, 32767)]), 6),
+        ("value -32,768", make_book([(0, -32768)]), 6),
+        ("value out of range in front text", make_book([(0, 0)], front=b"\xff\x7f" * 4), 0),
+    ]
+    for label, book, wanted in books:
+        agree("book, " + label, exact.book_refusal(book), wanted)
+        if wanted:
+            agree("listing, book, " + label, exact.listing(book, SHEET_A),
+                  b"refused %d\n" % wanted)
+
+    full = 40000 - len(SHEET_A)
+    sheets = [
+        ("empty", b"", 2, 11),
+        ("15 bytes", SHEET_A[-15:], 2, 11),
+        ("16 bytes, no body", SHEET_A[-16:], 2, 16),
+        ("16 bytes of zeros", bytes(16), 2, 12),
+        ("smallest", make_sheet((1,), 1, 0), 1, 0),
+        ("40,000 bytes", make_sheet((1, 1), 9, 1, front=b"f" * full), 2, 0),
+        ("40,001 bytes", make_sheet((1, 1), 9, 1, front=b"f" * (full + 1)), 2, 11),
+        ("letters", make_sheet((1, 1), 9, 1, letters=b"WSH2"), 2, 12),
+        ("a book's letters", make_sheet((1, 1), 9, 1, letters=b"WBK1"), 2, 12),
+        ("one column less", make_sheet((1,), 9, 1), 2, 13),
+        ("one column more", make_sheet((1, 1, 1), 9, 1), 2, 13),
+        ("same columns", make_sheet((1, 1, 1), 9, 1), 3, 0),
+        ("64 columns", make_sheet((0,) * 64, 9, 1), 64, 0),
+        ("0 steps", make_sheet((1, 1), 0, 1), 2, 14),
+        ("1 step", make_sheet((1, 1), 1, 1), 2, 0),
+        ("360 steps", make_sheet((1, 1), 360, 1), 2, 0),
+        ("361 steps", make_sheet((1, 1), 361, 1), 2, 14),
+        ("65,535 steps", make_sheet((1, 1), 65535, 1), 2, 14),
+        ("tolerance 0", make_sheet((1, 1), 9, 0), 2, 0),
+        ("greatest tolerance", make_sheet((1, 1), 9, 1024000000), 2, 0),
+        ("tolerance one more", make_sheet((1, 1), 9, 1024000001), 2, 15),
+        ("tolerance of all bits", make_sheet((1, 1), 9, 0xFFFFFFFF), 2, 15),
+        ("back 0", make_sheet((1, 1), 9, 1, back=0), 2, 16),
+        ("back one less", make_sheet((1, 1), 9, 1, back=3), 2, 16),
+        ("back one more", make_sheet((1, 1), 9, 1, front=b"x", back=5), 2, 16),
+        ("back greatest", make_sheet((1, 1), 9, 1, back=0xFFFFFFFF), 2, 16),
+        ("back before the first byte", SHEET_A[1:], 2, 16),
+        ("one byte of front text", b"x" + SHEET_A, 2, 0),
+        ("value 2,000", make_sheet((2000, -2000), 9, 1), 2, 0),
+        ("value 2,001", make_sheet((2001, 0), 9, 1), 2, 17),
+        ("last value 2,001", make_sheet((0, 2001), 9, 1), 2, 17),
+        ("value -2,001", make_sheet((0, -2001), 9, 1), 2, 17),
+        ("value out of range in front text",
+         make_sheet((0, 0), 9, 1, front=b"\xff\x7f" * 4), 2, 0),
+    ]
+    for label, sheet, columns, wanted in sheets:
+        agree("sheet, " + label, exact.sheet_refusal(sheet, columns), wanted)
+        if wanted and columns == 2:
+            agree("listing, sheet, " + label, exact.listing(BOOK_A, sheet),
+                  b"refused %d\n" % wanted)
+
+
+def lent_lists():
+    """Refusals 21 and 22; lent lists and buffers that must stay as they were."""
+    slots = [5, 6]
+    agree("2 slots", exact.search(BOOK_A, SHEET_A, slots), (21, None, [5, 6]))
+    agree("no slots", exact.search(BOOK_A, SHEET_A, []), (21, None, []))
+    agree("3 slots", exact.search(BOOK_A, SHEET_A, [5, 6, 7])[::2], (0, [3, 1, 2]))
+    agree("5 slots", exact.search(BOOK_A, SHEET_A, [5, 6, 7, 8, 9])[::2],
+          (0, [3, 1, 2, 8, 9]))
+    agree("the given list itself", slots, [5, 6])
+    agree("refused search keeps its slots",
+          exact.search(BOOK_A, make_sheet((1, 1), 0, 1), [5, 6, 7]), (14, None, [5, 6, 7]))
+    agree("check with 2 slots", exact.check_card(BOOK_A, SHEET_A, CARD_A, [5, 6]),
+          (21, None, [5, 6]))
+    agree("buffer of 47", exact.write_card(BOOK_A, SHEET_A, b"b" * 47),
+          (22, None, 0, b"b" * 47))
+    agree("empty buffer", exact.write_card(BOOK_A, SHEET_A, b""), (22, None, 0, b""))
+    agree("buffer of 48", exact.write_card(BOOK_A, SHEET_A, b"b" * 48)[2:], (48, CARD_A))
+    agree("buffer of 50", exact.write_card(BOOK_A, SHEET_A, b"b" * 50)[2:],
+          (48, CARD_A + b"bb"))
+    agree("refused writer keeps its buffer",
+          exact.write_card(b"", SHEET_A, b"b" * 50), (1, None, 0, b"b" * 50))
+
+
+# The fields of the true card of case a, for the faulty ones.
+FIELDS_A = dict(entries=[(0, 3), (1, 1), (2, 2)], verdict=1, steps=3, tolerance=1,
+                distance=8, gap=56, boats=3, columns=2)
+
+
+def near_card(**changes):
+    """The card of case a with some fields changed."""
+    fields = dict(FIELDS_A)
+    fields.update(changes)
+    return make_card(**fields)
+
+
+def card_refusals():
+    """Each refusal of a card beside its nearest neighbours."""
+    full = 40000 - len(CARD_A)
+    cards = [
+        ("true", near_card(), 0),
+        ("empty", b"", 31),
+        ("35 bytes", CARD_A[-35:], 31),
+        ("36 bytes, no body", CARD_A[-36:], 35),
+        ("36 bytes of zeros", bytes(36), 32),
+        ("40,000 bytes", near_card(front=b"f" * full), 0),
+        ("40,001 bytes", near_card(front=b"f" * (full + 1)), 31),
+        ("letters", near_card(letters=b"WCD2"), 32),
+        ("one boat more", near_card(boats=4), 33),
+        ("one boat less", near_card(boats=2), 33),
+        ("one column more", near_card(columns=3), 33),
+        ("one column less", near_card(columns=1), 33),
+        ("verdict 0", near_card(verdict=0), 34),
+        ("verdict 4", near_card(verdict=4), 34),
+        ("steps used 0", near_card(steps=0), 34),
+        ("steps used 10 of 9", near_card(steps=10), 34),
+        ("steps used 9 of 9", near_card(steps=9), 37),
+        ("back 0", near_card(back=0), 35),
+        ("back 11", near_card(back=11), 35),
+        ("back 13", near_card(front=b"xxxx", back=13), 35),
+        ("back 16, above 4 * boats", near_card(front=b"xxxx", back=16), 35),
+        ("back greatest multiple of 4", near_card(back=0xFFFFFFFC), 35),
+        ("back before the first byte", CARD_A[1:], 35),
+        ("one byte of front text", b"x" + CARD_A, 0),
+        ("back 8, an entry less", near_card(back=8), 37),
+        ("boats in another order", near_card(entries=[(0, 3), (2, 2), (1, 1)]), 36),
+        ("a boat twice", near_card(entries=[(0, 3), (1, 1), (1, 2)]), 36),
+        ("boat 3 of 3", near_card(entries=[(0, 3), (1, 1), (3, 2)]), 36),
+        ("boat 65,535", near_card(entries=[(0, 3), (1, 1), (65535, 2)]), 36),
+        ("a share of 0", near_card(entries=[(0, 4), (1, 0), (2, 2)]), 36),
+        ("total one more", near_card(entries=[(0, 4), (1, 1), (2, 2)]), 37),
+        ("total one less", near_card(entries=[(0, 3), (1, 1), (2, 1)]), 37),
+        ("total right by 16 bits", near_card(entries=[(0, 3), (1, 65535), (2, 4)]), 37),
+        ("shares exchanged", near_card(entries=[(0, 1), (1, 3), (2, 2)]), 38),
+        # Shares 3 2 1 also give E = 8 and G = 56: true, though no search ends there.
+        ("boats 1 and 2 exchanged", near_card(entries=[(0, 3), (1, 2), (2, 1)]), 0),
+        # Three boats in two steps with the right total of 3; E is 2 and G is 8 there.
+        ("more boats than steps used",
+         near_card(entries=[(0, 1), (1, 1), (2, 1)], steps=2, distance=2, gap=8), 37),
+        ("the same shares doubled in three steps",
+         near_card(entries=[(0, 2), (1, 2), (2, 2)], steps=3, distance=8, gap=32), 0),
+        ("E one more", near_card(distance=9), 38),
+        ("E one less", near_card(distance=7), 38),
+        ("G one more", near_card(gap=57), 38),
+        ("G one less", near_card(gap=55), 38),
+        ("G of all bits", near_card(gap=0xFFFFFFFFFFFFFFFF), 38),
+        ("Beyond for Within", near_card(verdict=2), 38),
+        ("Spent for Within", near_card(verdict=3), 38),
+        ("tolerance 0", near_card(tolerance=0), 39),
+        ("tolerance 2", near_card(tolerance=2), 39),
+        ("tolerance above every limit", near_card(tolerance=0xFFFFFFFF), 39),
+    ]
+    for label, card, wanted in cards:
+        refusal, answer, slots = exact.check_card(BOOK_A, SHEET_A, card, [4] * 5)
+        agree("card, " + label, refusal, wanted)
+        if wanted:
+            agree("card, %s, nothing given back" % label, (answer, slots), (None, [4] * 5))
+            agree("card, %s, listing" % label, exact.card_listing(BOOK_A, SHEET_A, card),
+                  b"refused %d\n" % wanted)
+        else:
+            agree("card, %s, later slots" % label, slots[3:], [4, 4])
+
+    # The verdict is judged at the sheet's tolerance and the sheet's steps.
+    spent = make_card([(1, 1), (2, 2)], 3, 2, 1, 26, 44, 3, 2)
+    for steps, wanted in ((1, 34), (2, 0), (3, 38)):
+        agree("Spent 2 under %d steps" % steps,
+              exact.check_card(BOOK_A, make_sheet((1, 1), steps, 1), spent, [0] * 3)[0], wanted)
+    # E = 26 and W^2 = 9: above 2 * 9, so Spent is true; not above 3 * 9.
+    agree("Spent where Within is due",
+          exact.check_card(BOOK_A, make_sheet((1, 1), 2, 3), spent, [0] * 3)[0], 38)
+    agree("Spent, other tolerance",
+          exact.check_card(BOOK_A, make_sheet((1, 1), 2, 2), spent, [0] * 3)[0], 39)
+    agree("Within at a lower tolerance of the sheet",
+          exact.check_card(BOOK_A, make_sheet((1, 1), 9, 0), CARD_A, [0] * 3)[0], 38)
+    # E = 8 and W^2 = 36, so Within is true from a tolerance of 1 upwards.
+    agree("Within at a higher tolerance of the sheet",
+          exact.check_card(BOOK_A, make_sheet((1, 1), 9, 2), CARD_A, [0] * 3)[0], 39)
+    beyond = make_card([(1, 1), (2, 2)], 2, 2, 1, 170, 32, 3, 2)
+    # The floor is 106 and W^2 is 9: beyond 11 * 9 = 99, not beyond 12 * 9 = 108.
+    for tolerance, wanted in ((1, 0), (11, 39), (12, 38)):
+        agree("Beyond at tolerance %d" % tolerance,
+              exact.check_card(BOOK_A, make_sheet((5, 5), 9, tolerance), beyond, [0] * 3)[0],
+              wanted)
+    # Beyond comes before Spent at the last step.
+    agree("Spent where Beyond is due",
+          exact.check_card(BOOK_A, make_sheet((5, 5), 2, 1),
+                           make_card([(1, 1), (2, 2)], 3, 2, 1, 170, 32, 3, 2), [0] * 3)[0], 38)
+    # E equal to the tolerance is Within; a floor equal to it is not Beyond.
+    one, point = make_book([(0, 0)]), (3, 4)
+    for tolerance, verdict in ((24, 2), (25, 1), (26, 1)):
+        agree("one boat at tolerance %d" % tolerance,
+              exact.search(one, make_sheet(point, 5, tolerance), [0])[1].verdict, verdict)
+    # Step 1 picks (4, 0); r = (-5, -9), E = 106, G = 16 and the floor is 74.
+    for tolerance, verdict, carried in ((73, 2, 74), (74, 3, 32)):
+        agree("floor 74 at tolerance %d" % tolerance,
+              exact.search(BOOK_A, make_sheet((9, 9), 1, tolerance), [0] * 3),
+              (0, exact.Answer(1, 1, 106, 16, verdict, carried), [0, 1, 0]))
+
+
+def two_faults():
+    """With two faults the lower number is given back, whatever the pair."""
+    long_front = b"f" * 40000
+    book_faults = {
+        1: dict(front=long_front), 2: dict(letters=b"XXXX"), 3: dict(boats=0),
+        4: dict(columns=65), 5: dict(back=1), 6: dict(rows=[(0, 0), (4, 0), (0, -2001)])}
+    sheet_faults = {
+        11: dict(front=long_front), 12: dict(letters=b"XXXX"), 13: dict(columns=3),
+        14: dict(steps=361), 15: dict(tolerance=1024000001), 16: dict(back=6),
+        17: dict(target=(1, 2001))}
+    card_faults = {
+        31: dict(front=long_front), 32: dict(letters=b"XXXX"), 33: dict(boats=4),
+        34: dict(verdict=7), 35: dict(back=6), 36: dict(entries=[(0, 3), (1, 1), (9, 2)]),
+        38: dict(distance=9), 39: dict(tolerance=2)}
+
+    def build(faults):
+        book, sheet, card = dict(rows=P), dict(target=(1, 1), steps=9, tolerance=1), {}
+        slots = 3
+        for fault in faults:
+            if fault == 21:
+                slots = 2
+            elif fault == 37:
+                # Added to the entries there are, so that it joins with fault 36.
+                entries = list(card.get("entries", FIELDS_A["entries"]))
+                entries[0] = (0, 30)
+                card["entries"] = entries
+            else:
+                book.update(book_faults.get(fault, {}))
+                sheet.update(sheet_faults.get(fault, {}))
+                card.update(card_faults.get(fault, {}))
+        return make_book(**book), make_sheet(**sheet), near_card(**card), [8] * slots
+
+    numbers = sorted(list(book_faults) + list(sheet_faults) + [21, 37] + list(card_faults))
+    for i, low in enumerate(numbers):
+        for high in numbers[i:]:
+            book, sheet, card, slots = build(sorted({low, high}))
+            agree("check, faults %d and %d" % (low, high),
+                  exact.check_card(book, sheet, card, slots), (low, None, slots))
+            if low <= 21:
+                agree("search, faults %d and %d" % (low, high),
+                      exact.search(book, sheet, slots), (low, None, slots))
+            if low <= 17:
+                agree("writer, faults %d and %d" % (low, high),
+                      exact.write_card(book, sheet, b""), (low, None, 0, b""))
+
+
+def plain_measure(rows, shares, target):
+    """Squared distance and duality gap straight from their definitions."""
+    total = sum(shares)
+    x = [sum(Fraction(s, total) * row[j] for s, row in zip(shares, rows))
+         for j in range(len(target))]
+    slope = [a - u for a, u in zip(x, target)]
+    distance = sum(a * a for a in slope)
+    gap = max(sum(a * (b - v) for a, b, v in zip(slope, x, row)) for row in rows)
+    return distance, gap
+
+
+def random_books():
+    """Runs on random books against properties every run must have."""
+    draw = random.Random(20240611)
+    verdicts = {1: 0, 2: 0, 3: 0}
+    for number in range(150):
+        boats, columns = draw.randint(1, 8), draw.randint(1, 5)
+        reach = draw.choice((2, 10, 2000))
+        rows = [[draw.randint(-reach, reach) for _ in range(columns)] for _ in range(boats)]
+        target = [draw.randint(-reach, reach) for _ in range(columns)]
+        if draw.random() < 0.5:
+            # A target among the rows, so that not every one is beyond.
+            target = [sum(column) // boats for column in zip(*rows)]
+        steps, tolerance = draw.randint(1, 20), draw.choice((0, 1, reach, reach * reach // 4))
+        label = "random book %d" % number
+        t, weights, point, distance, gap, verdict = exact.frank_wolfe(
+            rows, target, steps, tolerance)
+        answer, shares = exact.run(rows, target, steps, tolerance)
+        verdicts[verdict] += 1
+        agree(label + ", weights total 1", sum(weights), 1)
+        agree(label + ", point of the weights", point,
+              [sum(w * row[j] for w, row in zip(weights, rows)) for j in range(columns)])
+        agree(label + ", shares total W", sum(shares), answer.weight)
+        agree(label + ", distance and gap", (distance, gap), plain_measure(rows, shares, target))
+        agree(label + ", gap not negative", gap >= 0, True)
+        square = answer.weight ** 2
+        agree(label + ", E and G", (Fraction(answer.distance, square),
+                                    Fraction(answer.gap, square)), (distance, gap))
+        # The squared distance is above that of any mixture by at most
+        # 4 D^2 / (t + 2), and by at most twice the gap.
+        spread = max(sum((a - b) ** 2 for a, b in zip(v, w)) for v in rows for w in rows)
+        others = [[int(i == j) for i in range(boats)] for j in range(boats)]
+        others.append([draw.randint(1, 9) for _ in range(boats)])
+        best = min(plain_measure(rows, other, target)[0] for other in others)
+        agree(label + ", bound", distance - best <= Fraction(4 * spread, t + 2), True)
+        agree(label + ", gap bound", distance - best <= 2 * gap, True)
+        # One step less ends as Spent, and the last step gave its t shares to one boat.
+        if t > 1:
+            before, fewer = exact.run(rows, target, t - 1, tolerance)
+            agree(label + ", one step less", (before.steps, before.verdict), (t - 1, 3))
+            change = sorted(a - b for a, b in zip(shares, fewer))
+            agree(label + ", last step", change, [0] * (boats - 1) + [t])
+        # The card round trip, with and without front text.
+        book, sheet = make_book(rows), make_sheet(target, steps, tolerance)
+        refusal, written, size, buffer = exact.write_card(book, sheet, bytes(100))
+        agree(label + ", writer", (refusal, written), (0, answer))
+        for front in (b"", b"front"):
+            agree(label + ", check", exact.check_card(book, sheet, front + buffer[:size],
+                                                      [0] * boats), (0, answer, shares))
+    agree("every verdict among the random books", min(verdicts.values()) > 5, True)
+
+
+def ties_and_start():
+    """Equal scores take the lowest boat; step 1 starts from boat 0's row."""
+    # At (0, 0) with target (1, 1), boats 1 and 2 have equal scores.
+    agree("tie", exact.run(P, (1, 1), 1, 0)[1], [0, 1, 0])
+    # All rows alike: boat 0 takes every step.
+    agree("all alike", exact.run([(1, 2)] * 4, (1, 2 + 5), 3, 25)[1], [1, 0, 0, 0])
+    # From the row 3 the gradient is 3 - 1 > 0 and boat 1 is picked; from the
+    # zero row it would be 0 - 1 < 0 and boat 0 would be picked.
+    agree("start", exact.run([(3,), (-3,)], (1,), 1, 0)[1], [0, 1])
+
+
+def full_size():
+    """One run of the greatest size, and the greatest whole numbers."""
+    draw = random.Random(5)
+    rows = [[draw.randint(-2000, 2000) for _ in range(64)] for _ in range(256)]
+    book, sheet = make_book(rows), make_sheet([3] * 64, 360, 0)
+    refusal, answer, shares = exact.search(book, sheet, [1] * 257)
+    agree("full size", (refusal, answer.steps, answer.weight, answer.verdict, shares[256]),
+          (0, 360, 64980, 3, 1))
+    square = answer.weight ** 2
+    agree("full size, distance and gap",
+          (Fraction(answer.distance, square), Fraction(answer.gap, square)),
+          plain_measure(rows, shares[:256], [3] * 64))
+    card = exact.card_bytes(answer, shares, 0, 256, 64)
+    agree("full size card", exact.check_card(book, sheet, card, [1] * 257),
+          (0, answer, shares))
+    # Squared distance 64 * 4000^2 = 1,024,000,000: the greatest there is.
+    far, corner = make_book([(2000,) * 64]), (-2000,) * 64
+    agree("greatest tolerance", exact.search(far, make_sheet(corner, 1, 1024000000), [0])[1],
+          exact.Answer(1, 1, 1024000000, 0, 1, None))
+    agree("one less", exact.search(far, make_sheet(corner, 1, 1023999999), [0])[1],
+          exact.Answer(1, 1, 1024000000, 0, 2, 1024000000))
+
+
+def damaged_files():
+    """Random and damaged bytes never raise an error, and the calls agree."""
+    draw = random.Random(77)
+
+    def damaged(file):
+        file = bytearray(file)
+        for _ in range(draw.randint(0, 2)):
+            kind = draw.randrange(4)
+            if kind == 0 and file:
+                content = draw.choice((0, 1, 2, 3, 255, draw.randrange(256)))
+                file[draw.randrange(len(file))] = content
+            elif kind == 1:
+                del file[:draw.randint(0, 3)]
+            elif kind == 2 and draw.random() < 0.2:
+                del file[draw.randint(0, len(file)):]
+            elif kind == 3:
+                file[:0] = bytes(draw.randint(0, 5))
+        if draw.random() < 0.02:
+            return bytes(draw.randrange(256) for _ in range(draw.randint(0, 80)))
+        return bytes(file)
+
+    for _ in range(3000):
+        book, sheet, card = damaged(BOOK_A), damaged(SHEET_A), damaged(CARD_A)
+        slots = [6] * draw.choice((0, 2, 3, 3, 4))
+        try:
+            files = exact.files_refusal(book, sheet)
+            found = exact.search(book, sheet, slots)
+            written = exact.write_card(book, sheet, b"w" * draw.choice((0, 44, 48, 60)))
+            checked = exact.check_card(book, sheet, card, slots)
+            exact.listing(book, sheet)
+            exact.card_listing(book, sheet, card)
+            if files:
+                agree("damaged files", (found[0], written[0], checked[0]), (files,) * 3)
+            for refusal, answer, after in (found, checked):
+                if refusal:
+                    agree("damaged, kept slots", (answer, after), (None, slots))
+                else:
+                    boats = len(exact.read_book(book))
+                    agree("damaged, total of the slots", sum(after[:boats]), answer.weight)
+                    agree("damaged, later slots", after[boats:], slots[boats:])
+        except Exception as error:
+            agree("damaged files raise", (error, book, sheet, card), None)
+
+
+def from_a_shell():
+    """The listing of two files through the command line."""
+    def output(*paths):
+        return subprocess.run([sys.executable, os.path.join(HERE, "exact.py")] + list(paths),
+                              stdout=subprocess.PIPE).stdout
+    with tempfile.TemporaryDirectory() as folder:
+        fleet, sheet = os.path.join(folder, "fleet.wbk"), os.path.join(folder, "sheet.wsh")
+        with open(fleet, "wb") as file:
+            file.write(BOOK_A)
+        agree("no sheet", output(fleet, sheet), b"refused 11\n")
+        with open(sheet, "wb") as file:
+            file.write(SHEET_A)
+        agree("two files", output(fleet, sheet), LISTING_A)
+        agree("no fleet", output(os.path.join(folder, "none"), sheet), b"refused 1\n")
+
+
+def whole_numbers():
+    """A fraction that is no whole number is an error, not a rounding."""
+    agree("whole", exact.whole(Fraction(12, 4)), 3)
+    try:
+        exact.whole(Fraction(1, 2))
+        agree("half", "no error", "an error")
+    except ArithmeticError:
+        agree("half", "an error", "an error")
+
+
+def main():
+    for part in (marked_sheets, readers, book_and_sheet_refusals, lent_lists, card_refusals,
+                 two_faults, ties_and_start, random_books, full_size, damaged_files,
+                 from_a_shell, whole_numbers):
+        part()
+    if differences:
+        print("exact.py: %d of %d checks differ" % (differences, checks))
+        return 1
+    print("exact.py: %d checks agree" % checks)
+    return 0
+
+
+if __name__ == "__main__":
+    sys.exit(main())
