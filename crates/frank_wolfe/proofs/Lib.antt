@@ -1,0 +1,4 @@
+pub mod Scalar
+pub mod Mixtures
+pub mod Theorem
+pub mod Vectors
