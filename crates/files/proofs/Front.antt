@@ -1,0 +1,113 @@
+-- Front text is never read: what stands before a file that holds its whole body changes nothing.
+use mathlib.Core.Path.{_≡_, refl, sym, _∙_}
+use mathlib.Core.Bool.{Bool, true, false, _&&_}
+use mathlib.Core.List.{List, _++_}
+use Prim.Native.Nat.{ℕ, _+_, _*_, _-_, _≤_}
+use native.Mathlib.Omega.{arith}
+use borrow.Author.Tests.{eqb-true, le-leb}
+use lib.Dec.{eqb, leb}
+use lib.ListN.{length, drop, length-append}
+use lib.Seq.{drop-append-add}
+use Rattle.files.specs.Bytes.{number, between, length-in-range, trailer, body, reaches, body-refusal}
+use Rattle.files.specs.Book.{boats, columns, Book-whole, rows, book-refusal}
+use Rattle.files.specs.Sheet.{sheet-columns, Sheet-whole, sheet, sheet-refusal, files-refusal}
+use Rattle.files.specs.Front.{Front-fits, Book-front-unread, Sheet-front-unread, Files-front-unread}
+
+drop-front : (f b : List ℕ) (k m : ℕ) → m ≡ length f + k → drop m (f ++ b) ≡ drop k b
+drop-front f b k m e = rw (e, drop-append-add)
+
+-- ---- a file of any kind, with `f` before it
+module _ (f b : List ℕ) (size : ℕ) (h : size ≤ length b) where
+  length-front : length (f ++ b) - size ≡ length f + (length b - size)
+  length-front = rw length-append (omega arith)
+
+  trailer-front : trailer size (f ++ b) ≡ trailer size b
+  unfolding trailer
+  trailer-front = drop-front f b _ _ length-front
+
+  body-front : (back : ℕ) → back + size ≤ length b → body size back (f ++ b) ≡ body size back b
+  unfolding body
+  body-front back k = rw (drop-front f b (length b - size - back) (length (f ++ b) - size - back) (omega (arith, length-front)))
+
+  place-front : (t : Bool) (back n : ℕ) → eqb back n ≡ t → n + size ≤ length b → t && leb back (length (f ++ b) - size) ≡ t && leb back (length b - size)
+  place-front false back n e k = refl
+  place-front true back n e k =
+      let q : back ≡ n = eqb-true back n e in
+      le-leb back (length (f ++ b) - size) (omega (arith, length-front)) ∙ sym (le-leb back (length b - size) (omega arith))
+
+  body-refusal-front : (count place range : ℕ) → 2 * count + size ≤ length b → body-refusal size count place range (f ++ b) ≡ body-refusal size count place range b
+  unfolding body-refusal reaches
+  body-refusal-front count place range k = simp (trailer-front, body-front (2 * count) k, place-front _ (number 0 4 (trailer size b)) (2 * count) refl k)
+
+  length-in-range-front : Front-fits f b → length-in-range size (f ++ b) ≡ length-in-range size b
+  unfolding length-in-range between
+  length-in-range-front k = simp (length-append, le-leb size (length f + length b) (omega arith), le-leb (length f + length b) 40000 (omega arith), le-leb size (length b) h, le-leb (length b) 40000 (omega arith))
+
+-- ---- a fleet book
+module _ (f b : List ℕ) (w : Book-whole b) where
+  book-trailer : trailer 12 (f ++ b) ≡ trailer 12 b
+  book-trailer = trailer-front f b 12 (omega arith)
+
+  boats-front : boats (f ++ b) ≡ boats b
+  unfolding boats
+  boats-front = rw book-trailer
+
+  columns-front : columns (f ++ b) ≡ columns b
+  unfolding columns
+  columns-front = rw book-trailer
+
+  rows-front : rows (f ++ b) ≡ rows b
+  unfolding rows
+  rows-front = rw (boats-front, columns-front, body-front f b 12 (omega arith) (2 * (boats b * columns b)) w)
+
+  book-refusal-front : Front-fits f b → book-refusal (f ++ b) ≡ book-refusal b
+  unfolding book-refusal
+  book-refusal-front k =
+      rw (length-in-range-front f b 12 (omega arith) k, book-trailer, boats-front, columns-front, body-refusal-front f b 12 (omega arith) (boats b * columns b) 5 6 w)
+
+pub book-front-unread : Book-front-unread
+unfolding Book-front-unread
+book-front-unread f g b w h k = (
+  boats-front f b w ∙ sym (boats-front g b w),
+  columns-front f b w ∙ sym (columns-front g b w),
+  rows-front f b w ∙ sym (rows-front g b w),
+  book-refusal-front f b w h ∙ sym (book-refusal-front g b w k),
+)
+
+-- ---- a sheet
+module _ (f s : List ℕ) (w : Sheet-whole s) where
+  sheet-trailer : trailer 16 (f ++ s) ≡ trailer 16 s
+  sheet-trailer = trailer-front f s 16 (omega arith)
+
+  sheet-columns-front : sheet-columns (f ++ s) ≡ sheet-columns s
+  unfolding sheet-columns
+  sheet-columns-front = rw sheet-trailer
+
+  sheet-front : sheet (f ++ s) ≡ sheet s
+  unfolding sheet
+  sheet-front = rw (sheet-columns-front, sheet-trailer, body-front f s 16 (omega arith) (2 * sheet-columns s) w)
+
+  -- the body counts only where the columns are the book's
+  sheet-refusal-by : (t : Bool) (c : ℕ) → eqb (sheet-columns s) c ≡ t → Front-fits f s → sheet-refusal c (f ++ s) ≡ sheet-refusal c s
+  unfolding sheet-refusal
+  sheet-refusal-by true c e k =
+      let q : sheet-columns s ≡ c = eqb-true _ c e in
+      rw (length-in-range-front f s 16 (omega arith) k, sheet-trailer, sheet-columns-front, sheet-front, body-refusal-front f s 16 (omega arith) c 16 17 (omega arith))
+  sheet-refusal-by false c e k = simp (length-in-range-front f s 16 (omega arith) k, sheet-trailer, sheet-columns-front, e)
+
+  sheet-refusal-front : (c : ℕ) → Front-fits f s → sheet-refusal c (f ++ s) ≡ sheet-refusal c s
+  sheet-refusal-front c k = sheet-refusal-by (eqb (sheet-columns s) c) c refl k
+
+pub sheet-front-unread : Sheet-front-unread
+unfolding Sheet-front-unread
+sheet-front-unread f g s c w h k =
+    (sheet-front f s w ∙ sym (sheet-front g s w), sheet-refusal-front f s w c h ∙ sym (sheet-refusal-front g s w c k))
+
+-- ---- both
+files-refusal-front : (f b h s : List ℕ) → Book-whole b → Front-fits f b → Sheet-whole s → Front-fits h s → files-refusal (f ++ b) (h ++ s) ≡ files-refusal b s
+unfolding files-refusal
+files-refusal-front f b h s w i v j = rw (book-refusal-front f b w i, columns-front f b w, sheet-refusal-front h s v (columns b) j)
+
+pub files-front-unread : Files-front-unread
+unfolding Files-front-unread
+files-front-unread f g b h k s w i i′ v j j′ = files-refusal-front f b h s w i v j ∙ sym (files-refusal-front g b k s w i′ v j′)

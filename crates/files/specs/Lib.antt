@@ -1,0 +1,6 @@
+-- The definitions of this crate, bytes first.
+pub mod Bytes
+pub mod Book
+pub mod Sheet
+pub mod Fits
+pub mod Front
