@@ -2,11 +2,11 @@
 -- sums, multiples and mixtures of lists are those of the theorem. Assumes nothing.
 use mathlib.Core.Path.{_≡_, refl, sym, ap, ap₂, _∙_, subst}
 use mathlib.Core.List.{List, [], _∷_}
-use Prim.Native.Nat.{ℕ, zero, suc, _+_, _*_, _≤_}
+use Prim.Native.Nat.{ℕ, zero, suc, _+_, _*_, _≤_, _<_}
 use native.Mathlib.Omega.{arith}
 use native.Mathlib.Nat.{add-comm}
 use lib.IntN.{ℤ, pos, negsuc, negℤ, natAbs, _+ℤ_, _-ℤ_, _*ℤ_, *ℤ-comm}
-use lib.ListN.{length, replicate, length-replicate}
+use lib.ListN.{length, getD, set, replicate, length-replicate}
 use lib.Signed.{_≤ℤ_}
 use Rattle.integers.proofs.Solver.{Expr, con, _⊕_, _⊗_, ⊖_, _⊝_, x₀, x₁, x₂, x₃, x₄, x₅, x₆, x₇, solve}
 use Rattle.integers.proofs.Facts.{Fact, _≼_, known, nat, square, equation, _⊞_, _⊡_, derive}
@@ -146,6 +146,53 @@ unfolding scale
 length-scale k [] = refl
 length-scale k (a ∷ x) = ap suc (length-scale k x)
 
+-- ---- Sums and multiples, as lists
+
+pub scale-one : (x : List ℤ) → scale 1 x ≡ x
+unfolding scale
+scale-one [] = refl
+scale-one (a ∷ x) = ap₂ _∷_ (solve (a ∷ []) (con (pos 1) ⊗ x₀) x₀ tt) (scale-one x)
+
+pub add-associative : (x y z : List ℤ) → add (add x y) z ≡ add x (add y z)
+unfolding add
+add-associative [] y z = refl
+add-associative (a ∷ x) [] z = refl
+add-associative (a ∷ x) (b ∷ y) [] = refl
+add-associative (a ∷ x) (b ∷ y) (d ∷ z) = ap₂ _∷_ (solve (a ∷ b ∷ d ∷ []) (x₀ ⊕ x₁ ⊕ x₂) (x₀ ⊕ (x₁ ⊕ x₂)) tt) (add-associative x y z)
+
+-- (q v + z) + k v = (q + k) v + z
+pub scale-more : (q k : ℕ) (v z : List ℤ) → add (add (scale q v) z) (scale k v) ≡ add (scale (q + k) v) z
+unfolding add scale
+scale-more q k [] z = refl
+scale-more q k (a ∷ v) [] = refl
+scale-more q k (a ∷ v) (b ∷ z) =
+    ap₂ _∷_ (solve (pos q ∷ pos k ∷ a ∷ b ∷ []) (x₀ ⊗ x₂ ⊕ x₃ ⊕ x₁ ⊗ x₂) ((x₀ ⊕ x₁) ⊗ x₂ ⊕ x₃) tt) (scale-more q k v z)
+
+-- (y + k s) - (w + k) u = (y - w u) + k (s - u)
+pub residual-more : (y s u : List ℤ) (w k : ℕ) → subtract (add y (scale k s)) (scale (w + k) u) ≡ add (subtract y (scale w u)) (scale k (subtract s u))
+unfolding add subtract scale
+residual-more [] s u w k = refl
+residual-more (a ∷ y) [] [] w k = refl
+residual-more (a ∷ y) [] (d ∷ u) w k = refl
+residual-more (a ∷ y) (b ∷ s) [] w k = refl
+residual-more (a ∷ y) (b ∷ s) (d ∷ u) w k =
+    ap₂ _∷_ (solve (a ∷ b ∷ d ∷ pos w ∷ pos k ∷ []) (x₀ ⊕ x₄ ⊗ x₁ ⊝ (x₃ ⊕ x₄) ⊗ x₂) (x₀ ⊝ x₃ ⊗ x₂ ⊕ x₄ ⊗ (x₁ ⊝ x₂)) tt) (residual-more y s u w k)
+
+-- 0 - 0 u = 0
+pub subtract-zero : (c : ℕ) (u : List ℤ) → length u ≡ c → subtract (replicate c (pos 0)) (scale 0 u) ≡ replicate c (pos 0)
+unfolding subtract scale
+subtract-zero zero u e = refl
+subtract-zero (suc c) [] e = absurd (omega arith)
+subtract-zero (suc c) (a ∷ u) e = ap₂ _∷_ (solve (a ∷ []) (O ⊝ O ⊗ x₀) O tt) (subtract-zero c u (omega arith))
+
+-- 0 v + 0 = 0
+add-zero : (c : ℕ) (v : List ℤ) → length v ≡ c → add (scale 0 v) (replicate c (pos 0)) ≡ replicate c (pos 0)
+unfolding add scale
+add-zero zero [] e = refl
+add-zero zero (a ∷ v) e = absurd (omega arith)
+add-zero (suc c) [] e = absurd (omega arith)
+add-zero (suc c) (a ∷ v) e = ap₂ _∷_ (solve (a ∷ []) (O ⊗ x₀ ⊕ O) O tt) (add-zero c v (omega arith))
+
 -- ---- What the theorem asks of vectors, by lists of one length
 
 pub plus-is : (y : List ℤ) (k : ℕ) (s : List ℤ) → length y ≡ length s → Plus plain y (pos k) s (add y (scale k s))
@@ -167,6 +214,34 @@ length-combination c [] vs w = length-replicate c (pos 0)
 length-combination c (q ∷ qs) [] w = length-replicate c (pos 0)
 length-combination c (q ∷ qs) (v ∷ vs) w =
     length-add (scale q v) (combination c qs vs) (length-scale q v ∙ w .each v here ∙ sym (length-combination c qs vs (wide-rest w))) ∙ length-scale q v ∙ w .each v here
+
+-- ---- Lists of shares
+
+pub sum-zero : (n : ℕ) → sum (replicate n 0) ≡ 0
+unfolding sum
+sum-zero zero = refl
+sum-zero (suc n) = omega (arith, sum-zero n)
+
+pub combination-zero : (c : ℕ) (vs : List (List ℤ)) → Wide c vs → combination c (replicate (length vs) 0) vs ≡ replicate c (pos 0)
+unfolding combination
+combination-zero c [] wide = refl
+combination-zero c (v ∷ vs) wide = rw (combination-zero c vs (wide-rest wide)) (add-zero c v (wide .each v here))
+
+-- k shares more at i
+pub sum-set : (qs : List ℕ) (i k : ℕ) → i < length qs → sum (set qs i (getD qs i 0 + k)) ≡ sum qs + k
+unfolding sum
+sum-set [] i k h = absurd (omega arith)
+sum-set (q ∷ qs) zero k h = omega arith
+sum-set (q ∷ qs) (suc i) k h = omega (arith, sum-set qs i k (omega arith))
+
+pub combination-set : (c : ℕ) (qs : List ℕ) (vs : List (List ℤ)) (i k : ℕ) → length qs ≡ length vs → i < length qs →
+    add (combination c qs vs) (scale k (getD vs i [])) ≡ combination c (set qs i (getD qs i 0 + k)) vs
+unfolding combination
+combination-set c [] vs i k e h = absurd (omega arith)
+combination-set c (q ∷ qs) [] i k e h = absurd (omega arith)
+combination-set c (q ∷ qs) (v ∷ vs) zero k e h = scale-more q k v (combination c qs vs)
+combination-set c (q ∷ qs) (v ∷ vs) (suc i) k e h =
+    add-associative (scale q v) (combination c qs vs) (scale k (getD vs i [])) ∙ ap (add (scale q v)) (combination-set c qs vs i k (omega arith) (omega arith))
 
 mixture-among : (rs : List (List ℤ)) (c : ℕ) (qs : List ℕ) (vs : List (List ℤ)) → length qs ≡ length vs → Wide c vs → ((v : List ℤ) → Among vs v → Among rs v) →
     Mixture plain (Among rs) (sum qs) (combination c qs vs)

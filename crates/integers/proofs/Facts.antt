@@ -1,12 +1,14 @@
 -- Inequalities of integers from other inequalities: `derive ρ goal facts tt`. A fact is an expression that is not below 0;
--- facts are added (⊞) and multiplied (⊡), and the goal follows where they multiply out to it. Assumes nothing.
-use mathlib.Core.Path.{_≡_, refl, sym, ap, subst}
+-- facts are added (⊞) and multiplied (⊡), and the goal follows where they multiply out to it. Laws that are used often follow. Assumes nothing.
+use mathlib.Core.Path.{_≡_, refl, sym, ap, _∙_, subst}
+use mathlib.Core.Bool.{Bool, true, false, not}
 use mathlib.Core.List.{List, [], _∷_}
 use Prim.Native.Nat.{ℕ}
+use lib.Dec.{T, not-T}
 use lib.IntN.{ℤ, pos, negsuc, negℤ, _+ℤ_, _-ℤ_, _*ℤ_}
-use lib.Signed.{_≤ℤ_, _<ℤ_}
-use Rattle.integers.proofs.Solver.{Expr, var, con, _⊕_, _⊗_, ⊖_, _⊝_, x₀, eval, Same, solve}
-use Rattle.integers.proofs.Order.{Nonneg, is-nat, nonneg-by, nonneg-add, nonneg-mul, nonneg-square, nonneg-equation, ≤→nonneg, nonneg→≤, <→nonneg, nonneg→<, cancel-nonneg, cancel-positive}
+use lib.Signed.{_≤ℤ_, _<ℤ_, ltZ, leZ, ltZ-no, clashℤ}
+use Rattle.integers.proofs.Solver.{Expr, var, con, _⊕_, _⊗_, ⊖_, _⊝_, x₀, x₁, x₂, eval, Same, solve}
+use Rattle.integers.proofs.Order.{Nonneg, is-nat, nonneg-by, nonneg-add, nonneg-mul, nonneg-square, nonneg-equation, ≤→nonneg, nonneg→≤, <→nonneg, nonneg→<, ≤ℤ-antisymmetric, cancel-nonneg, cancel-positive}
 
 -- what is claimed of two expressions: at most, or below
 infix 5 _≼_ _≺_
@@ -82,3 +84,51 @@ derive-times ρ k (a ≺ b) hk f t =
     nonneg→< (eval ρ a) (eval ρ b)
     (cancel-positive (eval ρ k) (eval ρ b -ℤ eval ρ a) (nonneg-by (solve (eval ρ k ∷ []) (x₀ ⊝ con (pos 0)) x₀ tt) (≤→nonneg hk))
     (nonneg-by (solve ρ (f .expr) (k ⊗ (b ⊝ a) ⊝ con (pos 1)) t) (f .holds)))
+
+-- ---- Laws
+
+pub ≤ℤ-trans : {a b c : ℤ} → a ≤ℤ b → b ≤ℤ c → a ≤ℤ c
+≤ℤ-trans {a} {b} {c} h k = derive (a ∷ b ∷ c ∷ []) (x₀ ≼ x₂) (known (x₀ ≼ x₁) h ⊞ known (x₁ ≼ x₂) k) tt
+
+pub <ℤ→≤ℤ : {a b : ℤ} → a <ℤ b → a ≤ℤ b
+<ℤ→≤ℤ {a} {b} h = derive (a ∷ b ∷ []) (x₀ ≼ x₁) (known (x₀ ≺ x₁) h ⊞ nat 1) tt
+
+-- a multiple of the difference of equal numbers adds nothing
+pub plus-equation : (r c : ℤ) {a b : ℤ} → a ≡ b → r +ℤ c *ℤ (a -ℤ b) ≡ r
+plus-equation r c {a} {b} e = ap (λ x. r +ℤ c *ℤ (x -ℤ b)) e ∙ solve (r ∷ c ∷ b ∷ []) (x₀ ⊕ x₁ ⊗ (x₂ ⊝ x₂)) x₀ tt
+
+pub cancel-factor : (k a b : ℤ) → pos 0 <ℤ k → k *ℤ a ≡ k *ℤ b → a ≡ b
+cancel-factor k a b hk e =
+    ≤ℤ-antisymmetric a b
+    (derive-times (k ∷ a ∷ b ∷ []) x₀ (x₁ ≼ x₂) hk (equation (⊖ con (pos 1)) (x₀ ⊗ x₁) (x₀ ⊗ x₂) e) tt)
+    (derive-times (k ∷ a ∷ b ∷ []) x₀ (x₂ ≼ x₁) hk (equation (con (pos 1)) (x₀ ⊗ x₁) (x₀ ⊗ x₂) e) tt)
+
+-- ---- Tests
+
+-- tests that pass in the same cases are equal
+same-test : (s t : Bool) → (T s → T t) → (T t → T s) → s ≡ t
+same-test true true f g = refl
+same-test true false f g = absurd (f tt)
+same-test false true f g = absurd (g tt)
+same-test false false f g = refl
+
+pub le-not-lt : (a b : ℤ) → leZ a b ≡ not (ltZ b a)
+le-not-lt a b =
+    same-test (leZ a b) (not (ltZ b a))
+    (λ h. not-T (ltZ b a) (λ k. clashℤ {a = b} {b = a} (record { lt = k }) (record { le = h })))
+    (λ h. ltZ-no {a = b} {b = a} h .le)
+
+-- a factor above 0 changes no test
+pub lt-scale : (k a b : ℤ) → pos 0 <ℤ k → ltZ (k *ℤ a) (k *ℤ b) ≡ ltZ a b
+lt-scale k a b hk =
+    same-test (ltZ (k *ℤ a) (k *ℤ b)) (ltZ a b)
+    (λ h. derive-times (k ∷ a ∷ b ∷ []) x₀ (x₁ ≺ x₂) (<ℤ→≤ℤ hk) (known (x₀ ⊗ x₁ ≺ x₀ ⊗ x₂) (record { lt = h })) tt .lt)
+    (λ h. derive (k ∷ a ∷ b ∷ []) (x₀ ⊗ x₁ ≺ x₀ ⊗ x₂)
+    (known (con (pos 0) ≼ x₀) (<ℤ→≤ℤ hk) ⊡ known (x₁ ≺ x₂) (record { lt = h }) ⊞ known (con (pos 0) ≺ x₀) hk) tt .lt)
+
+-- a term changes sides
+pub lt-move : (a b c : ℤ) → ltZ a (b -ℤ c) ≡ ltZ (a +ℤ c) b
+lt-move a b c =
+    same-test (ltZ a (b -ℤ c)) (ltZ (a +ℤ c) b)
+    (λ h. derive (a ∷ b ∷ c ∷ []) (x₀ ⊕ x₂ ≺ x₁) (known (x₀ ≺ x₁ ⊝ x₂) (record { lt = h })) tt .lt)
+    (λ h. derive (a ∷ b ∷ c ∷ []) (x₀ ≺ x₁ ⊝ x₂) (known (x₀ ⊕ x₂ ≺ x₁) (record { lt = h })) tt .lt)

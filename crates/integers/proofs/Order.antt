@@ -4,6 +4,7 @@ use mathlib.Core.Path.{_≡_, refl, sym, ap, _∙_, subst}
 use mathlib.Core.Bool.{Bool, true, false, not}
 use mathlib.Core.List.{List, [], _∷_}
 use Prim.Native.Nat.{ℕ, zero, suc, _+_, _*_, _-_, _≤_, _<_}
+use native.Mathlib.Nat.{le-antisymm}
 use native.Mathlib.Omega.{arith}
 use native.Mathlib.Numerals.{unary-clauses}
 use lib.Dec.{T, leb, ltb, leb→le, le→leb, ltb→lt, lt→ltb}
@@ -108,6 +109,12 @@ pub <ℤ→< : {m n : ℕ} → pos m <ℤ pos n → m < n
 
 pub <→<ℤ : {m n : ℕ} → m < n → pos m <ℤ pos n
 <→<ℤ {m} {n} h = record { lt = lt→ltb m n h }
+
+pub ≤ℤ-antisymmetric : (a b : ℤ) → a ≤ℤ b → b ≤ℤ a → a ≡ b
+≤ℤ-antisymmetric (pos m) (pos n) h k = ap pos (le-antisymm (≤ℤ→≤ h) (≤ℤ→≤ k))
+≤ℤ-antisymmetric (pos m) (negsuc n) h k = absurd (h .le)
+≤ℤ-antisymmetric (negsuc m) (pos n) h k = absurd (k .le)
+≤ℤ-antisymmetric (negsuc m) (negsuc n) h k = ap negsuc (le-antisymm (leb→le m n (k .le)) (leb→le n m (h .le)))
 
 -- ---- A factor is cancelled
 
