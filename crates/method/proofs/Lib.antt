@@ -1,0 +1,17 @@
+-- The laws of the method that the code and other crates use, and the proofs of what specs/ promises of a run.
+pub mod Weights
+pub mod Argmin
+pub mod Entries
+pub mod Shares
+pub mod Mixtures
+pub mod Iterates
+pub mod Verdicts
+pub mod Accepted
+pub mod Running
+pub mod Bounds
+pub mod Floor
+pub mod Fractions
+pub mod Numerators
+pub mod Published
+pub mod Promise
+pub mod Marked

@@ -1,0 +1,11 @@
+-- The definitions of this crate: the method in whole numbers, the published one over fractions, and what is promised of a run.
+pub mod Iterates
+pub mod Answers
+pub mod Minimum
+pub mod Bounds
+pub mod Sizes
+pub mod Fractions
+pub mod Published
+pub mod PublishedRun
+pub mod Promise
+pub mod Marked
