@@ -1,0 +1,5 @@
+pub mod Sums
+pub mod Squares
+pub mod Passes
+pub mod Moves
+pub mod Gaps

@@ -1,0 +1,40 @@
+use Rattle.scoring.proofs.Gaps.{spread-fits, product-fits, gap-fits, gap-cast, gap-result}
+use native.Mathlib.Omega.{arith}
+use borrow.Author.Needs.{needs}
+use Rattle.scoring.proofs.gap_of.Statement.{statement}
+use Rattle.scoring.proofs.gap_of.Tie as tie
+use Rattle.scoring.proofs.gap_of.Reads as reads
+use Rattle.scoring.proofs.gap_of.Lts as lts
+
+-- src/lib.rt:115:6
+cast-result : tie.Need-cast-result
+cast-result c = search needs
+
+-- src/lib.rt:115:17
+cast-result-2 : tie.Need-cast-result-2
+cast-result-2 c = search needs
+
+-- src/lib.rt:115:29
+sub-result : tie.Need-sub-result
+sub-result c = spread-fits (c .pre)
+
+-- src/lib.rt:115:17
+mul-result : tie.Need-mul-result
+mul-result c = product-fits (c .pre)
+
+-- src/lib.rt:115:6
+add-result : tie.Need-add-result
+add-result c = gap-fits (c .pre)
+
+-- src/lib.rt:115:5
+cast-result-3 : tie.Need-cast-result-3
+cast-result-3 c = gap-cast (c .pre)
+
+-- src/lib.rt:111:1
+returns : tie.Need-returns
+returns c = gap-result (c .pre)
+
+pub gap-of-spec : {M : Type 1} → statement M
+gap-of-spec =
+    tie.close
+    (tie.spec cast-result cast-result-2 sub-result mul-result add-result cast-result-3 returns)

@@ -1,0 +1,38 @@
+-- What the sums over columns ask of their operands. Definitions only. Assumes nothing.
+use mathlib.Core.List.{List}
+use Prim.Native.Nat.{ℕ, _+_, _*_, _≤_, _<_}
+use lib.ListN.{length, getD}
+use lib.IntN.{ℤ, pos, natAbs, _+ℤ_, _-ℤ_, _*ℤ_}
+use lib.Signed.{_≤ℤ_}
+
+-- there are `count` numbers, and the first `count` are at most so large
+pub record Bounded (most count : ℕ) (xs : List ℤ) : Type 0 where
+  pub long : count ≤ length xs
+  pub each : (i : ℕ) → i < count → natAbs (getD xs i (pos 0)) ≤ most
+
+-- a row of `columns` values at `at` lies inside the bytes
+pub record Span (bs : List ℕ) (at columns : ℕ) : Type 0 where
+  pub few-columns : columns ≤ 64
+  pub inside : at + 2 * columns ≤ length bs
+
+-- so do `boats` rows, at least one
+pub record Grid (bs : List ℕ) (at boats columns : ℕ) : Type 0 where
+  pub some-boats : 1 ≤ boats
+  pub few-boats : boats ≤ 256
+  pub few-columns : columns ≤ 64
+  pub inside : at + 2 * (boats * columns) ≤ length bs
+
+-- the numbers r stay within 260,000,000 when they move by k (v - u), with v and u in a book's and a sheet's range
+pub record Movable (r v u : List ℤ) (columns k : ℕ) : Type 0 where
+  pub few-shares : k ≤ 64980
+  pub row-range : Bounded 2000 columns v
+  pub target-range : Bounded 2000 columns u
+  pub room : (j : ℕ) → j < columns → natAbs (getD r j (pos 0)) + 4000 * k ≤ 260000000
+
+-- E + w (a - b) is not below 0 and all of it keeps to 63 bits
+pub record Gap-sized (e w : ℕ) (a b : ℤ) : Type 0 where
+  pub distance : e < 4611686018427387904
+  pub few-shares : w ≤ 64980
+  pub first : natAbs a ≤ 512000000 * w
+  pub second : natAbs b ≤ 512000000 * w
+  pub sign : pos 0 ≤ℤ (pos e +ℤ pos w *ℤ (a -ℤ b))

@@ -1,0 +1,60 @@
+-- The outcomes of `search`, refused by the files, refused by a short share list, or answered, are those of the definitions. Assumes nothing.
+use mathlib.Core.Path.{_≡_, refl, sym, ap, _∙_}
+use mathlib.Core.Bool.{Bool, true, false, cond}
+use mathlib.Core.List.{List, _++_}
+use Prim.Native.Nat.{ℕ, zero, suc, _≤_, _<_}
+use native.Mathlib.Omega.{arith}
+use borrow.Author.Tests.{lt-ltb, le-ltb}
+use lib.Dec.{eqb, ltb, eqb·suc-zero}
+use lib.ListN.{length, take, drop}
+use Rattle.files.specs.Book.{boats}
+use Rattle.files.specs.Sheet.{files-refusal}
+use Rattle.method.specs.declared.Answer.{Answer}
+use Rattle.method.specs.declared.Searched.{Searched}
+use Rattle.method.specs.declared.Searched.the-variants.{Refused, Answered}
+use Rattle.method.specs.Answers.{outcome, search-refusal, slots-after, run-answer, run-iterate}
+use Rattle.method.specs.Promise.{Outcome-right}
+use Rattle.method.proofs.Accepted.{share-count}
+use Rattle.method.proofs.Promise.{outcome-right}
+use Rattle.search.specs.declared.Ran.{Ran}
+use Rattle.search.specs.States.{Run-of}
+
+module _ (b s slots : List ℕ) where
+  -- what a search gives back and leaves in the list, by the refusal number
+  abbrev Gives : (refusal : ℕ) → Searched → List ℕ → Type 0
+  Gives n r now = (r ≡ outcome n (run-answer b s)) × (now ≡ slots-after n (run-iterate b s .shares) slots)
+
+  -- and what is promised of it
+  abbrev pub Promises : Searched → List ℕ → Type 0
+  Promises r now =
+      (r ≡ outcome (search-refusal b s (length slots)) (run-answer b s))
+      × ((now ≡ slots-after (search-refusal b s (length slots)) (run-iterate b s .shares) slots) × Outcome-right b s r now)
+
+  promised : {r : Searched} {now : List ℕ} → Gives (search-refusal b s (length slots)) r now → Promises r now
+  promised {r} {now} g = (g .0, (g .1, outcome-right b s slots _ r now refl (g .0) (g .1)))
+
+  refused : (n : ℕ) → (n ≡ 0 → ⊥) → Gives n (Refused n) slots
+  unfolding outcome slots-after
+  refused zero h = absurd (h refl)
+  refused (suc n) h = (refl, refl)
+
+  pub refused-by-files : (n : ℕ) → n ≡ files-refusal b s → (n ≡ 0 → ⊥) → Promises (Refused n) slots
+  unfolding search-refusal
+  refused-by-files zero e h = absurd (h refl)
+  refused-by-files (suc n) e h = promised (rw (← e, eqb·suc-zero n) (refused (suc n) h))
+
+  module _ (ok : files-refusal b s ≡ 0) {n : ℕ} (en : n ≡ boats b) where
+    pub refused-short : length slots < n → Promises (Refused 21) slots
+    unfolding search-refusal outcome slots-after
+    refused-short h = let k : ltb (length slots) (boats b) ≡ true = rw (← en) (lt-ltb (length slots) n h) in promised (rw (ok, k) (refl, refl))
+
+    shares-length : length (run-iterate b s .shares) ≡ boats b
+    unfolding run-iterate
+    shares-length = share-count b s ok _
+
+    pub answered : n ≤ length slots → {r : Ran} → Run-of b s r → {now : List ℕ} → now ≡ take n (r .shares) ++ drop n slots →
+        Promises (Answered (r .answer)) now
+    unfolding search-refusal outcome slots-after
+    answered h R e =
+        let k : ltb (length slots) (boats b) ≡ false = rw (← en) (le-ltb (length slots) n h) in
+        promised (rw (ok, k) (ap Answered (R .answer-is), e ∙ rw (en, R .shares-are, shares-length)))

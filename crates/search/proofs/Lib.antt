@@ -1,0 +1,8 @@
+pub mod Table
+pub mod States
+pub mod Steps
+pub mod Measuring
+pub mod Answering
+pub mod Filling
+pub mod Runs
+pub mod Entry

@@ -1,0 +1,60 @@
+use native.Mathlib.Omega.{arith}
+use mathlib.Core.Path.{sym, _∙_}
+use Rattle.search.proofs.States.{book-fits}
+use Rattle.search.proofs.Entry.{refused-by-files, refused-short, answered}
+use borrow.Author.Needs.{needs}
+use Rattle.search.proofs.search.Statement.{statement}
+use Rattle.search.proofs.search.Tie as tie
+use Rattle.search.proofs.search.Reads as reads
+use Rattle.search.proofs.search.Lts as lts
+use Rattle.files.proofs.boats.Reads as boats-reads
+use Rattle.files.proofs.files_refusal.Reads as files-refusal-reads
+use Rattle.search.proofs.fill.Reads as fill-reads
+use Rattle.search.proofs.run.Reads as run-reads
+
+-- src/lib.rt:191:9
+files-refusal-requires : tie.Need-files-refusal-requires
+files-refusal-requires c κs = search needs
+
+-- src/lib.rt:193:9
+returns : tie.Need-returns
+returns c = refused-by-files _ _ _ _ (c .before .files-refusal .ensures) (c .if1 .taken)
+
+-- src/lib.rt:195:9
+boats-requires : tie.Need-boats-requires
+boats-requires c κs = book-fits _ _ (sym (c .before .files-refusal .ensures) ∙ c .if1 .left) .at-least
+
+-- src/lib.rt:197:9
+returns-2 : tie.Need-returns-2
+returns-2 c = refused-short _ _ _ (sym (c .before .before .before .files-refusal .ensures) ∙ c .before .before .if1 .left) (c .before .boats .ensures) (c .if2 .taken)
+
+-- src/lib.rt:199:9
+run-requires : tie.Need-run-requires
+run-requires c κs = search needs
+
+-- src/lib.rt:202:5
+fill-requires : tie.Need-fill-requires
+fill-requires c κs =
+    let f = book-fits _ _ (sym (c .before .before .before .before .before .before .before .files-refusal .ensures) ∙ c .before .before .before .before .before .before .if1 .left) in
+    (omega (arith, c .before .before .before .before .before .boats .ensures, f .most-boats), omega (arith, c .before .before .before .before .if2 .left))
+
+-- src/lib.rt:187:1
+same-length : tie.Need-same-length
+same-length c = search needs
+
+-- src/lib.rt:187:1
+returns-3 : tie.Need-returns-3
+returns-3 c = answered _ _ _ (sym (c .before .before .before .before .before .before .before .before .before .before .files-refusal .ensures) ∙ c .before .before .before .before .before .before .before .before .before .if1 .left) (c .before .before .before .before .before .before .before .before .boats .ensures) (c .before .before .before .before .before .before .before .if2 .left) (c .before .before .before .before .before .before .run .ensures) (c .before .before .fill .ensures)
+
+pub search-spec : {M : Type 1} → statement M
+search-spec =
+    tie.close
+    (tie.spec
+    files-refusal-requires
+    returns
+    boats-requires
+    returns-2
+    run-requires
+    fill-requires
+    same-length
+    returns-3)

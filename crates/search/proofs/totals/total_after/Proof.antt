@@ -1,0 +1,24 @@
+use native.Mathlib.Omega.{arith}
+use Rattle.method.specs.Iterates.{weight}
+use Rattle.search.proofs.Table.{entry}
+use borrow.Author.Needs.{needs}
+use Rattle.search.proofs.totals.total_after.Statement.{statement}
+use Rattle.search.proofs.totals.total_after.Tie as tie
+use Rattle.search.proofs.totals.total_after.Reads as reads
+use Rattle.search.proofs.totals.total_after.Lts as lts
+
+-- src/totals.rt:375:5
+mul-result : tie.Need-mul-result
+mul-result c = search needs
+
+-- src/totals.rt:375:5
+array-read-result : tie.Need-array-read-result
+array-read-result c = search needs
+
+-- src/totals.rt:371:1
+returns : tie.Need-returns
+unfolding weight
+returns c = entry weight 361 (c .args .t) (omega arith)
+
+pub total-after-spec : {M : Type 1} → statement M
+total-after-spec = tie.close (tie.spec mul-result array-read-result returns)
