@@ -3,3 +3,7 @@ pub mod Squares
 pub mod Passes
 pub mod Moves
 pub mod Gaps
+pub mod Scans
+pub mod Rescores
+pub mod Differences
+pub mod Rows

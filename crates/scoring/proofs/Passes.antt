@@ -35,7 +35,7 @@ unfolding rows-from
 rows-suc m c p bs = rw (drop-drop (2 * c) p bs)
 
 -- the scores of the rows from p on, with the first of them
-scores-suc : (g : List ℤ) (m c p : ℕ) (bs : List ℕ) (k : ℕ) {s : ℤ} → k ≡ suc m → s ≡ inner g (values c (drop p bs)) →
+pub scores-suc : (g : List ℤ) (m c p : ℕ) (bs : List ℕ) (k : ℕ) {s : ℤ} → k ≡ suc m → s ≡ inner g (values c (drop p bs)) →
     M.scores g (rows-from k c (drop p bs)) ≡ s ∷ M.scores g (rows-from m c (drop (p + 2 * c) bs))
 unfolding M.scores
 scores-suc g m c p bs k e es = rw (e, es, rows-suc)
@@ -47,7 +47,7 @@ argmin-suc i best least s ps = rw add-one
 
 module _ {bs : List ℕ} {at n c : ℕ} (gr : Grid bs at n c) where
   -- row i ends inside the bytes
-  row-inside : (i : ℕ) → i < n → at + 2 * (i * c) + 2 * c ≤ length bs
+  pub row-inside : (i : ℕ) → i < n → at + 2 * (i * c) + 2 * c ≤ length bs
   row-inside i h = omega (arith, mul-le-mul-right c h, suc-mul i c, gr .inside)
 
   pub first-span : Span bs at c

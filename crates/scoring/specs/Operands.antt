@@ -1,5 +1,5 @@
 -- What the sums over columns ask of their operands. Definitions only. Assumes nothing.
-use mathlib.Core.List.{List}
+use mathlib.Core.List.{List, []}
 use Prim.Native.Nat.{ℕ, _+_, _*_, _≤_, _<_}
 use lib.ListN.{length, getD}
 use lib.IntN.{ℤ, pos, natAbs, _+ℤ_, _-ℤ_, _*ℤ_}
@@ -36,3 +36,21 @@ pub record Gap-sized (e w : ℕ) (a b : ℤ) : Type 0 where
   pub first : natAbs a ≤ 512000000 * w
   pub second : natAbs b ≤ 512000000 * w
   pub sign : pos 0 ≤ℤ (pos e +ℤ pos w *ℤ (a -ℤ b))
+
+-- every row has `columns` values in a book's range
+pub record Rows-bounded (rs : List (List ℤ)) (columns : ℕ) : Type 0 where
+  pub each-row : (i : ℕ) → i < length rs → Bounded 2000 columns (getD rs i [])
+
+-- a score and a product at i whose sum with a factor k keeps to 63 bits
+pub record Score-sized (base : List ℤ) (k : ℕ) (products : List ℤ) (i : ℕ) : Type 0 where
+  pub in-base : i < length base
+  pub in-products : i < length products
+  pub few-shares : k ≤ 64980
+  pub score-size : natAbs (getD base i (pos 0)) ≤ 33269760000000
+  pub product-size : natAbs (getD products i (pos 0)) ≤ 512000000
+
+-- so at each of the boats, of which there is one at least
+pub record Rescorable (base : List ℤ) (k : ℕ) (products : List ℤ) (boats : ℕ) : Type 0 where
+  pub some-boats : 1 ≤ boats
+  pub few-boats : boats ≤ 256
+  pub each : (i : ℕ) → i < boats → Score-sized base k products i

@@ -3,13 +3,14 @@
 ghost use mathlib.Core.Path.{_≡_};
 ghost use mathlib.Core.List.{_++_};
 ghost use Prim.Native.Nat.{_+_, _*_, _≤_, _<_};
-ghost use lib.ListN.{length, take, drop};
+ghost use lib.ListN.{length, getD, take, drop};
 ghost use lib.IntN.{pos, natAbs, _+ℤ_, _-ℤ_, _*ℤ_};
 ghost use Rattle.files.specs.Bytes.{values};
 ghost use Rattle.files.specs.Book.{rows-from};
 ghost use Rattle.frank_wolfe.specs.Vectors.{add, subtract, scale, inner, squared-norm};
-ghost use Rattle.scoring.specs.Scores.{Scores-of};
-ghost use Rattle.scoring.specs.Operands.{Bounded, Span, Grid, Movable, Gap-sized};
+ghost use Rattle.scoring.specs.Scores.{Scores-of, Scores-are};
+ghost use Rattle.method.specs.Iterates.{scores};
+ghost use Rattle.scoring.specs.Operands.{Rows-bounded, Rescorable, Score-sized, Bounded, Span, Grid, Movable, Gap-sized};
 
 // <r, v>, where v is the row of `columns` values at `at`.
 pub fn inner_at(r: &[i32], bytes: &[u8], at: usize, columns: usize) -> i64
@@ -102,6 +103,86 @@ pub fn score_boats(r: &[i32], book: &[u8], at: usize, boats: usize, columns: usi
             least = s;
         }
         p += 2 * columns;
+        i += 1;
+    }
+    Scored { scores, best }
+}
+
+// v - u, where v is the row at `at` of a book and u the target at `from` of a sheet.
+pub fn difference(book: &[u8], at: usize, sheet: &[u8], from: usize, columns: usize) -> [i16; 64]
+    requires { ⌜ Span (now book) at columns ⌝ }
+    requires { ⌜ Span (now sheet) from columns ⌝ }
+    requires { ⌜ Bounded 2000 columns (values columns (drop at (now book))) × Bounded 2000 columns (values columns (drop from (now sheet))) ⌝ }
+    ensures { λ x. ⌜ take columns x ≡ subtract (values columns (drop at (now (book .entry)))) (values columns (drop from (now (sheet .entry)))) ⌝ }
+{
+    let mut d = [0i16; 64];
+    let mut i = 0;
+    while i < columns {
+        d[i] = (files::value_at(book, at + 2 * i) - files::value_at(sheet, from + 2 * i)) as i16;
+        i += 1;
+    }
+    d
+}
+
+// <d, v> in 32 bits, where v is the row of `columns` values at `at`.
+fn narrow_inner(d: &[i16], bytes: &[u8], at: usize, columns: usize) -> i32
+    requires { ⌜ Span (now bytes) at columns ⌝ }
+    requires { ⌜ Bounded 4000 columns (now d) × Bounded 2000 columns (values columns (drop at (now bytes))) ⌝ }
+    ensures { λ x. ⌜ x ≡ inner (take columns (now (d .entry))) (values columns (drop at (now (bytes .entry)))) ⌝ }
+{
+    let mut sum: i32 = 0;
+    let mut i = 0;
+    while i < columns {
+        sum += d[i] as i32 * files::value_at(bytes, at + 2 * i);
+        i += 1;
+    }
+    sum
+}
+
+// <d, v> for each of the rows at `at`, in the first slots.
+pub fn products(d: &[i16], book: &[u8], at: usize, boats: usize, columns: usize) -> [i32; 256]
+    requires { ⌜ Grid (now book) at boats columns ⌝ }
+    requires { ⌜ Bounded 4000 columns (now d) ⌝ }
+    requires { ⌜ Rows-bounded (rows-from boats columns (drop at (now book))) columns ⌝ }
+    ensures { λ x. ⌜ take boats x ≡ scores (take columns (now (d .entry))) (rows-from boats columns (drop at (now (book .entry)))) ⌝ }
+{
+    let mut row = [0i32; 256];
+    let mut p = at;
+    let mut i = 0;
+    while i < boats {
+        row[i] = narrow_inner(d, book, p, columns);
+        p += 2 * columns;
+        i += 1;
+    }
+    row
+}
+
+// The score of boat i moved by k times its product.
+fn moved_score(base: &[i64], k: u32, products: &[i32], i: usize) -> i64
+    requires { ⌜ Score-sized (now base) k (now products) i ⌝ }
+    ensures { λ s. ⌜ s ≡ getD (now (base .entry)) i (pos 0) +ℤ pos k *ℤ getD (now (products .entry)) i (pos 0) ⌝ }
+{
+    base[i] + k as i64 * products[i] as i64
+}
+
+// The scores moved by k times the products, and the first boat where they are least.
+pub fn rescored(base: [i64; 256], k: u32, products: &[i32], boats: usize) -> Scored
+    requires { ⌜ Rescorable base k (now products) boats ⌝ }
+    ensures { λ x. ⌜ Scores-are (add (take boats base) (scale k (take boats (now (products .entry))))) boats x ⌝ }
+{
+    let first = moved_score(&base, k, products, 0);
+    let mut scores = base;
+    scores[0] = first;
+    let mut best = 0;
+    let mut least = first;
+    let mut i = 1;
+    while i < boats {
+        let score = moved_score(&base, k, products, i);
+        scores[i] = score;
+        if score < least {
+            best = i;
+            least = score;
+        }
         i += 1;
     }
     Scored { scores, best }

@@ -2,7 +2,9 @@ pub mod Table
 pub mod States
 pub mod Steps
 pub mod Measuring
-pub mod Answering
 pub mod Filling
+pub mod Storing
+pub mod Memory
+pub mod Answering
 pub mod Runs
 pub mod Entry

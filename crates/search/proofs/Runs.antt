@@ -20,16 +20,10 @@ use Rattle.method.proofs.Running.{Running, running-start, running-more, running
 use Rattle.search.specs.declared.Layout.{Layout}
 use Rattle.search.specs.declared.State.{State}
 use Rattle.search.specs.declared.Ran.{Ran}
-use Rattle.search.specs.States.{file-layout, iterate-of, Holds, Run-of}
+use Rattle.search.specs.States.{file-layout, iterate-of, Holds, Going, Run-of}
 use Rattle.search.specs.Measures.{measure, Answerable}
 use Rattle.search.proofs.States.{sheet-fits}
 use Rattle.search.proofs.Answering.{answerable, answer-right}
-
--- the state holds an iterate that did not stop the run, and steps are left
-pub record Going (b s : List ℕ) (x : State) : Type 0 where
-  pub held : Holds b s (x .steps) x
-  pub running : Running (rows b) (sheet s) (columns b) (x .steps) (iterate-of b s (x .steps))
-  pub left : x .steps < sheet s .steps
 
 -- a step that does not stop a run is not its last
 not-last : (n t : ℕ) (v : Verdict) → t ≤ n → stops n t v ≡ false → t < n
@@ -55,11 +49,14 @@ module _ (b s : List ℕ) (ok : files-refusal b s ≡ 0) where
       rw-steps e =
           record {
             held = subst (λ n. Holds b s n x) (sym e) H;
-            running = rw e (running-start (rows b) (sheet s) (columns b));
             left = omega (arith, sheet-fits b s ok .some-steps);
+            undecided = rw e (running-start (rows b) (sheet s) (columns b) .decides);
           }
 
   module _ {x : State} (g : Going b s x) {y : State} (H : Holds b s (x .steps + 1) y) where
+    running : Running (rows b) (sheet s) (columns b) (x .steps) (iterate-of b s (x .steps))
+    running = record { within = omega (arith, g .left); iterated = refl; decides = g .undecided }
+
     next-held : Holds b s (suc (x .steps)) y
     next-held = rw add-one at H
 
@@ -85,14 +82,14 @@ module _ (b s : List ℕ) (ok : files-refusal b s ≡ 0) where
             let p : y .steps ≡ suc (x .steps) = next-held .steps-are in
             record {
               held = subst (λ n. Holds b s n y) (sym p) next-held;
-              running = rw p (running-more (g .running) (g .left) (sym stopped-is ∙ f));
               left = rw p (not-last (sheet s .steps) (suc (x .steps)) _ (g .left) (sym stopped-is ∙ f));
+              undecided = rw p (running-more running (g .left) (sym stopped-is ∙ f) .decides);
             }
 
         pub going-done : d ≡ true → Run-of b s (record { answer = a; shares = y .shares })
         unfolding iterate
         going-done f =
-            let d = running-done (g .running) (g .left) (sym stopped-is ∙ f) in
+            let d = running-done running (g .left) (sym stopped-is ∙ f) in
             record {
               answer-is = answer-is ∙ finished-answer b s d;
               shares-are = next-held .shares-are ∙ ap (λ z. z .shares) (finished-iterate b s d);

@@ -1,43 +1,32 @@
--- The needs of `fresh` and `next`, with the layout l of the files as the code has it. Assumes nothing.
-use mathlib.Core.Path.{_≡_, refl, sym, ap, _∙_, subst}
+-- The needs of `products_of`, `fresh` and `next`, with the layout l of the files as the code has it. Assumes nothing.
+use mathlib.Core.Path.{_≡_, refl, sym, ap, _∙_}
 use mathlib.Core.List.{List, [], _∷_, _++_}
 use Prim.Native.Nat.{ℕ, zero, suc, _+_, _*_, _-_, _≤_, _<_}
-use native.Mathlib.Nat.{zero-mul}
 use native.Mathlib.Omega.{arith}
 use native.Mathlib.Numerals.{add-one}
 use lib.IntN.{ℤ, pos, natAbs}
-use lib.ListN.{length, getD, take, drop, set, replicate, getD-replicate}
+use lib.ListN.{length, getD, take, drop, set, replicate}
 use lib.Seq.{getD-take}
 use mir.Syntax.{w16, w64}
 use mir.Val.{Fits}
 use Rattle.files.specs.Bytes.{values}
 use Rattle.files.specs.Book.{boats, columns, rows, rows-from, rows-offset}
 use Rattle.files.specs.Sheet.{sheet, target-offset, files-refusal}
-use Rattle.frank_wolfe.specs.Vectors.{add, subtract, scale}
+use Rattle.frank_wolfe.specs.Vectors.{add, subtract, scale, inner}
+use Rattle.method.specs.Iterates as M
 use Rattle.method.specs.Iterates.{iterate, row, weight, residual}
 use Rattle.method.proofs.Weights.{weight-most, weight-suc}
-use Rattle.method.proofs.Entries as E
-use Rattle.method.proofs.Argmin.{among-row}
-use Rattle.method.proofs.Mixtures.{In-range}
-use Rattle.method.proofs.Accepted.{in-range, residual-entries, mixed}
+use Rattle.method.proofs.Argmin.{among-row, score-at}
+use Rattle.method.proofs.Mixtures.{score-most}
+use Rattle.method.proofs.Accepted.{problem, in-range, residual-entries, mixed}
 use Rattle.method.proofs.Shares.{mixed-share}
-use Rattle.scoring.specs.Operands.{Bounded, Span, Grid, Movable}
-use Rattle.scoring.specs.Scores.{Scores-of}
+use Rattle.scoring.specs.Operands.{Bounded, Span, Grid, Movable, Rows-bounded, Rescorable}
+use Rattle.scoring.specs.Scores.{Scores-are}
 use Rattle.scoring.specs.declared.Scored.{Scored}
 use Rattle.search.specs.declared.Layout.{Layout}
 use Rattle.search.specs.declared.State.{State}
-use Rattle.search.specs.States.{file-layout, iterate-of, Holds}
-use Rattle.search.proofs.States.{book-fits, row-span, target-span, grid, movable, moved-front, bounded-front, fresh-direction, fresh-holds, best-below, next-residual, next-holds}
-
--- the residual that `moved` gives for a row at a place of b and the target of s
-abbrev pub after : (b s : List ℕ) → (l : Layout) → (r : List ℤ) → (place k : ℕ) → List ℤ
-after b s l r p k = add (take (l .columns) r) (scale k (subtract (values (l .columns) (drop p b)) (values (l .columns) (drop (l .target) s)))) ++ drop (l .columns) r
-
-abbrev pub scored-rows : (b : List ℕ) → Layout → List (List ℤ)
-scored-rows b l = rows-from (l .boats) (l .columns) (drop (l .rows) b)
-
-start-offset : (b : List ℕ) → rows-offset b + 2 * (0 * columns b) ≡ rows-offset b
-start-offset b = omega (arith, zero-mul (columns b))
+use Rattle.search.specs.States.{file-layout, iterate-of, Products, Holds}
+use Rattle.search.proofs.States.{book-fits, row-span, target-span, grid, movable, moved-front, differable, difference-front, rows-bounded, products-are, rescorable, fresh-holds, best-below, next-residual, next-holds}
 
 zero-entry : (n j : ℕ) → natAbs (getD (replicate n (pos 0)) j (pos 0)) ≤ 0
 zero-entry zero j = omega arith
@@ -45,34 +34,47 @@ zero-entry (suc n) zero = omega arith
 zero-entry (suc n) (suc j) = zero-entry n j
 
 module _ (b s : List ℕ) (ok : files-refusal b s ≡ 0) {l : Layout} (e : l ≡ file-layout b s) where
-  pub all-rows : Grid b (l .rows) (l .boats) (l .columns)
-  unfolding file-layout
-  all-rows = rw e (grid b s ok)
+  -- ---- products_of
+
+  module _ {i : ℕ} (h : i < boats b) where
+    row-inside : l .rows + 2 * (i * l .columns) + 2 * l .columns ≤ length b
+    unfolding file-layout
+    row-inside = rw e (row-span b s ok i h .inside)
+
+    pub row-fits : length b < 18446744073709551616 → Fits w64 (l .rows + 2 * (i * l .columns))
+    row-fits k = record { fits = omega (arith, row-inside) }
+
+    pub cells-fit : length b < 18446744073709551616 → Fits w64 (2 * (i * l .columns))
+    cells-fit k = record { fits = omega (arith, row-inside) }
+
+    pub cell-fits : length b < 18446744073709551616 → Fits w64 (i * l .columns)
+    cell-fits k = record { fits = omega (arith, row-inside) }
+
+    pub difference-asks : Span b (l .rows + 2 * (i * l .columns)) (l .columns) × (Span s (l .target) (l .columns)
+        × (Bounded 2000 (l .columns) (values (l .columns) (drop (l .rows + 2 * (i * l .columns)) b)) × Bounded 2000 (l .columns) (values (l .columns) (drop (l .target) s))))
+    unfolding file-layout
+    difference-asks = rw e (row-span b s ok i h, (target-span b s ok, differable b s ok i h))
+
+    module _ (d : List ℤ) (ed : take (l .columns) d ≡ subtract (values (l .columns) (drop (l .rows + 2 * (i * l .columns)) b)) (values (l .columns) (drop (l .target) s))) where
+      pub products-asks : length d ≡ 64 → Grid b (l .rows) (l .boats) (l .columns) × (Bounded 4000 (l .columns) d × Rows-bounded (rows-from (l .boats) (l .columns) (drop (l .rows) b)) (l .columns))
+      unfolding file-layout
+      products-asks n = rw e (grid b s ok, (difference-front b s ok i h d n (rw e at ed), rows-bounded b s ok))
+
+      pub products-right : {ps : List ℤ} → length ps ≡ 256 → take (l .boats) ps ≡ M.scores (take (l .columns) d) (rows-from (l .boats) (l .columns) (drop (l .rows) b)) → Products b s i ps
+      unfolding file-layout
+      products-right {ps} n f = products-are b s ok i h d ps n (rw e at ed) (rw e at f)
 
   -- ---- fresh
 
-  pub fresh-moved : Span b (l .rows) (l .columns) × (Span s (l .target) (l .columns)
-      × Movable (replicate 64 (pos 0)) (values (l .columns) (drop (l .rows) b)) (values (l .columns) (drop (l .target) s)) (l .columns) 1)
+  pub fresh-rescorable : {ps : List ℤ} → Products b s 0 ps → Rescorable (replicate 256 (pos 0)) 1 ps (l .boats)
   unfolding file-layout
-  fresh-moved =
-      rw e (
-        rw (start-offset b) at (row-span b s ok 0 (book-fits b s ok .some-boats)),
-        (target-span b s ok, rw (start-offset b) at (movable b s ok (replicate 64 (pos 0)) 0 1 (book-fits b s ok .some-boats) (omega arith) (λ j h. omega (arith, zero-entry 64 j)))),
-      )
+  fresh-rescorable P = rw e (rescorable b s ok (replicate 256 (pos 0)) 1 0 (book-fits b s ok .some-boats) P refl (omega arith) (λ q g. omega (arith, zero-entry 256 q)))
 
-  pub fresh-bounded : (x : List ℤ) → length x ≡ 64 → x ≡ after b s l (replicate 64 (pos 0)) (l .rows) 1 → Bounded 260000000 (l .columns) x
+  pub fresh-result : {ps : List ℤ} → Products b s 0 ps → (sc : Scored) →
+      Scores-are (add (take (l .boats) (replicate 256 (pos 0))) (scale 1 (take (l .boats) ps))) (l .boats) sc →
+      Holds b s 0 (record { steps = 0; shares = replicate 256 0; residual = replicate 64 (pos 0); scores = replicate 256 (pos 0); best = sc .best })
   unfolding file-layout
-  fresh-bounded x n h =
-      let i = in-range b s ok in
-      rw e
-      (bounded-front b s ok 4000 x (subtract (row (rows b) 0) (sheet s .target)) n (fresh-direction b s ok x (rw e at h))
-      (E.bounded-subtract (i .rows-bounded (row (rows b) 0) (among-row (rows b) 0 (omega (arith, book-fits b s ok .row-count, book-fits b s ok .some-boats)))) (i .target-bounded) .each)
-      (omega arith))
-
-  pub fresh-result : (x : List ℤ) (sc : Scored) → x ≡ after b s l (replicate 64 (pos 0)) (l .rows) 1 → Scores-of (take (l .columns) x) (scored-rows b l) sc →
-      Holds b s 0 (record { steps = 0; shares = replicate 256 0; residual = replicate 64 (pos 0); scores = sc .scores; best = sc .best })
-  unfolding file-layout
-  fresh-result x sc h k = fresh-holds b s ok x sc (fresh-direction b s ok x (rw e at h)) (rw e at k)
+  fresh-result P sc k = fresh-holds b s ok sc P (rw e at k)
 
   -- ---- next
 
@@ -88,19 +90,6 @@ module _ (b s : List ℕ) (ok : files-refusal b s ≡ 0) {l : Layout} (e : l ≡
         let q : getD (x .shares) (x .best) 0 ≤ weight (x .steps) =
         rw (← getD-take (boats b) (x .shares) (x .best) 0 (best-below b s ok H), H .shares-are) (mixed-share (mixed b s ok (x .steps)) (x .best)) in
         record { fits = omega (arith, q, next-weight, weight-suc (x .steps)) }
-
-    row-inside : l .rows + 2 * (x .best * l .columns) + 2 * l .columns ≤ length b
-    unfolding file-layout
-    row-inside = rw e (row-span b s ok (x .best) (best-below b s ok H) .inside)
-
-    pub row-fits : length b < 18446744073709551616 → Fits w64 (l .rows + 2 * (x .best * l .columns))
-    row-fits h = record { fits = omega (arith, row-inside) }
-
-    pub cells-fit : length b < 18446744073709551616 → Fits w64 (2 * (x .best * l .columns))
-    cells-fit h = record { fits = omega (arith, row-inside) }
-
-    pub cell-fits : length b < 18446744073709551616 → Fits w64 (x .best * l .columns)
-    cell-fits h = record { fits = omega (arith, row-inside) }
 
     old-entry : (j : ℕ) → j < columns b → natAbs (getD (x .residual) j (pos 0)) ≤ 4000 * weight (x .steps)
     old-entry j h = rw (← getD-take (columns b) (x .residual) j (pos 0) h, H .residual-is) (residual-entries b s ok (x .steps) j)
@@ -118,17 +107,26 @@ module _ (b s : List ℕ) (ok : files-refusal b s ≡ 0) {l : Layout} (e : l ≡
           ),
         )
 
-    module _ (n : length (x .residual) ≡ 64) (r : List ℤ) (er : r ≡ after b s l (x .residual) (l .rows + 2 * (x .best * l .columns)) (x .steps + 1)) where
-      moved-on : take (columns b) r ≡ residual (sheet s .target) (suc (x .steps)) (iterate-of b s (suc (x .steps)))
-      unfolding file-layout
-      moved-on = next-residual b s ok H r (moved-front b s ok (x .residual) r (x .best) (suc (x .steps)) (best-below b s ok H) n (rw (e, add-one) at er))
+    old-score : (q : ℕ) → q < boats b → natAbs (getD (x .scores) q (pos 0)) ≤ 33269760000000
+    old-score q h =
+        let f = in-range b s ok in
+        let p : getD (x .scores) q (pos 0) ≡ inner (residual (sheet s .target) (x .steps) (iterate-of b s (x .steps))) (row (rows b) q) =
+        sym (getD-take (boats b) (x .scores) q (pos 0) h) ∙ rw (H .scores-are) (score-at _ (rows b) q) in
+        rw p (omega (arith, score-most (problem b s ok) f (mixed b s ok (x .steps)) (row (rows b) q) (f .rows-bounded _ (among-row (rows b) q (omega (arith, book-fits b s ok .row-count)))), next-weight, weight-suc (x .steps)))
 
-      pub next-bounded : length r ≡ 64 → Bounded 260000000 (l .columns) r
+    module _ {ps : List ℤ} (P : Products b s (x .best) ps) where
+      pub next-rescorable : length (x .scores) ≡ 256 → Rescorable (x .scores) (x .steps + 1) ps (l .boats)
       unfolding file-layout
-      next-bounded m = rw e (bounded-front b s ok (4000 * weight (suc (x .steps))) r _ m moved-on (residual-entries b s ok (suc (x .steps))) (omega (arith, next-weight)))
+      next-rescorable n = rw e (rescorable b s ok (x .scores) (x .steps + 1) (x .best) (best-below b s ok H) P n (omega arith) old-score)
 
-      pub next-result : (sc : Scored) → length (x .shares) ≡ 256 → Scores-of (take (l .columns) r) (scored-rows b l) sc →
+      pub next-result : length (x .residual) ≡ 64 → (r : List ℤ) →
+          r ≡ add (take (l .columns) (x .residual)) (scale (x .steps + 1) (subtract (values (l .columns) (drop (l .rows + 2 * (x .best * l .columns)) b)) (values (l .columns) (drop (l .target) s)))) ++ drop (l .columns) (x .residual) →
+          (sc : Scored) → Scores-are (add (take (l .boats) (x .scores)) (scale (x .steps + 1) (take (l .boats) ps))) (l .boats) sc →
           Holds b s (x .steps + 1)
           (record { steps = x .steps + 1; shares = set (x .shares) (x .best) (getD (x .shares) (x .best) 0 + (x .steps + 1)); residual = r; scores = sc .scores; best = sc .best })
       unfolding file-layout
-      next-result sc m h = rw add-one (next-holds b s ok H _ r sc m refl moved-on (rw e at h))
+      next-result n r er sc k =
+          rw add-one
+          (next-holds b s ok H _ r sc P refl
+          (next-residual b s ok H r (moved-front b s ok (x .residual) r (x .best) (suc (x .steps)) (best-below b s ok H) n (rw (e, add-one) at er)))
+          (rw (e, add-one) at k))

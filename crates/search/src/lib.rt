@@ -4,7 +4,8 @@
 // layout_of, State and its methods, run, fill.
 ghost use mathlib.Core.Path.{_≡_};
 ghost use mathlib.Core.List.{_++_};
-ghost use Prim.Native.Nat.{_+_, _*_, _≤_, _<_};
+ghost use Prim.Native.Nat.{_+_, _*_, _%_, _≤_, _<_};
+ghost use lib.Seq.{paste};
 ghost use lib.ListN.{length, getD, take, drop};
 ghost use lib.IntN.{pos};
 ghost use Rattle.method.specs.Iterates.{weight};
@@ -13,7 +14,7 @@ ghost use Rattle.method.specs.Promise.{Outcome-right};
 ghost use Rattle.files.specs.Book.{boats, columns, rows};
 ghost use Rattle.files.specs.Sheet.{files-refusal};
 ghost use Rattle.files.specs.Bytes.{values};
-ghost use Rattle.search.specs.States.{file-layout, Holds, Run-of};
+ghost use Rattle.search.specs.States.{file-layout, Products, Holds, Going, Remembered, Run-of};
 ghost use Rattle.search.specs.Measures.{measure, tolerance-of, Measurable, Answerable};
 use method::Answer;
 use method::Searched;
@@ -42,8 +43,24 @@ pub fn layout_of(book: &[u8], sheet: &[u8]) -> Layout
     }
 }
 
-// A run after some steps: the shares, one a boat; the residual r = y - W u, one entry a column; the scores of the boats for
-// the next step, and the boat of least score. Slots past the boats and columns are not used.
+// The products <v - u, w> of a boat's row v less the target with every row w, in the first slots.
+pub fn products_of(boat: usize, book: &[u8], sheet: &[u8], layout: Layout) -> [i32; 256]
+    requires { ⌜ files-refusal (now book) (now sheet) ≡ 0 ⌝ }
+    requires { ⌜ layout ≡ file-layout (now book) (now sheet) ⌝ }
+    requires { ⌜ boat < boats (now book) ⌝ }
+    ensures { λ r. ⌜ Products (now (book .entry)) (now (sheet .entry)) boat r ⌝ }
+{
+    let rows = layout.rows;
+    let target = layout.target;
+    let columns = layout.columns;
+    let boats = layout.boats;
+    let row = rows + 2 * (boat * columns);
+    let d = scoring::difference(book, row, sheet, target, columns);
+    scoring::products(&d, book, rows, boats, columns)
+}
+
+// A run after some steps: the shares, one a boat; the residual r = y - W u, one entry a column; the scores of the boats
+// under r; and the boat that the next step picks. Slots past the boats and columns are not used.
 pub struct State {
     pub steps: u32,
     pub shares: [u16; 256],
@@ -55,34 +72,31 @@ pub struct State {
 impl State {
     pub const MOST_STEPS: u32 = 360;
 
-    // No step taken. The first step is scored with boat 0's row less the target.
+    // No step taken, r = 0. The first step is scored with boat 0's row less the target.
     pub fn fresh(book: &[u8], sheet: &[u8], layout: Layout) -> State
         requires { ⌜ files-refusal (now book) (now sheet) ≡ 0 ⌝ }
         requires { ⌜ layout ≡ file-layout (now book) (now sheet) ⌝ }
         ensures { λ r. ⌜ Holds (now (book .entry)) (now (sheet .entry)) 0 r ⌝ }
     {
-        let rows = layout.rows;
-        let target = layout.target;
-        let columns = layout.columns;
         let boats = layout.boats;
-        let direction = scoring::moved([0i32; 64], book, rows, sheet, target, columns, 1);
-        let first = scoring::score_boats(&direction, book, rows, boats, columns);
-        let scores = first.scores;
+        let row = products_of(0, book, sheet, layout);
+        let first = scoring::rescored([0i64; 256], 1, &row, boats);
         State {
             steps: 0,
             shares: [0u16; 256],
             residual: [0i32; 64],
-            scores,
+            scores: [0i64; 256],
             best: first.best,
         }
     }
 
-    // Step k: the boat of least score gets k shares more.
-    pub fn next(self, book: &[u8], sheet: &[u8], layout: Layout) -> State
+    // Step k: the boat of least score gets k shares more. `row` holds that boat's products, by which the scores move.
+    pub fn next(self, book: &[u8], sheet: &[u8], layout: Layout, row: &[i32]) -> State
         requires { ⌜ files-refusal (now book) (now sheet) ≡ 0 ⌝ }
         requires { ⌜ layout ≡ file-layout (now book) (now sheet) ⌝ }
         requires { ⌜ Holds (now book) (now sheet) (self .steps) self ⌝ }
         requires { ⌜ self .steps < 360 ⌝ }
+        requires { ⌜ Products (now book) (now sheet) (self .best) (now row) ⌝ }
         ensures { λ r. ⌜ Holds (now (book .entry)) (now (sheet .entry)) (self .steps + 1) r ⌝ }
     {
         let rows = layout.rows;
@@ -94,9 +108,10 @@ impl State {
         let mut shares = self.shares;
         shares[best] += k as u16;
         let r = self.residual;
-        let row = rows + 2 * (best * columns);
-        let residual = scoring::moved(r, book, row, sheet, target, columns, k);
-        let scored = scoring::score_boats(&residual, book, rows, boats, columns);
+        let base = self.scores;
+        let at = rows + 2 * (best * columns);
+        let residual = scoring::moved(r, book, at, sheet, target, columns, k);
+        let scored = scoring::rescored(base, k, row, boats);
         let scores = scored.scores;
         State {
             steps: k,
@@ -148,16 +163,60 @@ pub struct Ran {
     pub shares: [u16; 256],
 }
 
-// The run of files that are not refused: steps until one stops it.
-pub fn run(book: &[u8], sheet: &[u8]) -> Ran
+// Stores the first `count` numbers of `row` in `memory` from `at` on.
+fn store(row: [i32; 256], count: usize, memory: &mut [i32], at: usize)
+    requires { ⌜ (count ≤ 256) × (at + count ≤ length (now memory)) ⌝ }
+    ensures { λ _. ⌜ now (memory .exit) ≡ paste (now (memory .entry)) at row count ⌝ }
+{
+    let mut i = 0;
+    while i < count {
+        memory[at + i] = row[i];
+        i += 1;
+    }
+}
+
+// Puts a boat's products into its slot of the memory, unless they are there. `tags` has for each slot its boat, counted from 1.
+fn remember(
+    boat: usize,
+    book: &[u8],
+    sheet: &[u8],
+    layout: Layout,
+    tags: &mut [u16],
+    memory: &mut [i32],
+)
     requires { ⌜ files-refusal (now book) (now sheet) ≡ 0 ⌝ }
+    requires { ⌜ layout ≡ file-layout (now book) (now sheet) ⌝ }
+    requires { ⌜ boat < boats (now book) ⌝ }
+    requires { ⌜ Remembered (now book) (now sheet) (now tags) (now memory) ⌝ }
+    ensures { λ _. ⌜ Remembered (now (book .entry)) (now (sheet .entry)) (now (tags .exit)) (now (memory .exit)) ⌝ }
+    ensures { λ _. ⌜ Products (now (book .entry)) (now (sheet .entry)) boat (drop (boat % 64 * boats (now (book .entry))) (now (memory .exit))) ⌝ }
+{
+    let slot = boat % 64;
+    let tag = (boat + 1) as u16;
+    if tags[slot] != tag {
+        let row = products_of(boat, book, sheet, layout);
+        store(row, layout.boats, memory, slot * layout.boats);
+        tags[slot] = tag;
+    }
+}
+
+// The rest of a run from a state that did not stop it; the memory has room for 64 boats' products.
+fn run_on(from: State, book: &[u8], sheet: &[u8], layout: Layout, memory: &mut [i32]) -> Ran
+    requires { ⌜ files-refusal (now book) (now sheet) ≡ 0 ⌝ }
+    requires { ⌜ layout ≡ file-layout (now book) (now sheet) ⌝ }
+    requires { ⌜ Going (now book) (now sheet) from ⌝ }
+    requires { ⌜ 64 * boats (now book) ≤ length (now memory) ⌝ }
     ensures { λ r. ⌜ Run-of (now (book .entry)) (now (sheet .entry)) r ⌝ }
 {
-    let layout = layout_of(book, sheet);
     let steps = files::steps(sheet);
-    let mut state = State::fresh(book, sheet, layout);
+    let boats = layout.boats;
+    let mut tags = [0u16; 64];
+    let mut state = from;
     loop {
-        state = state.next(book, sheet, layout);
+        let best = state.best;
+        remember(best, book, sheet, layout, &mut tags, memory);
+        let at = best % 64 * boats;
+        state = state.next(book, sheet, layout, &memory[at..]);
         let answer = state.answer(sheet, layout);
         let verdict = answer.verdict;
         if method::stops(steps, state.steps, verdict) {
@@ -165,6 +224,34 @@ pub fn run(book: &[u8], sheet: &[u8]) -> Ran
             return Ran { answer, shares };
         }
     }
+}
+
+// The run of files that are not refused: steps until one stops it. The first step needs no memory of products; how much
+// the later ones are lent goes by the boats, so that a small run clears little.
+pub fn run(book: &[u8], sheet: &[u8]) -> Ran
+    requires { ⌜ files-refusal (now book) (now sheet) ≡ 0 ⌝ }
+    ensures { λ r. ⌜ Run-of (now (book .entry)) (now (sheet .entry)) r ⌝ }
+{
+    let layout = layout_of(book, sheet);
+    let start = State::fresh(book, sheet, layout);
+    let row = products_of(start.best, book, sheet, layout);
+    let state = start.next(book, sheet, layout, &row);
+    let answer = state.answer(sheet, layout);
+    let verdict = answer.verdict;
+    if method::stops(files::steps(sheet), state.steps, verdict) {
+        let shares = state.shares;
+        return Ran { answer, shares };
+    }
+    if layout.boats <= 16 {
+        let mut memory = [0i32; 1024];
+        return run_on(state, book, sheet, layout, &mut memory);
+    }
+    if layout.boats <= 64 {
+        let mut memory = [0i32; 4096];
+        return run_on(state, book, sheet, layout, &mut memory);
+    }
+    let mut memory = [0i32; 16384];
+    run_on(state, book, sheet, layout, &mut memory)
 }
 
 // The first `count` slots of `to` as those of `from`; later slots as they were.

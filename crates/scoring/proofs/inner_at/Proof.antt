@@ -1,7 +1,8 @@
 use borrow.Author.Needs.{needs}
 use Prim.Native.Nat.{_-_}
 use native.Mathlib.Omega.{arith}
-use Rattle.scoring.proofs.Sums.{Summed, sum-start, sum-end, sum-more, sum-fits, product-fits, entry-cast-fits, entry-cast-read, value-cast-fits, value-cast-read}
+use mir.Syntax.{w64}
+use Rattle.scoring.proofs.Sums.{Summed, sum-start, sum-end, sum-more, sum-fits, product-fits, wide-product, entry-cast-fits, entry-cast-read, value-cast-fits, value-cast-read}
 use Rattle.scoring.proofs.inner_at.Statement.{statement}
 use Rattle.scoring.proofs.inner_at.Tie as tie
 use Rattle.scoring.proofs.inner_at.Reads as reads
@@ -9,7 +10,7 @@ use Rattle.scoring.proofs.inner_at.Lts as lts
 use Rattle.files.proofs.value_at.Reads as value-at-reads
 
 abbrev Inv-loop : tie.InvT-loop
-Inv-loop r bytes at columns sum₀ i₀ sum i = Summed r bytes at columns i sum
+Inv-loop r bytes at columns sum₀ i₀ sum i = Summed w64 8519680000000 r bytes at columns i sum
 
 abbrev μ-loop : tie.MeasureT-loop
 μ-loop r bytes at columns sum₀ i₀ sum i = columns - i
@@ -48,11 +49,11 @@ cast-sum-2 c = search (needs, value-cast-fits)
 
 -- src/lib.rt:23:16
 mul-sum-2 : tie.Need-mul-sum-2 Inv-loop μ-loop
-mul-sum-2 c = product-fits (c .before .before .before .loop .inv) (c .before .before .before .before .before .pre .0) (c .before .before .before .before .before .pre .1) (c .before .before .loop-test .taken) (c .value-at .ensures) (entry-cast-read (c .before .before .before .before .before .pre .1) (c .before .before .loop-test .taken)) (value-cast-read _ (c .value-at .ensures))
+mul-sum-2 c = product-fits tt (c .before .before .before .loop .inv) (c .before .before .before .before .before .pre .0) (c .before .before .before .before .before .pre .1 .long) (c .before .before .loop-test .taken) (c .value-at .ensures) (entry-cast-read (c .before .before .before .before .before .pre .1) (c .before .before .loop-test .taken)) (value-cast-read _ (c .value-at .ensures)) (wide-product (c .before .before .before .before .before .pre .1) (c .before .before .loop-test .taken) _ (c .value-at .ensures) (entry-cast-read (c .before .before .before .before .before .pre .1) (c .before .before .loop-test .taken)) (value-cast-read _ (c .value-at .ensures)))
 
 -- src/lib.rt:23:9
 add-sum : tie.Need-add-sum Inv-loop μ-loop
-add-sum c = sum-fits (c .before .before .before .loop .inv) (c .before .before .before .before .before .pre .0) (c .before .before .before .before .before .pre .1) (c .before .before .loop-test .taken) (c .value-at .ensures) (entry-cast-read (c .before .before .before .before .before .pre .1) (c .before .before .loop-test .taken)) (value-cast-read _ (c .value-at .ensures))
+add-sum c = sum-fits tt (c .before .before .before .loop .inv) (c .before .before .before .before .before .pre .0) (c .before .before .before .before .before .pre .1 .long) (c .before .before .loop-test .taken) (c .value-at .ensures) (entry-cast-read (c .before .before .before .before .before .pre .1) (c .before .before .loop-test .taken)) (value-cast-read _ (c .value-at .ensures)) (wide-product (c .before .before .before .before .before .pre .1) (c .before .before .loop-test .taken) _ (c .value-at .ensures) (entry-cast-read (c .before .before .before .before .before .pre .1) (c .before .before .loop-test .taken)) (value-cast-read _ (c .value-at .ensures)))
 
 -- src/lib.rt:24:9
 add-i : tie.Need-add-i Inv-loop μ-loop
@@ -64,11 +65,11 @@ loop-less c = search needs
 
 -- src/lib.rt:22:5
 loop-again : tie.Need-loop-again Inv-loop μ-loop
-loop-again c = sum-more (c .before .before .before .loop .inv) (c .before .before .before .before .before .pre .0) (c .before .before .before .before .before .pre .1) (c .before .before .loop-test .taken) (c .value-at .ensures) (entry-cast-read (c .before .before .before .before .before .pre .1) (c .before .before .loop-test .taken)) (value-cast-read _ (c .value-at .ensures))
+loop-again c = sum-more tt (c .before .before .before .loop .inv) (c .before .before .before .before .before .pre .0) (c .before .before .before .before .before .pre .1 .long) (c .before .before .loop-test .taken) (c .value-at .ensures) (entry-cast-read (c .before .before .before .before .before .pre .1) (c .before .before .loop-test .taken)) (value-cast-read _ (c .value-at .ensures)) (wide-product (c .before .before .before .before .before .pre .1) (c .before .before .loop-test .taken) _ (c .value-at .ensures) (entry-cast-read (c .before .before .before .before .before .pre .1) (c .before .before .loop-test .taken)) (value-cast-read _ (c .value-at .ensures)))
 
 -- src/lib.rt:15:1
 returns : tie.Need-returns Inv-loop μ-loop
-returns c = search (needs, sum-end)
+returns c = sum-end tt (c .before .loop .inv) (c .before .before .before .pre .0) (c .loop-test .left)
 
 pub inner-at-spec : {M : Type 1} → statement M
 inner-at-spec =

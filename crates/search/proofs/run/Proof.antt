@@ -1,8 +1,8 @@
-use Prim.Native.Nat.{_-_}
-use borrow.Author.Needs.{needs}
 use native.Mathlib.Omega.{arith}
-use Rattle.search.proofs.Runs.{Going, going-start, next-answerable, going-more, going-done}
-use Rattle.search.proofs.States.{sheet-fits}
+use Rattle.search.proofs.States.{sheet-fits, best-below}
+use Rattle.search.proofs.Memory.{room-for, room-always}
+use Rattle.search.proofs.Runs.{going-start, next-answerable, going-more, going-done}
+use borrow.Author.Needs.{needs}
 use Rattle.search.proofs.run.Statement.{statement}
 use Rattle.search.proofs.run.Tie as tie
 use Rattle.search.proofs.run.Reads as reads
@@ -13,66 +13,100 @@ use Rattle.search.proofs.State.answer.Reads as answer-reads
 use Rattle.search.proofs.State.fresh.Reads as fresh-reads
 use Rattle.search.proofs.State.next.Reads as next-reads
 use Rattle.search.proofs.layout_of.Reads as layout-of-reads
+use Rattle.search.proofs.products_of.Reads as products-of-reads
+use Rattle.search.proofs.run_on.Reads as run-on-reads
 
-abbrev Inv-loop : tie.InvT-loop
-Inv-loop book sheet layout steps state₀ state = Going book sheet state
+-- src/lib.rt:228:9
+layout-of-requires : tie.Need-layout-of-requires
+layout-of-requires c κs = search needs
 
-abbrev μ-loop : tie.MeasureT-loop
-μ-loop book sheet layout steps state₀ state = steps - state .steps
+-- src/lib.rt:229:9
+fresh-requires : tie.Need-fresh-requires
+fresh-requires c κs = search needs
 
--- src/lib.rt:159:9
-layout-of-requires : tie.Need-layout-of-requires Inv-loop μ-loop
-layout-of-requires c κs = c .before .before .pre
+-- src/lib.rt:230:15
+products-of-requires : tie.Need-products-of-requires
+products-of-requires c κs = (c .before .before .before .before .pre, (c .before .layout-of .ensures, best-below _ _ (c .before .before .before .before .pre) (c .fresh .ensures)))
 
--- src/lib.rt:160:9
-steps-requires : tie.Need-steps-requires Inv-loop μ-loop
-steps-requires c κs = sheet-fits _ _ (c .before .before .before .pre) .at-least
+-- src/lib.rt:231:49
+slice-aggregate-next : tie.Need-slice-aggregate-next
+slice-aggregate-next c = search needs
 
--- src/lib.rt:161:9
-fresh-requires : tie.Need-fresh-requires Inv-loop μ-loop
-fresh-requires c κs = (c .before .before .before .before .pre, c .before .layout-of .ensures)
+-- src/lib.rt:231:9
+next-requires : tie.Need-next-requires
+next-requires c κs = (c .before .before .before .before .before .before .pre, (c .before .before .before .layout-of .ensures, ((going-start _ _ (c .before .before .before .before .before .before .pre) (c .before .before .fresh .ensures)) .held, (omega (arith, c .before .before .fresh .ensures .steps-are), c .before .products-of .ensures))))
 
--- src/lib.rt:162:5
-loop-holds : tie.Need-loop-holds Inv-loop μ-loop
-loop-holds c = going-start _ _ (c .before .before .before .before .before .pre) (c .fresh .ensures)
+-- src/lib.rt:232:9
+answer-requires : tie.Need-answer-requires
+answer-requires c κs = next-answerable _ _ (c .before .before .before .before .before .before .before .pre) (going-start _ _ (c .before .before .before .before .before .before .before .pre) (c .before .before .before .fresh .ensures)) (c .next .ensures) (c .before .before .before .before .layout-of .ensures) (search needs)
 
--- src/lib.rt:163:9
-next-requires : tie.Need-next-requires Inv-loop μ-loop
-next-requires c κs = (c .before .before .before .before .before .before .pre, (c .before .before .before .layout-of .ensures, (c .loop .inv .held, omega (arith, c .loop .inv .left, sheet-fits _ _ (c .before .before .before .before .before .before .pre) .most-steps))))
+-- src/lib.rt:234:22
+steps-requires : tie.Need-steps-requires
+steps-requires c κs = sheet-fits _ _ (c .before .before .before .before .before .before .before .before .pre) .at-least
 
--- src/lib.rt:164:13
-answer-requires : tie.Need-answer-requires Inv-loop μ-loop
-answer-requires c κs = next-answerable _ _ (c .before .before .before .before .before .before .before .pre) (c .before .loop .inv) (c .next .ensures) (c .before .before .before .before .layout-of .ensures) (search needs)
-
--- src/lib.rt:166:12
-stops-requires : tie.Need-stops-requires Inv-loop μ-loop
+-- src/lib.rt:234:8
+stops-requires : tie.Need-stops-requires
 stops-requires c κs = search needs
 
--- src/lib.rt:168:13
-returns : tie.Need-returns Inv-loop μ-loop
-returns c = going-done _ _ (c .before .before .before .before .before .before .before .before .before .before .before .pre) (c .before .before .before .before .before .loop .inv) (c .before .before .before .before .next .ensures) (c .before .before .before .before .before .before .before .before .layout-of .ensures) (search (needs, c .before .before .before .before .next .ok)) (c .before .before .before .answer .ensures) (c .before .before .before .before .before .before .before .steps .ensures) (c .before .before .stops .ensures) (c .before .if1 .taken)
+-- src/lib.rt:236:9
+returns : tie.Need-returns
+returns c = going-done _ _ (c .before .before .before .before .before .before .before .before .before .before .before .before .pre) (going-start _ _ (c .before .before .before .before .before .before .before .before .before .before .before .before .pre) (c .before .before .before .before .before .before .before .before .fresh .ensures)) (c .before .before .before .before .before .next .ensures) (c .before .before .before .before .before .before .before .before .before .layout-of .ensures) (search (needs, c .before .before .before .before .before .next .ok)) (c .before .before .before .before .answer .ensures) (c .before .before .before .steps .ensures) (c .before .before .stops .ensures) (c .before .if1 .taken)
 
--- src/lib.rt:162:5
-loop-less : tie.Need-loop-less Inv-loop μ-loop
-loop-less c = omega (arith, c .before .before .before .next .ensures .steps-are, c .before .before .before .before .loop .inv .left, c .before .before .before .before .before .before .steps .ensures)
+-- src/lib.rt:240:51
+slice-aggregate-run-on : tie.Need-slice-aggregate-run-on
+slice-aggregate-run-on c = search needs
 
--- src/lib.rt:162:5
-loop-again : tie.Need-loop-again Inv-loop μ-loop
-loop-again c = going-more _ _ (c .before .before .before .before .before .before .before .before .before .before .pre) (c .before .before .before .before .loop .inv) (c .before .before .before .next .ensures) (c .before .before .before .before .before .before .before .layout-of .ensures) (search (needs, c .before .before .before .next .ok)) (c .before .before .answer .ensures) (c .before .before .before .before .before .before .steps .ensures) (c .before .stops .ensures) (c .if1 .left)
+-- src/lib.rt:240:9
+run-on-requires : tie.Need-run-on-requires
+run-on-requires c κs = (c .before .before .before .before .before .before .before .before .before .before .before .before .before .before .pre, (c .before .before .before .before .before .before .before .before .before .before .before .layout-of .ensures, (going-more _ _ (c .before .before .before .before .before .before .before .before .before .before .before .before .before .before .pre) (going-start _ _ (c .before .before .before .before .before .before .before .before .before .before .before .before .before .before .pre) (c .before .before .before .before .before .before .before .before .before .before .fresh .ensures)) (c .before .before .before .before .before .before .before .next .ensures) (c .before .before .before .before .before .before .before .before .before .before .before .layout-of .ensures) (search (needs, c .before .before .before .before .before .before .before .next .ok)) (c .before .before .before .before .before .before .answer .ensures) (c .before .before .before .before .before .steps .ensures) (c .before .before .before .before .stops .ensures) (c .before .before .before .if1 .left), room-for _ _ 16 (c .before .before .before .before .before .before .before .before .before .before .before .layout-of .ensures) (c .before .if2 .taken))))
+
+-- src/lib.rt:240:9
+returns-2 : tie.Need-returns-2
+returns-2 c = search needs
+
+-- src/lib.rt:244:51
+slice-aggregate-run-on-2 : tie.Need-slice-aggregate-run-on-2
+slice-aggregate-run-on-2 c = search needs
+
+-- src/lib.rt:244:9
+run-on-requires-2 : tie.Need-run-on-requires-2
+run-on-requires-2 c κs = (c .before .before .before .before .before .before .before .before .before .before .before .before .before .before .before .before .pre, (c .before .before .before .before .before .before .before .before .before .before .before .before .before .layout-of .ensures, (going-more _ _ (c .before .before .before .before .before .before .before .before .before .before .before .before .before .before .before .before .pre) (going-start _ _ (c .before .before .before .before .before .before .before .before .before .before .before .before .before .before .before .before .pre) (c .before .before .before .before .before .before .before .before .before .before .before .before .fresh .ensures)) (c .before .before .before .before .before .before .before .before .before .next .ensures) (c .before .before .before .before .before .before .before .before .before .before .before .before .before .layout-of .ensures) (search (needs, c .before .before .before .before .before .before .before .before .before .next .ok)) (c .before .before .before .before .before .before .before .before .answer .ensures) (c .before .before .before .before .before .before .before .steps .ensures) (c .before .before .before .before .before .before .stops .ensures) (c .before .before .before .before .before .if1 .left), room-for _ _ 64 (c .before .before .before .before .before .before .before .before .before .before .before .before .before .layout-of .ensures) (c .before .if3 .taken))))
+
+-- src/lib.rt:244:9
+returns-3 : tie.Need-returns-3
+returns-3 c = search needs
+
+-- src/lib.rt:247:40
+slice-aggregate-run-on-3 : tie.Need-slice-aggregate-run-on-3
+slice-aggregate-run-on-3 c = search needs
+
+-- src/lib.rt:247:5
+run-on-requires-3 : tie.Need-run-on-requires-3
+run-on-requires-3 c κs = (c .before .before .before .before .before .before .before .before .before .before .before .before .before .before .before .before .pre, (c .before .before .before .before .before .before .before .before .before .before .before .before .before .layout-of .ensures, (going-more _ _ (c .before .before .before .before .before .before .before .before .before .before .before .before .before .before .before .before .pre) (going-start _ _ (c .before .before .before .before .before .before .before .before .before .before .before .before .before .before .before .before .pre) (c .before .before .before .before .before .before .before .before .before .before .before .before .fresh .ensures)) (c .before .before .before .before .before .before .before .before .before .next .ensures) (c .before .before .before .before .before .before .before .before .before .before .before .before .before .layout-of .ensures) (search (needs, c .before .before .before .before .before .before .before .before .before .next .ok)) (c .before .before .before .before .before .before .before .before .answer .ensures) (c .before .before .before .before .before .before .before .steps .ensures) (c .before .before .before .before .before .before .stops .ensures) (c .before .before .before .before .before .if1 .left), room-always _ _ (c .before .before .before .before .before .before .before .before .before .before .before .before .before .before .before .before .pre))))
+
+-- src/lib.rt:224:1
+returns-4 : tie.Need-returns-4
+returns-4 c = search needs
 
 pub run-spec : {M : Type 1} → statement M
 run-spec =
     tie.close
     (tie.spec
-    Inv-loop
-    μ-loop
     layout-of-requires
-    steps-requires
     fresh-requires
-    loop-holds
+    products-of-requires
+    slice-aggregate-next
     next-requires
     answer-requires
+    steps-requires
     stops-requires
     returns
-    loop-less
-    loop-again)
+    slice-aggregate-run-on
+    run-on-requires
+    returns-2
+    slice-aggregate-run-on-2
+    run-on-requires-2
+    returns-3
+    slice-aggregate-run-on-3
+    run-on-requires-3
+    returns-4)
