@@ -1,0 +1,183 @@
+-- The outcomes of `check_card`: refused by the files, a short share list, the card's form or its numbers, or answered.
+use mathlib.Core.Path.{_≡_, refl, sym, ap, _∙_}
+use mathlib.Core.Bool.{Bool, true, false, _&&_, not, cond}
+use mathlib.Core.List.{List, [], _∷_, _++_}
+use Prim.Native.Nat.{ℕ, zero, suc, _+_, _*_, _-_, _≤_, _<_}
+use native.Mathlib.Omega.{arith}
+use borrow.Author.Tests.{ltb-true, lt-ltb, le-ltb}
+use lib.Dec.{eqb, ltb, leb, eqb·suc-zero}
+use lib.ListN.{length, take, drop, set, replicate, length-replicate, length-set}
+use lib.Seq.{take-at, take-set-lt, length-take-le}
+use Rattle.files.specs.Bytes.{all-bytes, number, same, between, length-in-range, trailer}
+use Rattle.files.specs.Book.{boats, columns}
+use Rattle.files.specs.Sheet.{sheet, files-refusal}
+use Rattle.files.proofs.Refusal.{and-true}
+use Rattle.method.specs.declared.Answer.{Answer}
+use Rattle.method.specs.declared.Searched.{Searched}
+use Rattle.method.specs.declared.Searched.the-variants.{Refused, Answered}
+use Rattle.method.specs.Answers.{outcome, search-refusal, slots-after}
+use Rattle.search.specs.declared.Layout.{Layout}
+use Rattle.search.specs.States.{file-layout}
+use Rattle.search.proofs.States.{book-fits}
+use Rattle.card_format.specs.Format.{WCD1, card-fields, card-body, pair-count, shares-into, card-shares, card-answer}
+use Rattle.card_format.specs.Checks.{back-fits, pairs-in-order, card-refusal, check-refusal}
+use Rattle.card_format.specs.Truth.{Card-vouches, Accepted-vouches}
+use Rattle.card_format.proofs.Vouches.{accepted-vouches}
+use Rattle.card_input.specs.Forms.{form-refusal, counts-agree, steps-fit}
+use Rattle.card_input.proofs.Reading.{boat-below, order-at, into-at, back-fours, into-more, order-more}
+use Rattle.card.specs.Checking.{truth-refusal, Check-right}
+use Rattle.card.proofs.Judging.{Formed, formed}
+
+-- ---- A card's refusal: its form's, else its truth's
+
+chain : (g₁ g₂ g₃ g₄ g₅ g₆ : Bool) (x : ℕ) →
+    cond (not g₁) 31 (cond (not g₂) 32 (cond (not g₃) 33 (cond (not g₄) 34 (cond (not g₅) 35 (cond (not g₆) 36 x)))))
+    ≡ cond (eqb (cond (not g₁) 31 (cond (not g₂) 32 (cond (not g₃) 33 (cond (not g₄) 34 (cond (not g₅) 35 (cond (not g₆) 36 0)))))) 0) x
+    (cond (not g₁) 31 (cond (not g₂) 32 (cond (not g₃) 33 (cond (not g₄) 34 (cond (not g₅) 35 (cond (not g₆) 36 0))))))
+chain false g₂ g₃ g₄ g₅ g₆ x = refl
+chain true false g₃ g₄ g₅ g₆ x = refl
+chain true true false g₄ g₅ g₆ x = refl
+chain true true true false g₅ g₆ x = refl
+chain true true true true false g₆ x = refl
+chain true true true true true false x = refl
+chain true true true true true true x = refl
+
+card-parts : (b s w : List ℕ) → card-refusal b s w ≡
+    cond (eqb (form-refusal (boats b) (columns b) (sheet s .steps) w) 0) (truth-refusal b s w) (form-refusal (boats b) (columns b) (sheet s .steps) w)
+unfolding card-refusal form-refusal truth-refusal counts-agree steps-fit
+card-parts b s w =
+    chain (length-in-range 36 w) (same (drop 32 (trailer 36 w)) WCD1) (eqb (card-fields w .boats) (boats b) && eqb (card-fields w .columns) (columns b))
+    (between 1 3 (card-fields w .verdict) && between 1 (sheet s .steps) (card-fields w .steps)) (back-fits (boats b) (card-fields w .back) w)
+    (pairs-in-order (pair-count w) 0 (boats b) (card-body w)) (truth-refusal b s w)
+
+-- ---- The shares of the pairs
+
+take-zeros : (n m : ℕ) → n ≤ m → take {A = ℕ} n (replicate m 0) ≡ replicate n 0
+take-zeros zero m h = refl
+take-zeros (suc n) zero h = absurd (omega arith)
+take-zeros (suc n) (suc m) h = ap (λ l. 0 ∷ l) (take-zeros n m (omega arith))
+
+into-none : (bs qs : List ℕ) → shares-into 0 bs qs ≡ qs
+unfolding shares-into
+into-none bs qs = refl
+
+-- pairs of boats below n leave later slots alone
+take-into : (k next n : ℕ) (bs qs : List ℕ) → pairs-in-order k next n bs ≡ true → take n (shares-into k bs qs) ≡ shares-into k bs (take n qs)
+take-into zero next n bs qs o = ap (take n) (into-none bs qs) ∙ sym (into-none bs (take n qs))
+take-into (suc k) next n bs qs o =
+    let below : number 0 2 bs < n = boat-below (suc k) next n 0 bs o (omega arith) in
+    let rest = and-true (leb next (number 0 2 bs) && (ltb (number 0 2 bs) n && ltb 0 (number 2 2 bs))) _ (rw order-more at o) .1 in
+    rw (into-more k bs qs, into-more k bs (take n qs), take-into k (suc (number 0 2 bs)) n (drop 4 bs) (set qs (number 0 2 bs) (number 2 2 bs)) rest, take-set-lt n qs (number 0 2 bs) (number 2 2 bs) below)
+
+-- boats below n are below m
+order-wider : (k next n m : ℕ) (bs : List ℕ) → n ≤ m → pairs-in-order k next n bs ≡ true → pairs-in-order k next m bs ≡ true
+order-wider k next n m bs h o = wide k next bs o
+  where
+    wide : (k next : ℕ) (bs : List ℕ) → pairs-in-order k next n bs ≡ true → pairs-in-order k next m bs ≡ true
+    wide zero next bs o = unfold pairs-in-order in refl
+    wide (suc k) next bs o =
+        let p = and-true (leb next (number 0 2 bs) && (ltb (number 0 2 bs) n && ltb 0 (number 2 2 bs))) _ (rw order-more at o) in
+        let q = and-true (leb next (number 0 2 bs)) _ (p .0) in
+        let t = and-true (ltb (number 0 2 bs) n) _ (q .1) in
+        let below : number 0 2 bs < n = ltb-true (number 0 2 bs) n (t .0) in
+        rw order-more (simp (q .0, lt-ltb (number 0 2 bs) m (omega arith), t .1, wide k (suc (number 0 2 bs)) (drop 4 bs) (p .1)))
+
+module _ (b s w : List ℕ) (ok : files-refusal b s ≡ 0) (f : form-refusal (boats b) (columns b) (sheet s .steps) w ≡ 0) {k : ℕ} (ek : k ≡ pair-count w) where
+  is-formed : Formed (boats b) (sheet s .steps) w
+  is-formed = formed (boats b) (columns b) (sheet s .steps) w f
+
+  in-order : pairs-in-order k 0 (boats b) (drop (length w - 36 - 4 * k) w) ≡ true
+  in-order = rw ek (order-at (is-formed .back) ∙ is-formed .ordered)
+
+  pub pairs-room : 4 * k ≤ length w - 36
+  pairs-room = omega (arith, ek, back-fours (is-formed .back), is-formed .back .inside)
+
+  pub pairs-asked : (length w - 36 - 4 * k + 4 * k ≤ length w) × (pairs-in-order k 0 256 (drop (length w - 36 - 4 * k) w) ≡ true)
+  pairs-asked = (omega (arith, pairs-room), order-wider k 0 (boats b) 256 (drop (length w - 36 - 4 * k) w) (book-fits b s ok .most-boats) in-order)
+
+  pub found-are : {found : List ℕ} → found ≡ shares-into k (drop (length w - 36 - 4 * k) w) (replicate 256 0) → take (boats b) found ≡ card-shares (boats b) w
+  unfolding card-shares
+  found-are e =
+      ap (take (boats b)) e ∙ take-into k 0 (boats b) (drop (length w - 36 - 4 * k) w) (replicate 256 0) in-order
+      ∙ rw (take-zeros (boats b) 256 (book-fits b s ok .most-boats), ek) (into-at (is-formed .back) (replicate (boats b) 0))
+
+pub layout-boats : (b s : List ℕ) → files-refusal b s ≡ 0 → {l : Layout} → l ≡ file-layout b s → l .boats ≤ 256
+unfolding file-layout
+layout-boats b s ok e = rw e (book-fits b s ok .most-boats)
+
+-- ---- Outcomes
+
+outcome-refused : (n m : ℕ) (a : Answer) → Refused m ≡ outcome n a → (n ≡ m) × (n ≡ 0 → ⊥)
+unfolding outcome
+outcome-refused zero m a e = absurd (let z : _≡_ {A = ℕ} 0 1 = cc in omega arith)
+outcome-refused (suc n) m a e = (cc, λ q. omega arith)
+
+outcome-answered : (n : ℕ) (a x : Answer) → Answered x ≡ outcome n a → (n ≡ 0) × (x ≡ a)
+unfolding outcome
+outcome-answered zero a x e = (refl, cc)
+outcome-answered (suc n) a x e = absurd (let z : _≡_ {A = ℕ} 0 1 = cc in omega arith)
+
+module _ (b s w slots : List ℕ) where
+  -- what the check gives back and leaves in the list, by the refusal number
+  abbrev pub Gives : (refusal : ℕ) → Searched → List ℕ → Type 0
+  Gives n r now = (r ≡ outcome n (card-answer b s w)) × ((now ≡ slots-after n (card-shares (boats b) w) slots) × Check-right b s w r now)
+
+  refused : (n : ℕ) → (n ≡ 0 → ⊥) → Gives n (Refused n) slots
+  unfolding outcome slots-after Check-right
+  refused zero h = absurd (h refl)
+  refused (suc n) h = (refl, (refl, omega arith))
+
+  pub refused-by-files : (n : ℕ) → n ≡ files-refusal b s → (n ≡ 0 → ⊥) → Gives (check-refusal b s w (length slots)) (Refused n) slots
+  unfolding check-refusal search-refusal
+  refused-by-files zero e h = absurd (h refl)
+  refused-by-files (suc n) e h = rw (← e, eqb·suc-zero n, eqb·suc-zero n) (refused (suc n) h)
+
+  module _ (ok : files-refusal b s ≡ 0) {l : Layout} (el : l ≡ file-layout b s) where
+    pub refused-short : length slots < l .boats → Gives (check-refusal b s w (length slots)) (Refused 21) slots
+    unfolding check-refusal search-refusal outcome slots-after Check-right file-layout
+    refused-short h = let k : ltb (length slots) (boats b) ≡ true = lt-ltb (length slots) (boats b) (rw el at h) in rw (ok, k) (refl, (refl, omega arith))
+
+    module _ (room : l .boats ≤ length slots) where
+      by-card : check-refusal b s w (length slots) ≡ card-refusal b s w
+      unfolding check-refusal search-refusal file-layout
+      by-card = let k : ltb (length slots) (boats b) ≡ false = le-ltb (length slots) (boats b) (rw el at room) in rw (ok, k)
+
+      -- the form as the code has it
+      module _ {n c k : ℕ} (ec : c ≡ l .columns) (ek : k ≡ sheet s .steps) (en : n ≡ form-refusal (l .boats) c k w) where
+        form-is : n ≡ form-refusal (boats b) (columns b) (sheet s .steps) w
+        unfolding file-layout
+        form-is = en ∙ rw (ec, ek, el)
+
+        pub refused-by-form : (n ≡ 0 → ⊥) → Gives (check-refusal b s w (length slots)) (Refused n) slots
+        refused-by-form h = by n form-is h
+          where
+            by : (n : ℕ) → n ≡ form-refusal (boats b) (columns b) (sheet s .steps) w → (n ≡ 0 → ⊥) → Gives (check-refusal b s w (length slots)) (Refused n) slots
+            by zero e h = absurd (h refl)
+            by (suc n) e h = rw (by-card, card-parts b s w, ← e, eqb·suc-zero n) (refused (suc n) h)
+
+        module _ (zn : n ≡ 0) where
+          pub form-zero : form-refusal (boats b) (columns b) (sheet s .steps) w ≡ 0
+          form-zero = sym form-is ∙ zn
+
+          by-truth : check-refusal b s w (length slots) ≡ truth-refusal b s w
+          by-truth = by-card ∙ card-parts b s w ∙ rw form-zero
+
+          pub refused-by-truth : (m : ℕ) → Refused m ≡ outcome (truth-refusal b s w) (card-answer b s w) → Gives (check-refusal b s w (length slots)) (Refused m) slots
+          refused-by-truth m e =
+              let p = outcome-refused (truth-refusal b s w) m (card-answer b s w) e in
+              rw (by-truth, p .0) (refused m (rw (p .0) at (p .1)))
+
+          module _ (all : all-bytes w ≡ true) (found : List ℕ) (ef : take (boats b) found ≡ card-shares (boats b) w) (lf : length found ≡ 256) where
+            share-count : length (card-shares (boats b) w) ≡ boats b
+            share-count = sym (ap length ef) ∙ length-take-le (boats b) found (omega (arith, book-fits b s ok .most-boats))
+
+            pub answered : {now : List ℕ} → now ≡ take (l .boats) found ++ drop (l .boats) slots → (a : Answer) → Answered a ≡ outcome (truth-refusal b s w) (card-answer b s w) →
+                Gives (check-refusal b s w (length slots)) (Answered a) now
+            unfolding outcome slots-after Check-right file-layout Accepted-vouches
+            answered {now} e a h =
+                let p = outcome-answered (truth-refusal b s w) (card-answer b s w) a h in
+                let q : check-refusal b s w (length slots) ≡ 0 = by-truth ∙ p .0 in
+                let z : card-refusal b s w ≡ 0 = sym by-card ∙ q in
+                let r : now ≡ card-shares (boats b) w ++ drop (boats b) slots = e ∙ rw (el, ef) in
+                let v : take (boats b) now ≡ card-shares (boats b) w = ap (take (boats b)) r ∙ take-at (card-shares (boats b) w) (drop (boats b) slots) (boats b) share-count in
+                rw (q, p .1) (refl, (r ∙ rw share-count, rw v (accepted-vouches b s w ok all z)))

@@ -1,0 +1,86 @@
+-- The outcomes of `write_card`, refused by the files, refused by a short buffer, or filed, are those of the definitions.
+use mathlib.Core.Path.{_≡_, refl, sym, ap, _∙_}
+use mathlib.Core.Bool.{Bool, true, false, cond}
+use mathlib.Core.List.{List, [], _++_}
+use Prim.Native.Nat.{ℕ, zero, suc, _+_, _*_, _≤_, _<_}
+use native.Mathlib.Nat.{zero-add}
+use native.Mathlib.Omega.{arith}
+use borrow.Author.Tests.{eqb-true, lt-ltb, le-ltb}
+use lib.Dec.{eqb, ltb, eqb·suc-zero}
+use lib.ListN.{length, take, drop}
+use lib.Seq.{take-at}
+use Rattle.files.specs.Book.{boats, columns}
+use Rattle.files.specs.Sheet.{sheet, files-refusal}
+use Rattle.method.specs.declared.Answer.{Answer}
+use Rattle.method.specs.Iterates.{support}
+use Rattle.method.specs.Answers.{slots-after, run-answer, run-iterate}
+use Rattle.method.proofs.Promise.{run-right}
+use Rattle.search.specs.declared.Ran.{Ran}
+use Rattle.search.specs.States.{Run-of}
+use Rattle.card_format.specs.Format.{pairs, trailer-bytes, answer-fields, card-bytes, card-shares, run-card}
+use Rattle.card_format.specs.Checks.{write-refusal, card-refusal}
+use Rattle.card_format.specs.Truth.{Written-accepted, Written-short}
+use Rattle.card_format.proofs.Written.{run-pairs-length, run-card-length, written-accepted, written-short}
+use Rattle.card_output.specs.Output.{placed}
+use Rattle.card_output.proofs.Placing.{placed-next}
+use Rattle.card.specs.declared.Written.{Written}
+use Rattle.card.specs.declared.Written.the-variants.{Refused, Filed}
+use Rattle.card.specs.Filing.{filing, Filed-right, Filing-right}
+
+module _ (b s out : List ℕ) where
+  -- what the writer gives back and leaves in the buffer, by the refusal number
+  abbrev pub Gives : (refusal : ℕ) → Written → List ℕ → Type 0
+  Gives n r now = (r ≡ filing n (run-answer b s) (length (run-card b s))) × ((now ≡ slots-after n (run-card b s) out) × Filing-right b s r now)
+
+  refused : (n : ℕ) → (n ≡ 0 → ⊥) → Gives n (Refused n) out
+  unfolding filing slots-after Filing-right
+  refused zero h = absurd (h refl)
+  refused (suc n) h = (refl, (refl, omega arith))
+
+  pub refused-by-files : (n : ℕ) → n ≡ files-refusal b s → (n ≡ 0 → ⊥) → Gives (write-refusal b s (length out)) (Refused n) out
+  unfolding write-refusal
+  refused-by-files zero e h = absurd (h refl)
+  refused-by-files (suc n) e h = rw (← e, eqb·suc-zero n) (refused (suc n) h)
+
+  module _ (ok : files-refusal b s ≡ 0) {n : ℕ} (en : n ≡ boats b) {r : Ran} (R : Run-of b s r) (k : ℕ) (ek : k ≡ support (take n (r .shares))) where
+    shares-are : take n (r .shares) ≡ run-iterate b s .shares
+    shares-are = rw en (R .shares-are)
+
+    size-is : length (run-card b s) ≡ 4 * k + 36
+    size-is = run-card-length b s ok ∙ rw (ek, shares-are)
+
+    pairs-size : length (pairs 0 (take n (r .shares))) ≡ 4 * k
+    pairs-size = rw (ek, shares-are) (run-pairs-length b s ok)
+
+    pub refused-short : length out < 4 * k + 36 → Gives (write-refusal b s (length out)) (Refused 22) out
+    unfolding write-refusal filing slots-after Filing-right
+    refused-short h = let q : ltb (length out) (length (run-card b s)) ≡ true = lt-ltb (length out) (length (run-card b s)) (rw size-is h) in rw (ok, q) (refl, (refl, omega arith))
+
+    module _ (room : 4 * k + 36 ≤ length out) where
+      pub pairs-fit : length (pairs 0 (take n (r .shares))) ≤ length out
+      pairs-fit = omega (arith, pairs-size)
+
+      module _ (now₁ now₂ : List ℕ) (e₁ : now₁ ≡ placed out 0 (pairs 0 (take n (r .shares)))) (τ c : ℕ) (eτ : τ ≡ sheet s .tolerance) (ec : c ≡ columns b)
+          (e₂ : now₂ ≡ placed now₁ (4 * k) (trailer-bytes (answer-fields (r .answer) (4 * k) τ n c))) where
+        card-is : pairs 0 (take n (r .shares)) ++ trailer-bytes (answer-fields (r .answer) (4 * k) τ n c) ≡ run-card b s
+        unfolding run-card card-bytes
+        card-is = rw (← pairs-size, eτ, ec, R .answer-is, shares-are, en)
+
+        buffer-is : now₂ ≡ run-card b s ++ drop (length (run-card b s)) out
+        unfolding placed
+        buffer-is =
+            (unfold placed in placed-next out 0 (pairs 0 (take n (r .shares))) (trailer-bytes (answer-fields (r .answer) (4 * k) τ n c)) (4 * k) e₁ e₂ (omega (arith, pairs-size)) (omega (arith, pairs-size)))
+            ∙ rw (card-is, zero-add (length (run-card b s)))
+
+        filed-right : Filed-right b s (r .answer) (take (4 * k + 36) now₂)
+        unfolding Written-accepted Written-short
+        filed-right =
+            let e : take (4 * k + 36) now₂ ≡ run-card b s = ap (take (4 * k + 36)) buffer-is ∙ take-at (run-card b s) (drop (length (run-card b s)) out) (4 * k + 36) size-is in
+            let w = written-accepted b s [] ok (omega (arith, written-short b s ok)) in
+            record { card-is = e; accepted = rw e (w .0); right = rw (e, w .2, R .answer-is) (run-right b s ok) }
+
+        pub filed : Gives (write-refusal b s (length out)) (Filed (r .answer) (4 * k + 36)) now₂
+        unfolding write-refusal filing slots-after Filing-right
+        filed =
+            let q : ltb (length out) (length (run-card b s)) ≡ false = le-ltb (length out) (length (run-card b s)) (rw size-is room) in
+            rw (ok, q) (rw (R .answer-is, size-is), (buffer-is, filed-right))

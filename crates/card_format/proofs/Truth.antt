@@ -1,0 +1,308 @@
+-- A card is accepted exactly when it is well formed and true.
+use mathlib.Core.Path.{_≡_, refl, sym, ap, ap₂, _∙_}
+use mathlib.Core.Bool.{Bool, true, false, _&&_, not, cond}
+use mathlib.Core.List.{List, [], _∷_, _++_}
+use Prim.Native.Nat.{ℕ, zero, suc, _+_, _*_, _-_, _/_, _%_, _≤_, _<_}
+use native.Mathlib.Nat.{le-refl, lt-of-le-of-lt}
+use native.Mathlib.Omega.{arith}
+use borrow.Author.Tests.{eqb-true, eq-eqb, ne-eqb, leb-true, le-leb, ltb-true, lt-ltb}
+use lib.Dec.{eqb, leb, ltb}
+use lib.ListN.{length, getD, take, drop, replicate, length-drop}
+use lib.Seq.{length-take-le}
+use Rattle.frank_wolfe.specs.Vectors.{sum}
+use Rattle.files.specs.Bytes.{all-bytes, number, same, between, length-in-range, trailer, body-offset, body, reaches}
+use Rattle.files.specs.Book.{rows, columns, boats}
+use Rattle.files.specs.Sheet.{sheet, files-refusal}
+use Rattle.files.proofs.Refusal.{and-true, between-true}
+use Rattle.files.proofs.Accepted.{files-accepted}
+use Rattle.method.specs.declared.Verdict.{Verdict}
+use Rattle.method.specs.declared.Verdict.the-variants.{Within, Beyond, Spent}
+use Rattle.method.specs.Iterates.{weight, support, distance, gap}
+use Rattle.method.specs.Answers.{verdict-number, stops, answer-at}
+use Rattle.method.specs.Bounds.{mixture-iterate}
+use Rattle.method.proofs.Weights.{weight-most, weight-positive, weight-fits}
+use Rattle.method.proofs.Shares.{Mixed, share-most, shares-mixed}
+use Rattle.method.proofs.Mixtures.{distance-most, gap-most}
+use Rattle.method.proofs.Accepted.{problem, in-range}
+use Rattle.card_format.specs.Format.{Fields, WCD1, pairs, trailer-bytes, fields, card-fields, card-body, pair-count, shares-into, card-shares, card-answer}
+use Rattle.card_format.specs.Checks.{back-fits, pairs-in-order, shares-total, numbers-agree, card-refusal}
+use Rattle.card_format.specs.Truth.{answer-of, Card-true}
+use Rattle.card_format.proofs.Bytes.{drop-bytes}
+use Rattle.card_format.proofs.Pairs.{Parsed, parse, Readable, readable}
+use Rattle.card_format.proofs.Trailer.{same-eq, Fields-fit, length-trailer, letters-written, fields-read, fields-written, file-length, file-trailer, file-body, file-parts}
+
+-- ---- The tests, one by one
+
+pub record Passed (b s w : List ℕ) : Type 0 where
+  pub sized : length-in-range 36 w ≡ true
+  pub letters : same (drop 32 (trailer 36 w)) WCD1 ≡ true
+  pub counts : eqb (card-fields w .boats) (boats b) && eqb (card-fields w .columns) (columns b) ≡ true
+  pub ranges : between 1 3 (card-fields w .verdict) && between 1 (sheet s .steps) (card-fields w .steps) ≡ true
+  pub back : back-fits (boats b) (card-fields w .back) w ≡ true
+  pub ordered : pairs-in-order (pair-count w) 0 (boats b) (card-body w) ≡ true
+  pub totals : shares-total (pair-count w) (card-shares (boats b) w) (card-fields w .steps) ≡ true
+  pub numbers : numbers-agree (sheet s .steps) w (card-answer b s w) ≡ true
+  pub tolerance : eqb (card-fields w .tolerance) (sheet s .tolerance) ≡ true
+
+pub passed : (g : Bool) (k x : ℕ) → cond (not g) (suc k) x ≡ 0 → (g ≡ true) × (x ≡ 0)
+passed true k x e = (refl, e)
+passed false k x e = absurd (omega arith)
+
+passed-last : (g : Bool) (k : ℕ) → cond g 0 (suc k) ≡ 0 → g ≡ true
+passed-last true k e = refl
+passed-last false k e = absurd (omega arith)
+
+pub all-passed : (b s w : List ℕ) → card-refusal b s w ≡ 0 → Passed b s w
+unfolding card-refusal
+all-passed b s w e =
+    let p1 = passed (length-in-range 36 w) 30 _ e in
+    let p2 = passed (same _ _) 31 _ (p1 .1) in
+    let p3 = passed (eqb (card-fields w .boats) (boats b) && eqb (card-fields w .columns) (columns b)) 32 _ (p2 .1) in
+    let p4 = passed (between 1 3 (card-fields w .verdict) && between 1 (sheet s .steps) (card-fields w .steps)) 33 _ (p3 .1) in
+    let p5 = passed (back-fits (boats b) (card-fields w .back) w) 34 _ (p4 .1) in
+    let p6 = passed (pairs-in-order (pair-count w) 0 (boats b) (card-body w)) 35 _ (p5 .1) in
+    let p7 = passed (shares-total (pair-count w) (card-shares (boats b) w) (card-fields w .steps)) 36 _ (p6 .1) in
+    let p8 = passed (numbers-agree (sheet s .steps) w (card-answer b s w)) 37 _ (p7 .1) in
+    record {
+      sized = p1 .0;
+      letters = p2 .0;
+      counts = p3 .0;
+      ranges = p4 .0;
+      back = p5 .0;
+      ordered = p6 .0;
+      totals = p7 .0;
+      numbers = p8 .0;
+      tolerance = passed-last _ 38 (p8 .1);
+    }
+
+passed-all : {b s w : List ℕ} → Passed b s w → card-refusal b s w ≡ 0
+unfolding card-refusal
+passed-all p = simp (p .sized, p .letters, p .counts, p .ranges, p .back, p .ordered, p .totals, p .numbers, p .tolerance)
+
+-- ---- What the tests say
+
+pub record Back-fits (n back : ℕ) (w : List ℕ) : Type 0 where
+  pub some : 0 < back
+  pub fours : back % 4 ≡ 0
+  pub few : back ≤ 4 * n
+  pub inside : back ≤ length w - 36
+
+pub back-means : (n back : ℕ) (w : List ℕ) → back-fits n back w ≡ true → Back-fits n back w
+unfolding back-fits reaches
+back-means n back w h =
+    let p = and-true (ltb 0 back && eqb (back % 4) 0) _ h in
+    let q = and-true (ltb 0 back) _ (p .0) in
+    let r = and-true (leb back (4 * n)) _ (p .1) in
+    record { some = ltb-true 0 back (q .0); fours = eqb-true (back % 4) 0 (q .1); few = leb-true back (4 * n) (r .0); inside = leb-true back (length w - 36) (r .1) }
+
+back-said : {n back : ℕ} {w : List ℕ} → Back-fits n back w → back-fits n back w ≡ true
+unfolding back-fits reaches
+back-said {n} {back} {w} h = simp (lt-ltb 0 back (h .some), eq-eqb (back % 4) 0 (h .fours), le-leb back (4 * n) (h .few), le-leb back (length w - 36) (h .inside))
+
+take-bytes : (k : ℕ) (xs : List ℕ) → all-bytes xs ≡ true → all-bytes (take k xs) ≡ true
+unfolding all-bytes
+take-bytes zero xs h = refl
+take-bytes (suc k) [] h = refl
+take-bytes (suc k) (x ∷ xs) h =
+    let p = and-true (ltb x 256) (all-bytes xs) h in
+    simp (p .0, take-bytes k xs (p .1))
+
+-- ---- An accepted card is true
+
+module _ (b s w : List ℕ) (all : all-bytes w ≡ true) (p : Passed b s w) where
+  own : Fields
+  own = card-fields w
+
+  long : (36 ≤ length w) × (length w ≤ 40000)
+  unfolding length-in-range
+  long = between-true 36 40000 (length w) (p .sized)
+
+  fits : Back-fits (boats b) (card-fields w .back) w
+  fits = back-means (boats b) (card-fields w .back) w (p .back)
+
+  body-length : length (card-body w) ≡ card-fields w .back
+  unfolding card-body body
+  body-length = length-take-le (card-fields w .back) _ (rw length-drop (omega (arith, long .0, fits .inside)))
+
+  body-bytes : all-bytes (card-body w) ≡ true
+  unfolding card-body body
+  body-bytes = take-bytes (card-fields w .back) _ (drop-bytes (body-offset 36 (card-fields w .back) w) w all)
+
+  parsed : Parsed (pair-count w) 0 (boats b) (card-body w)
+  unfolding pair-count
+  parsed = parse (boats b) (card-fields w .back / 4) 0 (boats b) (card-body w) (omega arith) body-bytes (body-length ∙ (omega (arith, fits .fours))) (unfold pair-count in p .ordered)
+
+  shares-are : card-shares (boats b) w ≡ parsed .shares
+  unfolding card-shares
+  shares-are = parsed .read [] refl
+
+  written : pairs 0 (card-shares (boats b) w) ≡ card-body w
+  written = rw shares-are (parsed .written)
+
+  trailer-length : length (trailer 36 w) ≡ 36
+  unfolding trailer
+  trailer-length = length-drop (length w - 36) w ∙ (omega (arith, long .0))
+
+  trailer-written : trailer-bytes (card-fields w) ≡ trailer 36 w
+  unfolding card-fields
+  trailer-written = fields-written (trailer 36 w) (unfold trailer in drop-bytes (length w - 36) w all) trailer-length (same-eq _ _ (p .letters))
+
+  numbers-are : (eqb (card-fields w .distance) (card-answer b s w .distance) && eqb (card-fields w .gap) (card-answer b s w .gap) ≡ true)
+      × (eqb (card-fields w .verdict) (verdict-number (card-answer b s w .verdict)) && stops (sheet s .steps) (card-fields w .steps) (card-answer b s w .verdict) ≡ true)
+  unfolding numbers-agree
+  numbers-are = and-true (eqb (card-fields w .distance) (card-answer b s w .distance) && eqb (card-fields w .gap) (card-answer b s w .gap)) _ (p .numbers)
+
+  passed-true : Card-true b s w
+  unfolding card-answer shares-total
+  passed-true =
+      let counts = and-true (eqb (card-fields w .boats) (boats b)) _ (p .counts) in
+      let n : card-fields w .boats ≡ boats b = eqb-true _ _ (counts .0) in
+      let ranges = and-true (between 1 3 (card-fields w .verdict)) _ (p .ranges) in
+      let steps = between-true 1 (sheet s .steps) (card-fields w .steps) (ranges .1) in
+      let totals = and-true (leb (pair-count w) (card-fields w .steps)) _ (p .totals) in
+      let eg = and-true (eqb (card-fields w .distance) (card-answer b s w .distance)) _ (numbers-are .0) in
+      let vs = and-true (eqb (card-fields w .verdict) (verdict-number (card-answer b s w .verdict))) _ (numbers-are .1) in
+      record {
+        front = take (length w - 36 - card-fields w .back) w;
+        shares = card-shares (boats b) w;
+        own = card-fields w;
+        layout = rw (written, trailer-written) (unfold card-body in file-parts w (card-fields w .back) (omega (arith, long .0, fits .inside)));
+        most-bytes = long .1;
+        back = sym (ap length written ∙ body-length);
+        boats = n;
+        columns = eqb-true _ _ (counts .1);
+        share-count = ap length shares-are ∙ parsed .share-count ∙ sym n;
+        total = eqb-true _ _ (totals .1);
+        few-boats = rw (shares-are, parsed .boats) (leb-true (pair-count w) (card-fields w .steps) (totals .0));
+        some-step = steps .0;
+        most-steps = steps .1;
+        distance = eqb-true _ _ (eg .0);
+        gap = eqb-true _ _ (eg .1);
+        verdict = eqb-true _ _ (vs .0);
+        stops-here = vs .1;
+        tolerance = eqb-true _ _ (p .tolerance);
+      }
+
+pub accepted-true : (b s w : List ℕ) → all-bytes w ≡ true → card-refusal b s w ≡ 0 → Card-true b s w
+accepted-true b s w all e = passed-true b s w all (all-passed b s w e)
+
+-- ---- A true card is accepted
+
+verdict-between : (v : Verdict) → (1 ≤ verdict-number v) × (verdict-number v ≤ 3)
+unfolding verdict-number
+verdict-between Within = (omega arith, omega arith)
+verdict-between (Beyond f) = (omega arith, omega arith)
+verdict-between (Spent n) = (omega arith, omega arith)
+
+between-said : {least most n : ℕ} → least ≤ n → n ≤ most → between least most n ≡ true
+unfolding between
+between-said {least} {most} {n} h k = simp (le-leb least n h, le-leb n most k)
+
+pub support-most : (qs : List ℕ) → support qs ≤ length qs
+unfolding support
+support-most [] = omega arith
+support-most (zero ∷ qs) = omega (arith, support-most qs)
+support-most (suc q ∷ qs) = rw (ne-eqb (suc q) 0 (λ e. omega arith)) (omega (arith, support-most qs))
+
+support-some : (qs : List ℕ) → 1 ≤ sum qs → 1 ≤ support qs
+unfolding support sum
+support-some [] h = h
+support-some (zero ∷ qs) h = omega (arith, support-some qs (omega arith))
+support-some (suc q ∷ qs) h = rw (ne-eqb (suc q) 0 (λ e. omega arith)) (omega arith)
+
+module _ (b s w : List ℕ) (ok : files-refusal b s ≡ 0) (c : Card-true b s w) where
+  pub few-steps : c .own .steps ≤ 360
+  few-steps = omega (arith, c .most-steps, files-accepted b s ok .1 .most-steps)
+
+  count : length (c .shares) ≡ boats b
+  count = c .share-count ∙ c .boats
+
+  share-fits : (j : ℕ) → getD (c .shares) j 0 < 65536
+  share-fits j = omega (arith, share-most (c .shares) j, c .total, weight-most few-steps)
+
+  reading : Readable 0 (boats b) (support (c .shares)) (pairs 0 (c .shares)) (c .shares)
+  reading = readable (c .shares) 0 (boats b) (omega (arith, count)) (omega (arith, files-accepted b s ok .0 .most-boats)) share-fits
+
+  pub own-mixed : Mixed (rows b) (columns b) (c .own .steps) (mixture-iterate (columns b) (c .shares) (rows b))
+  own-mixed = shares-mixed (rows b) (columns b) (c .own .steps) (c .shares) (count ∙ sym (files-accepted b s ok .0 .row-count)) (c .total)
+
+  pub own-distance-fits : answer-of b s (c .shares) (c .own .steps) .distance < 4611686018427387904
+  unfolding answer-at
+  own-distance-fits = lt-of-le-of-lt (distance-most (problem b s ok) (in-range b s ok) own-mixed) (weight-fits few-steps (le-refl 1024000000))
+
+  pub own-gap-fits : answer-of b s (c .shares) (c .own .steps) .gap < 4611686018427387904
+  unfolding answer-at
+  own-gap-fits = lt-of-le-of-lt (gap-most (problem b s ok) (in-range b s ok) own-mixed (weight-positive (c .some-step))) (weight-fits few-steps (le-refl 1024000000))
+
+  own-fits : Fields-fit (c .own)
+  own-fits =
+      let book = files-accepted b s ok .0 in
+      record {
+        back = omega (arith, c .back, reading .sized, support-most (c .shares), count, book .most-boats);
+        verdict = omega (arith, c .verdict, verdict-between (answer-of b s (c .shares) (c .own .steps) .verdict) .1);
+        steps = omega (arith, few-steps);
+        tolerance = omega (arith, c .tolerance, files-accepted b s ok .1 .most-tolerance);
+        distance = omega (arith, c .distance, own-distance-fits);
+        gap = omega (arith, c .gap, own-gap-fits);
+        boats = omega (arith, c .boats, book .most-boats);
+        columns = omega (arith, c .columns, book .most-columns);
+      }
+
+  trailer-is : trailer 36 w ≡ trailer-bytes (c .own)
+  trailer-is = ap (trailer 36) (c .layout) ∙ file-trailer (c .front) (pairs 0 (c .shares)) (trailer-bytes (c .own)) (length-trailer (c .own))
+
+  pub fields-are : card-fields w ≡ c .own
+  unfolding card-fields
+  fields-are = ap fields trailer-is ∙ fields-read (c .own) own-fits
+
+  back-is : card-fields w .back ≡ length (pairs 0 (c .shares))
+  back-is = rw fields-are (c .back)
+
+  body-is : card-body w ≡ pairs 0 (c .shares)
+  unfolding card-body
+  body-is =
+      ap (λ n. body 36 n w) back-is ∙ ap (body 36 (length (pairs 0 (c .shares)))) (c .layout)
+      ∙ file-body (c .front) (pairs 0 (c .shares)) (trailer-bytes (c .own)) (length-trailer (c .own))
+
+  count-is : pair-count w ≡ support (c .shares)
+  unfolding pair-count
+  count-is = omega (arith, back-is, reading .sized)
+
+  pub shares-back : card-shares (boats b) w ≡ c .shares
+  unfolding card-shares
+  shares-back = rw (count-is, body-is, ← count) (reading .read [] refl)
+
+  pub answer-is : card-answer b s w ≡ answer-of b s (c .shares) (c .own .steps)
+  unfolding card-answer
+  answer-is = rw (fields-are, shares-back)
+
+  file-size : length w ≡ length (c .front) + (length (pairs 0 (c .shares)) + 36)
+  file-size = ap length (c .layout) ∙ file-length (c .front) (pairs 0 (c .shares)) (trailer-bytes (c .own)) (length-trailer (c .own))
+
+  numbers-said : numbers-agree (sheet s .steps) w (card-answer b s w) ≡ true
+  unfolding numbers-agree
+  numbers-said = rw (answer-is, fields-are) (simp (eq-eqb _ _ (c .distance), eq-eqb _ _ (c .gap), eq-eqb _ _ (c .verdict), c .stops-here))
+
+  true-passed : Passed b s w
+  unfolding length-in-range shares-total
+  true-passed =
+      let v = verdict-between (answer-of b s (c .shares) (c .own .steps) .verdict) in
+      record {
+        sized = between-said (omega (arith, file-size)) (c .most-bytes);
+        letters = rw (trailer-is, letters-written) (unfold same in refl);
+        counts = rw fields-are (simp (eq-eqb _ _ (c .boats), eq-eqb _ _ (c .columns)));
+        ranges = rw fields-are (simp (between-said {least = 1} {most = 3} {n = c .own .verdict} (rw (c .verdict) (v .0)) (rw (c .verdict) (v .1)), between-said (c .some-step) (c .most-steps)));
+        back = back-said (rw back-is (record {
+          some = omega (arith, reading .sized, support-some (c .shares) (rw (c .total) (weight-positive (c .some-step))));
+          fours = omega (arith, reading .sized);
+          few = omega (arith, reading .sized, support-most (c .shares), count);
+          inside = omega (arith, file-size);
+        }));
+        ordered = rw (count-is, body-is) (reading .ordered);
+        totals = rw (count-is, shares-back, fields-are) (simp (le-leb _ _ (c .few-boats), eq-eqb _ _ (c .total)));
+        numbers = numbers-said;
+        tolerance = rw fields-are (eq-eqb _ _ (c .tolerance));
+      }
+
+  pub true-accepted : card-refusal b s w ≡ 0
+  true-accepted = passed-all true-passed

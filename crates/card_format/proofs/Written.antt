@@ -1,0 +1,81 @@
+-- The card of a run is true, so it is accepted and reads back as the run's answer and shares, behind any front text that it has room for.
+use mathlib.Core.Path.{_≡_, refl, sym, ap, _∙_}
+use mathlib.Core.List.{List, _++_}
+use Prim.Native.Nat.{ℕ, _+_, _*_, _≤_, _<_}
+use native.Mathlib.Omega.{arith}
+use lib.ListN.{length, getD, length-append}
+use Rattle.files.specs.Book.{rows, columns, boats}
+use Rattle.files.specs.Sheet.{sheet, files-refusal}
+use Rattle.files.proofs.Accepted.{files-accepted}
+use Rattle.method.specs.Iterates.{support}
+use Rattle.method.specs.Answers.{verdict-number, answer-at, steps-used, run-iterate, run-answer}
+use Rattle.method.specs.Bounds.{Run-bounds}
+use Rattle.method.proofs.Shares.{mixed-is, share-most}
+use Rattle.method.proofs.Weights.{weight-most}
+use Rattle.method.proofs.Accepted.{mixed}
+use Rattle.method.proofs.Bounds.{run-bounds}
+use Rattle.card_format.specs.Format.{pairs, trailer-bytes, answer-fields, card-bytes, run-card}
+use Rattle.card_format.specs.Truth.{answer-of, Card-true, Written-accepted, Written-short}
+use Rattle.card_format.proofs.Pairs.{readable}
+use Rattle.card_format.proofs.Trailer.{length-trailer}
+use Rattle.card_format.proofs.Truth.{support-most, shares-back, answer-is, true-accepted}
+
+module _ (b s : List ℕ) (ok : files-refusal b s ≡ 0) where
+  bounds : Run-bounds b s (run-answer b s) (run-iterate b s .shares)
+  bounds = run-bounds b s ok
+
+  -- the run's answer is that of its shares
+  run-is : run-answer b s ≡ answer-of b s (run-iterate b s .shares) (run-answer b s .steps)
+  unfolding run-answer run-iterate answer-at
+  run-is = unfold answer-at in ap (answer-at (rows b) (sheet s) (steps-used (rows b) (sheet s) (columns b))) (mixed-is (mixed b s ok (steps-used (rows b) (sheet s) (columns b))))
+
+  share-fits : (j : ℕ) → getD (run-iterate b s .shares) j 0 < 65536
+  share-fits j =
+      omega (arith, share-most (run-iterate b s .shares) j, bounds .total, weight-most {t = run-answer b s .steps} (omega (arith, bounds .most-steps, files-accepted b s ok .1 .most-steps)))
+
+  -- 4 bytes for each boat that holds shares
+  pub run-pairs-length : length (pairs 0 (run-iterate b s .shares)) ≡ 4 * support (run-iterate b s .shares)
+  run-pairs-length = readable (run-iterate b s .shares) 0 (boats b) (omega (arith, bounds .share-count)) (omega (arith, files-accepted b s ok .0 .most-boats)) share-fits .sized
+
+  -- and the trailer
+  pub run-card-length : length (run-card b s) ≡ 4 * support (run-iterate b s .shares) + 36
+  unfolding run-card card-bytes
+  run-card-length =
+      let qs = run-iterate b s .shares in
+      length-append (pairs 0 qs) (trailer-bytes (answer-fields (run-answer b s) (length (pairs 0 qs)) (sheet s .tolerance) (boats b) (columns b)))
+      ∙ (omega (arith, length-trailer (answer-fields (run-answer b s) (length (pairs 0 qs)) (sheet s .tolerance) (boats b) (columns b)), run-pairs-length))
+
+  pub run-card-true : (front : List ℕ) → length front + length (run-card b s) ≤ 40000 → Card-true b s (front ++ run-card b s)
+  unfolding run-card card-bytes answer-fields
+  run-card-true front h =
+      record {
+        front = front;
+        shares = run-iterate b s .shares;
+        own = answer-fields (run-answer b s) (length (pairs 0 (run-iterate b s .shares))) (sheet s .tolerance) (boats b) (columns b);
+        layout = refl;
+        most-bytes = omega (arith, length-append front (run-card b s));
+        back = refl;
+        boats = refl;
+        columns = refl;
+        share-count = bounds .share-count;
+        total = bounds .total;
+        few-boats = bounds .few-boats;
+        some-step = bounds .some-step;
+        most-steps = bounds .most-steps;
+        distance = ap (λ a. a .distance) run-is;
+        gap = ap (λ a. a .gap) run-is;
+        verdict = ap (λ a. verdict-number (a .verdict)) run-is;
+        stops-here = rw (← run-is) (bounds .stops-here);
+        tolerance = refl;
+      }
+
+pub written-short : Written-short
+unfolding Written-short
+written-short b s ok = omega (arith, run-card-length b s ok, support-most (run-iterate b s .shares), run-bounds b s ok .share-count, files-accepted b s ok .0 .most-boats)
+
+pub written-accepted : Written-accepted
+unfolding Written-accepted run-card-true
+written-accepted b s front ok h =
+    let c = run-card-true b s ok front h in
+    let w = front ++ run-card b s in
+    (true-accepted b s w ok c, answer-is b s w ok c ∙ sym (run-is b s ok), shares-back b s w ok c)

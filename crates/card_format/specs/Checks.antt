@@ -1,0 +1,57 @@
+-- What refuses a card, 31 to 39, and the calls of the card writer and the card check.
+use mathlib.Core.Bool.{Bool, true, false, _&&_, not, cond}
+use mathlib.Core.List.{List, [], _∷_}
+use Prim.Native.Nat.{ℕ, zero, suc, _+_, _*_, _/_, _%_}
+use lib.Dec.{eqb, ltb, leb}
+use lib.ListN.{length, drop}
+use Rattle.frank_wolfe.specs.Vectors.{sum}
+use Rattle.files.specs.Bytes.{number, same, between, length-in-range, trailer, reaches}
+use Rattle.files.specs.Book.{boats, columns}
+use Rattle.files.specs.Sheet.{sheet, files-refusal}
+use Rattle.method.specs.declared.Answer.{Answer}
+use Rattle.method.specs.Iterates.{weight}
+use Rattle.method.specs.Answers.{verdict-number, stops, search-refusal}
+use Rattle.card_format.specs.Format.{Fields, WCD1, card-fields, card-body, pair-count, card-shares, card-answer, run-card}
+
+-- whether a back count is above zero, a multiple of 4, at most 4 × boats, and starts inside the file
+unfoldable pub back-fits : (boats back : ℕ) → List ℕ → Bool
+back-fits n back w = (ltb 0 back && eqb (back % 4) 0) && (leb back (4 * n) && reaches 36 back w)
+
+-- whether so many pairs are of boats in strictly ascending order, from `next` on and below `boats`, with no share of 0
+unfoldable pub pairs-in-order : (count next boats : ℕ) → List ℕ → Bool
+pairs-in-order zero next n bs = true
+pairs-in-order (suc k) next n bs =
+    (leb next (number 0 2 bs) && (ltb (number 0 2 bs) n && ltb 0 (number 2 2 bs))) && pairs-in-order k (suc (number 0 2 bs)) n (drop 4 bs)
+
+-- whether no more boats than steps hold shares, and they total t (t + 1) / 2
+unfoldable pub shares-total : (count : ℕ) → (shares : List ℕ) → (t : ℕ) → Bool
+shares-total k qs t = leb k t && eqb (sum qs) (weight t)
+
+-- whether E, G and the verdict of a card are those of the answer of its shares, and the verdict ends a run of so many steps there
+unfoldable pub numbers-agree : (steps : ℕ) → (card : List ℕ) → Answer → Bool
+numbers-agree steps w a =
+    let f = card-fields w in
+    (eqb (f .distance) (a .distance) && eqb (f .gap) (a .gap))
+    && (eqb (f .verdict) (verdict-number (a .verdict)) && stops steps (f .steps) (a .verdict))
+
+-- the first refusal, 31 to 39, that applies to a card for an accepted book and sheet; 0 if none does
+unfoldable pub card-refusal : (book sheet card : List ℕ) → ℕ
+card-refusal b s w =
+    let f = card-fields w in
+    cond (not (length-in-range 36 w)) 31
+    (cond (not (same (drop 32 (trailer 36 w)) WCD1)) 32
+    (cond (not (eqb (f .boats) (boats b) && eqb (f .columns) (columns b))) 33
+    (cond (not (between 1 3 (f .verdict) && between 1 (sheet s .steps) (f .steps))) 34
+    (cond (not (back-fits (boats b) (f .back) w)) 35
+    (cond (not (pairs-in-order (pair-count w) 0 (boats b) (card-body w))) 36
+    (cond (not (shares-total (pair-count w) (card-shares (boats b) w) (f .steps))) 37
+    (cond (not (numbers-agree (sheet s .steps) w (card-answer b s w))) 38
+    (cond (eqb (f .tolerance) (sheet s .tolerance)) 0 39))))))))
+
+-- of the writer: 1 to 17 of the files, then 22, a buffer shorter than the card
+unfoldable pub write-refusal : (book sheet : List ℕ) → (room : ℕ) → ℕ
+write-refusal b s room = cond (eqb (files-refusal b s) 0) (cond (ltb room (length (run-card b s))) 22 0) (files-refusal b s)
+
+-- of the check: 1 to 17 of the files, 21 of the share list, then the card's
+unfoldable pub check-refusal : (book sheet card : List ℕ) → (slots : ℕ) → ℕ
+check-refusal b s w slots = cond (eqb (search-refusal b s slots) 0) (card-refusal b s w) (search-refusal b s slots)

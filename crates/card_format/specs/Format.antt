@@ -1,0 +1,109 @@
+-- Cards: the shares and the answer of a search, as bytes.
+-- Body: for each boat with a share above zero, boat number (2) and share (2), boats ascending.
+-- Trailer, 36 bytes: back count (4), verdict (2), steps used (2), tolerance (4), E (8), G (8), boats (2) and columns (2) of the book, the letters WCD1.
+use mathlib.Core.Bool.{cond}
+use mathlib.Core.List.{List, [], _∷_, _++_}
+use Prim.Native.Nat.{ℕ, zero, suc, _+_, _*_, _/_, _%_}
+use lib.Dec.{eqb}
+use lib.ListN.{length, drop, set, replicate}
+use Rattle.files.specs.Bytes.{number, trailer, body}
+use Rattle.files.specs.Book.{boats, columns, rows}
+use Rattle.files.specs.Sheet.{sheet}
+use Rattle.method.specs.declared.Answer.{Answer}
+use Rattle.method.specs.Answers.{verdict-number, answer-at, run-iterate, run-answer}
+use Rattle.method.specs.Bounds.{mixture-iterate}
+
+-- ---- Writing
+
+-- a number in so many bytes, the lowest first
+unfoldable pub bytes : (width : ℕ) → ℕ → List ℕ
+bytes zero n = []
+bytes (suc w) n = (n % 256) ∷ bytes w (n / 256)
+
+-- a boat and its share; nothing for a share of 0
+unfoldable pub pair : (boat share : ℕ) → List ℕ
+pair i q = cond (eqb q 0) [] (bytes 2 i ++ bytes 2 q)
+
+-- the shares of a list from this boat on
+unfoldable pub pairs : (boat : ℕ) → (shares : List ℕ) → List ℕ
+pairs i [] = []
+pairs i (q ∷ qs) = pair i q ++ pairs (suc i) qs
+
+-- the numbers in a trailer
+pub record Fields : Type 0 where
+  pub back : ℕ
+  pub verdict : ℕ
+  pub steps : ℕ
+  pub tolerance : ℕ
+  pub distance : ℕ
+  pub gap : ℕ
+  pub boats : ℕ
+  pub columns : ℕ
+
+abbrev pub WCD1 : List ℕ
+WCD1 = 87 ∷ 67 ∷ 68 ∷ 49 ∷ []
+
+unfoldable pub trailer-bytes : Fields → List ℕ
+trailer-bytes f =
+    bytes 4 (f .back) ++ (bytes 2 (f .verdict) ++ (bytes 2 (f .steps) ++ (bytes 4 (f .tolerance)
+    ++ (bytes 8 (f .distance) ++ (bytes 8 (f .gap) ++ (bytes 2 (f .boats) ++ (bytes 2 (f .columns) ++ WCD1)))))))
+
+-- an answer's numbers, after a body of so many bytes
+unfoldable pub answer-fields : Answer → (back tolerance boats columns : ℕ) → Fields
+answer-fields a back tolerance n c =
+    record {
+      back = back;
+      verdict = verdict-number (a .verdict);
+      steps = a .steps;
+      tolerance = tolerance;
+      distance = a .distance;
+      gap = a .gap;
+      boats = n;
+      columns = c;
+    }
+
+unfoldable pub card-bytes : Answer → (shares : List ℕ) → (tolerance boats columns : ℕ) → List ℕ
+card-bytes a qs tolerance n c = pairs 0 qs ++ trailer-bytes (answer-fields a (length (pairs 0 qs)) tolerance n c)
+
+-- the card of a run
+unfoldable pub run-card : (book sheet : List ℕ) → List ℕ
+run-card b s = card-bytes (run-answer b s) (run-iterate b s .shares) (sheet s .tolerance) (boats b) (columns b)
+
+-- ---- Reading
+
+-- the numbers of a trailer
+unfoldable pub fields : List ℕ → Fields
+fields t =
+    record {
+      back = number 0 4 t;
+      verdict = number 4 2 t;
+      steps = number 6 2 t;
+      tolerance = number 8 4 t;
+      distance = number 12 8 t;
+      gap = number 20 8 t;
+      boats = number 28 2 t;
+      columns = number 30 2 t;
+    }
+
+unfoldable pub card-fields : List ℕ → Fields
+card-fields w = fields (trailer 36 w)
+
+-- the pairs, and how many
+unfoldable pub card-body : List ℕ → List ℕ
+card-body w = body 36 (card-fields w .back) w
+
+unfoldable pub pair-count : List ℕ → ℕ
+pair-count w = card-fields w .back / 4
+
+-- so many pairs put into a share list
+unfoldable pub shares-into : (count : ℕ) → List ℕ → (shares : List ℕ) → List ℕ
+shares-into zero bs qs = qs
+shares-into (suc k) bs qs = shares-into k (drop 4 bs) (set qs (number 0 2 bs) (number 2 2 bs))
+
+-- a card's shares, one a boat
+unfoldable pub card-shares : (boats : ℕ) → List ℕ → List ℕ
+card-shares n w = shares-into (pair-count w) (card-body w) (replicate n 0)
+
+-- the answer of a card's shares and steps
+unfoldable pub card-answer : (book sheet card : List ℕ) → Answer
+card-answer b s w = answer-at (rows b) (sheet s) (card-fields w .steps) (mixture-iterate (columns b) (card-shares (boats b) w) (rows b))

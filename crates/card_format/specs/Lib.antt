@@ -1,0 +1,3 @@
+pub mod Format
+pub mod Checks
+pub mod Truth

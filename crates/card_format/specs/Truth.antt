@@ -1,0 +1,131 @@
+-- What a true card is, said without the refusals, and what an accepted card vouches for. Definitions only.
+use mathlib.Core.Path.{_≡_}
+use mathlib.Core.Bool.{true}
+use mathlib.Core.List.{List, _++_}
+use Prim.Native.Nat.{ℕ, _+_, _*_, _≤_, _<_}
+use lib.ListN.{length}
+use lib.IntN.{ℤ, pos, natAbs, _-ℤ_}
+use lib.Signed.{_≤ℤ_}
+use Rattle.frank_wolfe.specs.Vectors.{subtract, scale, sum, combination}
+use Rattle.files.specs.Bytes.{all-bytes}
+use Rattle.files.specs.Book.{rows, columns, boats}
+use Rattle.files.specs.Sheet.{sheet, files-refusal}
+use Rattle.method.specs.declared.Verdict.the-variants.{Within, Beyond, Spent}
+use Rattle.method.specs.declared.Answer.{Answer}
+use Rattle.method.specs.Iterates.{weight, gaps, maximum, signed-gap, mixture-distance, support}
+use Rattle.method.specs.Answers.{verdict-number, stops, answer-at, run-answer, run-iterate}
+use Rattle.method.specs.Bounds.{mixture-iterate}
+use Rattle.card_format.specs.Format.{Fields, pairs, trailer-bytes, card-fields, card-shares, card-answer, run-card}
+use Rattle.card_format.specs.Checks.{card-refusal}
+
+-- the answer of shares qs, one a boat, after t steps: E and G are theirs, the verdict is judged in its order at the sheet's tolerance
+abbrev pub answer-of : (book sheet shares : List ℕ) → (t : ℕ) → Answer
+answer-of b s qs t = answer-at (rows b) (sheet s) t (mixture-iterate (columns b) qs (rows b))
+
+-- the card w is well formed, and true of its book b and sheet s
+pub record Card-true (b s w : List ℕ) : Type 0 where
+  -- ---- The file: front text, the pairs of the shares above zero, boats ascending, and the trailer
+  pub front : List ℕ
+  pub shares : List ℕ
+  pub own : Fields
+  pub layout : w ≡ front ++ (pairs 0 shares ++ trailer-bytes own)
+  pub most-bytes : length w ≤ 40000
+  pub back : own .back ≡ length (pairs 0 shares)
+  -- ---- The shares: one a boat, of total t (t + 1) / 2, on at most t boats
+  pub boats : own .boats ≡ boats b
+  pub columns : own .columns ≡ columns b
+  pub share-count : length shares ≡ own .boats
+  pub total : sum shares ≡ weight (own .steps)
+  pub few-boats : support shares ≤ own .steps
+  pub some-step : 1 ≤ own .steps
+  pub most-steps : own .steps ≤ sheet s .steps
+  -- ---- The card's own numbers: those of its shares
+  pub distance : own .distance ≡ answer-of b s shares (own .steps) .distance
+  pub gap : own .gap ≡ answer-of b s shares (own .steps) .gap
+  pub verdict : own .verdict ≡ verdict-number (answer-of b s shares (own .steps) .verdict)
+  -- Spent only at the sheet's steps
+  pub stops-here : stops (sheet s .steps) (own .steps) (answer-of b s shares (own .steps) .verdict) ≡ true
+  pub tolerance : own .tolerance ≡ sheet s .tolerance
+
+-- ---- What an accepted card vouches for: a is the answer given back for it, `shares` its shares.
+-- E, G, W, t are the answer's; a mixture is any list of shares, one a boat, of a total N above 0; Q is N² times its squared distance.
+pub record Card-vouches (b s w : List ℕ) (a : Answer) (shares : List ℕ) : Type 0 where
+  -- the file is a true card of these shares
+  pub is-true : Card-true b s w
+  pub own-shares : is-true .shares ≡ shares
+  -- and the answer's numbers are the card's own
+  pub own-steps : a .steps ≡ card-fields w .steps
+  pub own-distance : a .distance ≡ card-fields w .distance
+  pub own-gap : a .gap ≡ card-fields w .gap
+  pub own-verdict : verdict-number (a .verdict) ≡ card-fields w .verdict
+  pub own-tolerance : sheet s .tolerance ≡ card-fields w .tolerance
+  -- ---- Shares and steps
+  pub share-count : length shares ≡ boats b
+  pub total : sum shares ≡ weight (a .steps)
+  pub weight : a .weight ≡ weight (a .steps)
+  pub few-boats : support shares ≤ a .steps
+  pub some-step : 1 ≤ a .steps
+  pub most-steps : a .steps ≤ sheet s .steps
+  pub stops-here : stops (sheet s .steps) (a .steps) (a .verdict) ≡ true
+  -- ---- The numbers of these shares
+  pub distance-is : a .distance ≡ mixture-distance (columns b) (sheet s .target) shares (rows b)
+  -- the gap as an integer is not below 0
+  pub gap-is : signed-gap (rows b) (sheet s .target) (a .steps) (mixture-iterate (columns b) shares (rows b)) ≡ pos (a .gap)
+  -- every mixture's squared distance is at least the card's less twice its gap
+  pub gap-bound : (qs : List ℕ) → length qs ≡ boats b → 1 ≤ sum qs →
+      a .distance * (sum qs * sum qs) ≤ mixture-distance (columns b) (sheet s .target) qs (rows b) * (a .weight * a .weight) + 2 * a .gap * (sum qs * sum qs)
+  -- ---- The verdicts
+  -- Within: the squared distance is at most the tolerance
+  pub within : a .verdict ≡ Within → a .distance ≤ sheet s .tolerance * (a .weight * a .weight)
+  -- Beyond: every mixture's squared distance is above the tolerance; E - 2 G is above tolerance × W², and is the floor
+  pub beyond : (floor : ℤ) → a .verdict ≡ Beyond floor → (qs : List ℕ) → length qs ≡ boats b → 1 ≤ sum qs →
+      sheet s .tolerance * (sum qs * sum qs) < mixture-distance (columns b) (sheet s .target) qs (rows b)
+  pub beyond-above : (floor : ℤ) → a .verdict ≡ Beyond floor → sheet s .tolerance * (a .weight * a .weight) + 2 * a .gap < a .distance
+  pub beyond-floor : (floor : ℤ) → a .verdict ≡ Beyond floor → floor ≡ pos (a .distance) -ℤ pos (2 * a .gap)
+  -- Spent: neither of them at the sheet's last step, and the shortfall is what E is above tolerance × W²
+  pub spent-above : (shortfall : ℕ) → a .verdict ≡ Spent shortfall → sheet s .tolerance * (a .weight * a .weight) < a .distance
+  pub spent-undecided : (shortfall : ℕ) → a .verdict ≡ Spent shortfall → a .distance ≤ sheet s .tolerance * (a .weight * a .weight) + 2 * a .gap
+  pub spent-last : (shortfall : ℕ) → a .verdict ≡ Spent shortfall → a .steps ≡ sheet s .steps
+  pub spent-shortfall : (shortfall : ℕ) → a .verdict ≡ Spent shortfall → shortfall + sheet s .tolerance * (a .weight * a .weight) ≡ a .distance
+  -- ---- Bits: E, G and tolerance × W² are below 2^62
+  pub distance-fits : a .distance < 4611686018427387904
+  pub gap-fits : a .gap < 4611686018427387904
+  pub limit-fits : sheet s .tolerance * (a .weight * a .weight) < 4611686018427387904
+
+-- ---- The statements
+
+-- a card is accepted exactly when it is true, whoever wrote it; and it is read as what it says
+unfoldable pub Accepted-exactly : Type 0
+Accepted-exactly =
+    (b s w : List ℕ) → files-refusal b s ≡ 0 → all-bytes w ≡ true →
+    (card-refusal b s w ≡ 0 → Card-true b s w)
+    × ((c : Card-true b s w) →
+    (card-refusal b s w ≡ 0) × (card-fields w ≡ c .own) × (card-shares (boats b) w ≡ c .shares) × (card-answer b s w ≡ answer-of b s (c .shares) (c .own .steps)))
+
+-- a card that was written is accepted, also behind any front text that keeps it within 40,000 bytes, and reads back as the run's answer and shares
+unfoldable pub Written-accepted : Type 0
+Written-accepted =
+    (b s front : List ℕ) → files-refusal b s ≡ 0 → length front + length (run-card b s) ≤ 40000 →
+    (card-refusal b s (front ++ run-card b s) ≡ 0)
+    × (card-answer b s (front ++ run-card b s) ≡ run-answer b s) × (card-shares (boats b) (front ++ run-card b s) ≡ run-iterate b s .shares)
+
+-- a written card has at most 1,060 bytes, so it needs no front text to keep within 40,000
+unfoldable pub Written-short : Type 0
+Written-short = (b s : List ℕ) → files-refusal b s ≡ 0 → length (run-card b s) ≤ 1060
+
+-- an accepted card vouches for the gap
+unfoldable pub Accepted-vouches : Type 0
+Accepted-vouches =
+    (b s w : List ℕ) → files-refusal b s ≡ 0 → all-bytes w ≡ true → card-refusal b s w ≡ 0 →
+    Card-vouches b s w (card-answer b s w) (card-shares (boats b) w)
+
+-- ---- Any shares of a total N above zero: N² times their duality gap, before it is clipped
+unfoldable pub mixture-gap : (columns : ℕ) → (u : List ℤ) → (shares : List ℕ) → (rs : List (List ℤ)) → ℤ
+mixture-gap c u qs rs = maximum (gaps (subtract (combination c qs rs) (scale (sum qs) u)) (combination c qs rs) (sum qs) rs)
+
+-- the gap is not below 0, and E and G keep to 62 bits for any total that a card can have
+unfoldable pub Shares-fit : Type 0
+Shares-fit =
+    (b s qs : List ℕ) → files-refusal b s ≡ 0 → length qs ≡ boats b → 1 ≤ sum qs →
+    (pos 0 ≤ℤ mixture-gap (columns b) (sheet s .target) qs (rows b))
+    × (sum qs ≤ 64980 → (mixture-distance (columns b) (sheet s .target) qs (rows b) < 4611686018427387904) × (natAbs (mixture-gap (columns b) (sheet s .target) qs (rows b)) < 4611686018427387904))

@@ -1,0 +1,188 @@
+// A card's form tested, and its shares read.
+ghost use mathlib.Core.Path.{_≡_};
+ghost use mathlib.Core.Bool.{true, _&&_};
+ghost use Prim.Native.Nat.{_+_, _*_, _-_, _≤_, _<_};
+ghost use lib.Dec.{ltb, leb};
+ghost use lib.ListN.{length, take, drop, replicate};
+ghost use Rattle.frank_wolfe.specs.Vectors.{sum};
+ghost use Rattle.files.specs.Bytes.{same, between, length-in-range, trailer};
+ghost use Rattle.card_format.specs.Format.{WCD1, card-fields, pair-count, shares-into};
+ghost use Rattle.card_format.specs.Checks.{back-fits, pairs-in-order};
+ghost use Rattle.card_input.specs.Forms.{counts-agree, steps-fit, form-refusal};
+
+// The letters WCD1 as a number.
+const LETTERS: u32 = 826557271;
+
+// Whether `x` is from `least` to `most`.
+fn is_between(least: usize, most: usize, x: usize) -> bool
+    ensures { λ r. ⌜ r ≡ between least most x ⌝ }
+{
+    if x < least {
+        return false;
+    }
+    x <= most
+}
+
+// Whether a card ends with its letters.
+fn is_lettered(card: &[u8]) -> bool
+    requires { ⌜ 36 ≤ length (now card) ⌝ }
+    ensures { λ r. ⌜ r ≡ same (drop 32 (trailer 36 (now (card .entry)))) WCD1 ⌝ }
+{
+    files::u32_at(card, card.len() - 4) == LETTERS
+}
+
+// Whether a card names so many boats and columns.
+fn counts_agree(card: &[u8], boats: usize, columns: usize) -> bool
+    requires { ⌜ 36 ≤ length (now card) ⌝ }
+    ensures { λ r. ⌜ r ≡ counts-agree boats columns (now (card .entry)) ⌝ }
+{
+    if files::u16_at(card, card.len() - 8) as usize != boats {
+        return false;
+    }
+    files::u16_at(card, card.len() - 6) as usize == columns
+}
+
+// The steps that a card says were used.
+pub fn steps_used(card: &[u8]) -> u32
+    requires { ⌜ 36 ≤ length (now card) ⌝ }
+    ensures { λ r. ⌜ r ≡ card-fields (now (card .entry)) .steps ⌝ }
+    ensures { λ r. ⌜ r < 65536 ⌝ }
+{
+    files::u16_at(card, card.len() - 30)
+}
+
+// Whether a card's verdict is 1 to 3 and its steps used are 1 to `steps`.
+fn steps_fit(card: &[u8], steps: u32) -> bool
+    requires { ⌜ 36 ≤ length (now card) ⌝ }
+    ensures { λ r. ⌜ r ≡ steps-fit steps (now (card .entry)) ⌝ }
+{
+    if !is_between(1, 3, files::u16_at(card, card.len() - 32) as usize) {
+        return false;
+    }
+    is_between(1, steps as usize, steps_used(card) as usize)
+}
+
+// Whether a card's back count is above zero, a multiple of 4, at most 4 × boats, and starts inside the file.
+fn back_fits(card: &[u8], boats: usize) -> bool
+    requires { ⌜ (36 ≤ length (now card)) × (boats ≤ 256) ⌝ }
+    ensures { λ r. ⌜ r ≡ back-fits boats (card-fields (now (card .entry)) .back) (now (card .entry)) ⌝ }
+{
+    let room = card.len() - 36;
+    let back = files::u32_at(card, room) as usize;
+    if back == 0 {
+        return false;
+    }
+    if back % 4 != 0 {
+        return false;
+    }
+    if 4 * boats < back {
+        return false;
+    }
+    back <= room
+}
+
+// How many pairs a card's back count says.
+pub fn pair_count(card: &[u8]) -> usize
+    requires { ⌜ 36 ≤ length (now card) ⌝ }
+    ensures { λ r. ⌜ r ≡ pair-count (now (card .entry)) ⌝ }
+    ensures { λ r. ⌜ r < 1073741824 ⌝ }
+{
+    files::u32_at(card, card.len() - 36) as usize / 4
+}
+
+// Whether a pair's boat is from `next` on and below `boats`, and its share is not 0.
+fn pair_fits(next: usize, boats: usize, boat: usize, share: u32) -> bool
+    ensures { λ r. ⌜ r ≡ leb next boat && (ltb boat boats && ltb 0 share) ⌝ }
+{
+    if boat < next {
+        return false;
+    }
+    if boats <= boat {
+        return false;
+    }
+    0 < share
+}
+
+// Whether the `count` pairs from `at` on are of boats below `boats` in ascending order, with no share of 0.
+fn pairs_in_order(card: &[u8], at: usize, count: usize, boats: usize) -> bool
+    requires { ⌜ at + 4 * count ≤ length (now card) ⌝ }
+    ensures { λ r. ⌜ r ≡ pairs-in-order count 0 boats (drop at (now (card .entry))) ⌝ }
+{
+    let mut next = 0;
+    let mut i = 0;
+    while i < count {
+        let boat = files::u16_at(card, at + 4 * i) as usize;
+        let share = files::u16_at(card, at + 4 * i + 2);
+        if !pair_fits(next, boats, boat, share) {
+            return false;
+        }
+        next = boat + 1;
+        i += 1;
+    }
+    true
+}
+
+// The number, 31 to 36, that refuses a card's form, or 0.
+pub fn form_refusal(card: &[u8], boats: usize, columns: usize, steps: u32) -> u32
+    requires { ⌜ boats ≤ 256 ⌝ }
+    ensures { λ r. ⌜ r ≡ form-refusal boats columns steps (now (card .entry)) ⌝ }
+{
+    if !is_between(36, 40000, card.len()) {
+        return 31;
+    }
+    if !is_lettered(card) {
+        return 32;
+    }
+    if !counts_agree(card, boats, columns) {
+        return 33;
+    }
+    if !steps_fit(card, steps) {
+        return 34;
+    }
+    if !back_fits(card, boats) {
+        return 35;
+    }
+    let count = pair_count(card);
+    if !pairs_in_order(card, card.len() - 36 - 4 * count, count, boats) {
+        return 36;
+    }
+    0
+}
+
+// The shares of the `count` pairs from `at` on, one a boat.
+pub fn shares_of(card: &[u8], at: usize, count: usize) -> [u16; 256]
+    requires { ⌜ at + 4 * count ≤ length (now card) ⌝ }
+    requires { ⌜ pairs-in-order count 0 256 (drop at (now card)) ≡ true ⌝ }
+    ensures { λ r. ⌜ r ≡ shares-into count (drop at (now (card .entry))) (replicate 256 0) ⌝ }
+{
+    let mut shares = [0u16; 256];
+    let mut i = 0;
+    while i < count {
+        let boat = files::u16_at(card, at + 4 * i) as usize;
+        shares[boat] = files::u16_at(card, at + 4 * i + 2) as u16;
+        i += 1;
+    }
+    shares
+}
+
+// A share in a wider type.
+pub fn wide(x: u16) -> u32
+    ensures { λ r. ⌜ r ≡ x ⌝ }
+    ensures { λ r. ⌜ r < 65536 ⌝ }
+{
+    x as u32
+}
+
+// The total of the first `boats` shares.
+pub fn total(shares: [u16; 256], boats: usize) -> u32
+    requires { ⌜ boats ≤ 256 ⌝ }
+    ensures { λ r. ⌜ r ≡ sum (take boats shares) ⌝ }
+{
+    let mut sum: u32 = 0;
+    let mut i = 0;
+    while i < boats {
+        sum += wide(shares[i]);
+        i += 1;
+    }
+    sum
+}

@@ -1,0 +1,235 @@
+-- Bytes put into a buffer one after the other.
+use mathlib.Core.Path.{_≡_, refl, sym, ap, ap₂, _∙_}
+use mathlib.Core.Bool.{Bool, true, false}
+use mathlib.Core.List.{List, [], _∷_, _++_, append-assoc}
+use Prim.Native.Nat.{ℕ, zero, suc, _+_, _*_, _-_, _/_, _%_, _≤_, _<_}
+use native.Mathlib.Nat.{add-assoc}
+use native.Mathlib.Omega.{arith}
+use native.Mathlib.Numerals.{add-one}
+use borrow.Author.Tests.{eqb-true, eqb-false, ne-eqb}
+use lib.Dec.{eqb}
+use lib.ListN.{length, take, drop, set, getD, length-append, length-take, length-drop, length-set, take-append-drop, drop-of-length-le}
+use lib.Seq.{drop-drop, drop-append-add, drop-cons, getD-take, take-at, set-split, length-take-le}
+use Rattle.method.specs.declared.Answer.{Answer}
+use Rattle.method.specs.Answers.{verdict-number}
+use Rattle.method.specs.Iterates.{support}
+use Rattle.card_format.specs.Format.{bytes, pair, pairs, WCD1, trailer-bytes, answer-fields}
+use Rattle.card_format.proofs.Bytes.{length-bytes}
+use Rattle.card_format.proofs.Pairs.{pair-some}
+use Rattle.card_output.specs.Output.{placed}
+
+pub placed-nil : (out : List ℕ) (at : ℕ) → placed out at [] ≡ out
+unfolding placed
+placed-nil out at = let e : at + 0 ≡ at = omega arith in rw e (take-append-drop at out)
+
+pub placed-length : (out : List ℕ) (at : ℕ) (bs : List ℕ) → at + length bs ≤ length out → length (placed out at bs) ≡ length out
+unfolding placed
+placed-length out at bs h =
+    length-append (take at out) (bs ++ drop (at + length bs) out)
+    ∙ (omega (arith, length-append bs (drop (at + length bs) out), length-drop (at + length bs) out, length-take-le at out (omega arith)))
+
+-- xs, and ys right after them
+pub placed-then : (out : List ℕ) (at : ℕ) (xs ys : List ℕ) → at + length xs ≤ length out → placed (placed out at xs) (at + length xs) ys ≡ placed out at (xs ++ ys)
+unfolding placed
+placed-then out at xs ys h =
+    let n = at + length xs in
+    let d = drop (at + length xs) out in
+    let front = take at out ++ xs in
+    let e : length front ≡ n = length-append (take at out) xs ∙ (omega (arith, length-take-le at out (omega arith))) in
+    let p : take at out ++ (xs ++ d) ≡ front ++ d = sym (append-assoc (take at out) xs d) in
+    let q : drop (n + length ys) (front ++ d) ≡ drop (n + length ys) out =
+    ap (λ k. drop (k + length ys) (front ++ d)) (sym e) ∙ drop-append-add front d (length ys) ∙ drop-drop (length ys) n out in
+    rw (p, take-at front d n e, q, append-assoc (take at out) xs, append-assoc xs ys, length-append xs ys, ← add-assoc at (length xs) (length ys))
+
+pub placed-set : (out : List ℕ) (at a : ℕ) → at < length out → set out at a ≡ placed out at (a ∷ [])
+unfolding placed
+placed-set out at a h = rw add-one (set-split out at a h)
+
+-- the same of buffers that are known by equations
+pub placed-next : (out : List ℕ) (at : ℕ) (xs ys : List ℕ) {now new : List ℕ} (after : ℕ) → now ≡ placed out at xs → new ≡ placed now after ys → after ≡ at + length xs → at + length xs ≤ length out → new ≡ placed out at (xs ++ ys)
+placed-next out at xs ys after e f p h = f ∙ rw (e, p) (placed-then out at xs ys h)
+
+-- ---- A number, byte by byte
+
+bytes-none : (n : ℕ) → bytes 0 n ≡ []
+unfolding bytes
+bytes-none n = refl
+
+bytes-more : (w n : ℕ) → bytes (suc w) n ≡ (n % 256) ∷ bytes w (n / 256)
+unfolding bytes
+bytes-more w n = refl
+
+pub record Putting (out : List ℕ) (at width number i rest : ℕ) (now : List ℕ) : Type 0 where
+  pub within : i ≤ width
+  pub long : length now ≡ length out
+  pub later : placed now (at + i) (bytes (width - i) rest) ≡ placed out at (bytes width number)
+
+pub put-start : {out : List ℕ} {at width number : ℕ} → Putting out at width number 0 number out
+put-start {out} {at} {width} =
+    let e : width - 0 ≡ width = omega arith in
+    let p : at + 0 ≡ at = omega arith in
+    record { within = omega arith; long = refl; later = rw (e, p) }
+
+module _ {out : List ℕ} {at width number i rest : ℕ} {now : List ℕ} (d : Putting out at width number i rest now) where
+  pub put-more : at + width ≤ length out → i < width → Putting out at width number (i + 1) (rest / 256) (set now (at + i) (rest % 256))
+  put-more h k =
+      let e : width - i ≡ suc (width - (i + 1)) = omega arith in
+      let p : at + (i + 1) ≡ at + i + 1 = omega arith in
+      record {
+        within = omega arith;
+        long = length-set now (at + i) (rest % 256) ∙ d .long;
+        later =
+            rw (placed-set now (at + i) (rest % 256) (omega (arith, d .long)), p)
+            (placed-then now (at + i) (rest % 256 ∷ []) (bytes (width - (i + 1)) (rest / 256)) (omega (arith, d .long)) ∙ (rw (e, bytes-more) at (d .later)));
+      }
+
+  pub put-end : width ≤ i → now ≡ placed out at (bytes width number)
+  put-end h =
+      let e : width - i ≡ 0 = omega arith in
+      sym (placed-nil now (at + i)) ∙ (rw (e, bytes-none) at (d .later))
+
+-- ---- The trailer
+
+-- what is left of a run of numbers, one after the other
+module _ (out : List ℕ) {o₁ o₂ o₃ o₄ : List ℕ} (at a b c d : ℕ) (h : at + 12 ≤ length out) (e₁ : o₁ ≡ placed out at (bytes 4 a)) (e₂ : o₂ ≡ placed o₁ (at + 4) (bytes 2 b))
+    (e₃ : o₃ ≡ placed o₂ (at + 6) (bytes 2 c)) (e₄ : o₄ ≡ placed o₃ (at + 8) (bytes 4 d)) where
+  pub head-placed : o₄ ≡ placed out at (bytes 4 a ++ (bytes 2 b ++ (bytes 2 c ++ bytes 4 d)))
+  unfolding bytes
+  head-placed =
+      let p₂ = placed-next out at (bytes 4 a) (bytes 2 b) (at + 4) e₁ e₂ refl (omega arith) in
+      let p₃ = placed-next out at (bytes 4 a ++ bytes 2 b) (bytes 2 c) (at + 6) p₂ e₃ refl (omega arith) in
+      placed-next out at ((bytes 4 a ++ bytes 2 b) ++ bytes 2 c) (bytes 4 d) (at + 8) p₃ e₄ refl (omega arith)
+
+module _ (out : List ℕ) {o₁ o₂ o₃ o₄ o₅ : List ℕ} (at a b c d : ℕ) (h : at + 24 ≤ length out) (e₁ : o₁ ≡ placed out at (bytes 8 a)) (e₂ : o₂ ≡ placed o₁ (at + 8) (bytes 8 b))
+    (e₃ : o₃ ≡ placed o₂ (at + 16) (bytes 2 c)) (e₄ : o₄ ≡ placed o₃ (at + 18) (bytes 2 d)) (e₅ : o₅ ≡ placed o₄ (at + 20) (bytes 4 826557271)) where
+  pub rest-placed : o₅ ≡ placed out at (bytes 8 a ++ (bytes 8 b ++ (bytes 2 c ++ (bytes 2 d ++ WCD1))))
+  unfolding bytes
+  rest-placed =
+      let p₂ = placed-next out at (bytes 8 a) (bytes 8 b) (at + 8) e₁ e₂ refl (omega arith) in
+      let p₃ = placed-next out at (bytes 8 a ++ bytes 8 b) (bytes 2 c) (at + 16) p₂ e₃ refl (omega arith) in
+      let p₄ = placed-next out at ((bytes 8 a ++ bytes 8 b) ++ bytes 2 c) (bytes 2 d) (at + 18) p₃ e₄ refl (omega arith) in
+      placed-next out at (((bytes 8 a ++ bytes 8 b) ++ bytes 2 c) ++ bytes 2 d) (bytes 4 826557271) (at + 20) p₄ e₅ refl (omega arith)
+
+pub trailer-placed : (out : List ℕ) {now new : List ℕ} (at tolerance n c v : ℕ) (a : Answer) → at + 36 ≤ length out → v ≡ verdict-number (a .verdict) →
+    now ≡ placed out at (bytes 4 at ++ (bytes 2 v ++ (bytes 2 (a .steps) ++ bytes 4 tolerance))) →
+    new ≡ placed now (at + 12) (bytes 8 (a .distance) ++ (bytes 8 (a .gap) ++ (bytes 2 n ++ (bytes 2 c ++ WCD1)))) →
+    new ≡ placed out at (trailer-bytes (answer-fields a at tolerance n c))
+unfolding trailer-bytes answer-fields bytes
+trailer-placed out at tolerance n c v a h ev e f =
+    placed-next out at (bytes 4 at ++ (bytes 2 (verdict-number (a .verdict)) ++ (bytes 2 (a .steps) ++ bytes 4 tolerance)))
+    (bytes 8 (a .distance) ++ (bytes 8 (a .gap) ++ (bytes 2 n ++ (bytes 2 c ++ WCD1)))) (at + 12) (rw ev at e) f refl (omega arith)
+
+pub pair-none : (boat q : ℕ) → q ≡ 0 → pair boat q ≡ []
+unfolding pair
+pair-none boat q e = rw e refl
+
+positive : {q : ℕ} → (q ≡ 0 → ⊥) → 0 < q
+positive {q = zero} n = absurd (n refl)
+positive {q = suc q} n = omega arith
+
+-- a share above zero
+pub pair-placed : (out : List ℕ) {now new : List ℕ} (at boat q : ℕ) → (q ≡ 0 → ⊥) → at + length (pair boat q) ≤ length out → now ≡ placed out at (bytes 2 boat) → new ≡ placed now (at + 2) (bytes 2 q) →
+    (at + 4 ≡ at + length (pair boat q)) × (new ≡ placed out at (pair boat q))
+pair-placed out at boat q n h e f =
+    let p = pair-some boat q (positive n) in
+    let l = length-append (bytes 2 boat) (bytes 2 q) in
+    let k : length (pair boat q) ≡ 4 = ap length p ∙ (omega (arith, l, length-bytes 2 boat, length-bytes 2 q)) in
+    (omega arith, rw p (placed-next out at (bytes 2 boat) (bytes 2 q) (at + 2) e f (omega (arith, length-bytes 2 boat)) (omega (arith, length-bytes 2 boat))))
+
+-- a share of 0
+pub pair-skipped : (out : List ℕ) (at boat q : ℕ) → q ≡ 0 → (at ≡ at + length (pair boat q)) × (out ≡ placed out at (pair boat q))
+pair-skipped out at boat q e = rw (pair-none boat q e) (omega arith, sym (placed-nil out at))
+
+pub pair-long : (boat q : ℕ) → (q ≡ 0 → ⊥) → length (pair boat q) ≡ 4
+pair-long boat q n = ap length (pair-some boat q (positive n)) ∙ (omega (arith, length-append (bytes 2 boat) (bytes 2 q), length-bytes 2 boat, length-bytes 2 q))
+
+-- ---- The pairs of a share list
+
+pairs-more : (boat q : ℕ) (qs : List ℕ) → pairs boat (q ∷ qs) ≡ pair boat q ++ pairs (suc boat) qs
+unfolding pairs
+pairs-more boat q qs = refl
+
+pairs-none : (boat : ℕ) → pairs boat [] ≡ []
+unfolding pairs
+pairs-none boat = refl
+
+-- the pairs of the first i shares stand before `at`
+pub record Pairing (out : List ℕ) (n : ℕ) (shares : List ℕ) (i at : ℕ) (now : List ℕ) : Type 0 where
+  pub within : i ≤ n
+  pub long : length now ≡ length out
+  pub inside : at + length (pairs i (drop i (take n shares))) ≡ length (pairs 0 (take n shares))
+  pub later : placed now at (pairs i (drop i (take n shares))) ≡ placed out 0 (pairs 0 (take n shares))
+
+pub pairing-start : {out : List ℕ} {n : ℕ} {shares : List ℕ} → Pairing out n shares 0 0 out
+pairing-start = record { within = omega arith; long = refl; inside = omega arith; later = refl }
+
+module _ {out : List ℕ} {n : ℕ} {shares : List ℕ} {i at : ℕ} {now : List ℕ} (d : Pairing out n shares i at now) (l : n ≤ length shares) (h : i < n) where
+  next-pair : pairs i (drop i (take n shares)) ≡ pair i (getD shares i 0) ++ pairs (i + 1) (drop (i + 1) (take n shares))
+  next-pair =
+      ap (pairs i) (drop-cons (take n shares) i 0 (omega (arith, length-take-le n shares l)))
+      ∙ rw (getD-take n shares i 0 h, pairs-more, add-one)
+
+  pub pair-room : length (pairs 0 (take n shares)) ≤ length out → at + length (pair i (getD shares i 0)) ≤ length now
+  pair-room k = omega (arith, d .long, d .inside, ap length next-pair, length-append (pair i (getD shares i 0)) (pairs (i + 1) (drop (i + 1) (take n shares))))
+
+  pub pairing-more : length (pairs 0 (take n shares)) ≤ length out → (next : ℕ) (new : List ℕ) → next ≡ at + length (pair i (getD shares i 0)) → new ≡ placed now at (pair i (getD shares i 0)) →
+      Pairing out n shares (i + 1) next new
+  pairing-more k next new en ew =
+      let q = getD shares i 0 in
+      let later = pairs (i + 1) (drop (i + 1) (take n shares)) in
+      record {
+        within = omega arith;
+        long = ap length ew ∙ placed-length now at (pair i q) (pair-room k) ∙ d .long;
+        inside = omega (arith, en, d .inside, ap length next-pair, length-append (pair i q) later);
+        later = rw (en, ew) (placed-then now at (pair i q) later (pair-room k) ∙ (rw next-pair at (d .later)));
+      }
+
+pub pairing-end : {out : List ℕ} {n : ℕ} {shares : List ℕ} {i at : ℕ} {now : List ℕ} → Pairing out n shares i at now → n ≤ length shares → n ≤ i → now ≡ placed out 0 (pairs 0 (take n shares))
+pairing-end {n = n} {shares = shares} {i = i} {at = at} {now = now} d l h =
+    let e : drop i (take n shares) ≡ [] = drop-of-length-le (take n shares) {i = i} (omega (arith, length-take-le n shares l)) in
+    sym (placed-nil now at) ∙ (rw (e, pairs-none) at (d .later))
+
+-- ---- How many boats hold shares
+
+pub held-none : (q : ℕ) → q ≡ 0 → 0 ≡ support (q ∷ [])
+unfolding support
+held-none q e = rw e refl
+
+pub held-some : (q : ℕ) → (q ≡ 0 → ⊥) → 1 ≡ support (q ∷ [])
+unfolding support
+held-some q h = rw (ne-eqb q 0 h) refl
+
+pub held-most : (q : ℕ) → support (q ∷ []) ≤ 1
+held-most q = by (eqb q 0) refl
+  where
+    by : (t : Bool) → eqb q 0 ≡ t → support (q ∷ []) ≤ 1
+    by true t = omega (arith, held-none q (eqb-true q 0 t))
+    by false t = omega (arith, held-some q (eqb-false q 0 t))
+
+support-more : (q : ℕ) (qs : List ℕ) → support (q ∷ qs) ≡ support (q ∷ []) + support qs
+unfolding support
+support-more q qs = omega arith
+
+support-none : support [] ≡ 0
+unfolding support
+support-none = refl
+
+-- k of the first i boats hold shares
+pub record Counting (n : ℕ) (shares : List ℕ) (i k : ℕ) : Type 0 where
+  pub within : i ≤ n
+  pub few : k ≤ i
+  pub later : k + support (drop i (take n shares)) ≡ support (take n shares)
+
+pub counting-start : {n : ℕ} {shares : List ℕ} → Counting n shares 0 0
+counting-start = record { within = omega arith; few = omega arith; later = omega arith }
+
+pub counting-more : {n : ℕ} {shares : List ℕ} {i k : ℕ} → Counting n shares i k → n ≤ length shares → i < n → (x : ℕ) → x ≡ support (getD shares i 0 ∷ []) → Counting n shares (i + 1) (k + x)
+counting-more {n} {shares} {i} {k} d l h x e =
+    let q : support (drop i (take n shares)) ≡ support (getD shares i 0 ∷ []) + support (drop (i + 1) (take n shares)) =
+    ap support (drop-cons (take n shares) i 0 (omega (arith, length-take-le n shares l))) ∙ rw (getD-take n shares i 0 h, support-more (getD shares i 0) (drop (suc i) (take n shares)), add-one) in
+    record { within = omega arith; few = omega (arith, d .few, held-most (getD shares i 0)); later = omega (arith, d .later, q) }
+
+pub counting-end : {n : ℕ} {shares : List ℕ} {i k : ℕ} → Counting n shares i k → n ≤ length shares → n ≤ i → k ≡ support (take n shares)
+counting-end {n} {shares} {i} {k} d l h =
+    let e : drop i (take n shares) ≡ [] = drop-of-length-le (take n shares) {i = i} (omega (arith, length-take-le n shares l)) in
+    omega (arith, d .later, ap support e, support-none)
