@@ -1,0 +1,17 @@
+-- `card_listing::card_text` meets its contract.
+use lib.ListN.{replicate}
+use Rattle.card_listing.proofs.Cards.{check-listable, check-listed}
+use borrow.Author.Needs.{needs}
+use Rattle.card_listing.proofs.card_text.Statement.{statement}
+use Rattle.card_listing.proofs.card_text.Tie as tie
+
+outcome-listing-requires : tie.Need-outcome-listing-requires
+outcome-listing-requires c κs = check-listable _ _ _ (replicate 256 0) (c .before .check-card .ensures .0)
+
+returns : tie.Need-returns
+returns c = check-listed _ _ _ (replicate 256 0) (c .before .before .check-card .ensures .0) (c .before .before .check-card .ensures .1 .0) (c .outcome-listing .ensures)
+
+pub card-text-spec : {M : Type 1} → statement M
+card-text-spec =
+    tie.close
+    (tie.spec (λ c. search needs) (λ c κs. search needs) outcome-listing-requires returns)

@@ -1,0 +1,97 @@
+// What the programs share: files read whole, listings printed, faults told on standard error.
+// Each function is safe and ends; what the system reads and writes no contract can say.
+ghost use mathlib.Core.Path.{_≡_};
+ghost use Prim.Native.Nat.{_≤_};
+ghost use lib.ListN.{take};
+ghost use Rattle.io.specs.Counts.{Counts};
+use libc::STDERR_FILENO;
+use libc::STDOUT_FILENO;
+use listing::Text;
+
+// Writes a file's name and what is wrong with it on standard error.
+pub fn tell(path: &[u8], fault: &[u8]) {
+    io::write_all(STDERR_FILENO, path);
+    io::write_all(STDERR_FILENO, fault);
+}
+
+// The first `n` bytes, or all where there are fewer.
+pub fn first_bytes(bytes: &[u8], n: usize) -> &[u8]
+    ensures { λ r. ⌜ now r ≡ take n (now (bytes .entry)) ⌝ }
+{
+    if bytes.len() < n {
+        return bytes;
+    }
+    let start = 0;
+    &bytes[start..n]
+}
+
+// Whether a file that was read from has no more bytes: false where there are more or a read fails.
+fn at_end(fd: i32) -> bool {
+    let mut more = [0u8; 1];
+    libc::read(fd, &mut more) == 0
+}
+
+// Reads a file into a buffer, and answers how many of its bytes are there. A file that cannot be opened counts as empty.
+// So does one whose reading fails on the way, and standard error then says so.
+// One with more bytes than the buffer fills it.
+pub fn read_file(path: &[u8], buffer: &mut [u8]) -> usize
+    ensures { λ r. ⌜ Counts r (now (buffer .exit)) ⌝ }
+{
+    let fd = os::open_read(path);
+    if fd < 0 {
+        return 0;
+    }
+    let n = io::read_full(fd, buffer);
+    if n < buffer.len() {
+        if !at_end(fd) {
+            libc::close(fd);
+            tell(path, b": could not be read whole\n");
+            return 0;
+        }
+    }
+    libc::close(fd);
+    n
+}
+
+// Writes a new file whole, lets everybody read it, and closes it. Whether all of that was done.
+fn write_whole(fd: i32, content: &[u8]) -> bool {
+    let written = io::write_all(fd, content);
+    let readable = libc::fchmod(fd, 0o644) == 0;
+    let kept = libc::fsync(fd) == 0;
+    let closed = libc::close(fd) == 0;
+    if !written {
+        return false;
+    }
+    if !readable {
+        return false;
+    }
+    if !kept {
+        return false;
+    }
+    closed
+}
+
+// Puts a file of this content in the place of `path`, and answers whether it did. It is written under another name, which
+// `temporary` gives but for its last six letters, and then renamed, so that on a fault an older file stays as it was.
+pub fn replace_file(path: &[u8], temporary: &mut [u8], content: &[u8]) -> bool {
+    let fd = os::create_temp(temporary);
+    if fd < 0 {
+        return false;
+    }
+    if write_whole(fd, content) {
+        if os::rename(temporary, path) == 0 {
+            return true;
+        }
+    }
+    os::unlink(temporary);
+    false
+}
+
+// Prints a text.
+pub fn print(t: Text)
+    requires { ⌜ t .len ≤ 4096 ⌝ }
+{
+    let bytes = t.bytes;
+    let len = t.len;
+    io::write_all(STDOUT_FILENO, &bytes[..len]);
+}

@@ -1,0 +1,91 @@
+-- The listing of an outcome and of a search. Assumes nothing.
+use mathlib.Core.Path.{_≡_, refl, sym, ap, _∙_}
+use mathlib.Core.Bool.{false}
+use mathlib.Core.List.{List, []}
+use Prim.Native.Nat.{ℕ, zero, suc, _≤_}
+use native.Mathlib.Omega.{arith}
+use borrow.Author.Tests.{le-ltb}
+use lib.Dec.{ltb, eqb·suc-zero}
+use lib.ListN.{length, take, drop}
+use lib.Seq.{take-at, take-all}
+use Rattle.files.specs.Book.{boats, columns}
+use Rattle.files.specs.Sheet.{sheet, files-refusal}
+use Rattle.files.proofs.Accepted.{files-accepted}
+use Rattle.method.specs.declared.Answer.{Answer}
+use Rattle.method.specs.declared.Searched.{Searched}
+use Rattle.method.specs.declared.Searched.the-variants.{Refused, Answered}
+use Rattle.method.specs.Answers.{outcome, search-refusal, slots-after, run-answer, run-iterate}
+use Rattle.method.proofs.Accepted.{share-count}
+use Rattle.listing.specs.Lines.{refused-line, boat-lines, head-lines, listing-of, outcome-listing, search-listing, Listable}
+use Rattle.listing.specs.Texts.{Holds, Adds}
+use Rattle.listing.specs.declared.Text.{Text}
+use Rattle.listing.proofs.Texts.{adds-to-empty, holds-more}
+
+module _ (b s : List ℕ) (ok : files-refusal b s ≡ 0) where
+  pub book-length : 12 ≤ length b
+  book-length = files-accepted b s ok .0 .at-least
+
+  pub sheet-length : 16 ≤ length s
+  sheet-length = files-accepted b s ok .1 .at-least
+
+  pub few-boats : boats b ≤ 256
+  few-boats = files-accepted b s ok .0 .most-boats
+
+-- ---- An outcome
+
+pub answer-listed : {t u : Text} {n c tolerance steps : ℕ} (b s : List ℕ) (a : Answer) (slots : List ℕ) → n ≡ boats b → c ≡ columns b → tolerance ≡ sheet s .tolerance → steps ≡ sheet s .steps →
+    Holds (head-lines n c tolerance steps a) t → Adds t (boat-lines 0 (take n slots)) u → Holds (outcome-listing b s (Answered a) slots) u
+unfolding outcome-listing listing-of
+answer-listed b s a slots en ec et es h p = rw (← en, ← ec, ← et, ← es) (holds-more h p)
+
+pub refusal-listed : {t u : Text} {r : Searched} (b s slots : List ℕ) (n : ℕ) → r ≡ Refused n → Holds [] t → Adds t (refused-line n) u → Holds (outcome-listing b s r slots) u
+unfolding outcome-listing
+refusal-listed b s slots n e h p = rw e (adds-to-empty h p)
+
+pub outcome-listed : {t : Text} {r : Searched} (b s slots : List ℕ) (a : Answer) → r ≡ Answered a → Holds (outcome-listing b s (Answered a) slots) t → Holds (outcome-listing b s r slots) t
+outcome-listed b s slots a e h = rw e h
+
+pub listable-files : {r : Searched} (b s : List ℕ) (a : Answer) → r ≡ Answered a → Listable b s r → files-refusal b s ≡ 0
+unfolding Listable
+listable-files b s a e h = rw e at h
+
+-- an answer is listable where no refusal of the files is left out
+pub listable : (b s : List ℕ) (n : ℕ) (a : Answer) → (n ≡ 0 → files-refusal b s ≡ 0) → Listable b s (outcome n a)
+unfolding outcome Listable
+listable b s zero a h = h refl
+listable b s (suc n) a h = tt
+
+-- the slots after the boats' are not listed
+pub same-listing : (b s slots qs : List ℕ) (a : Answer) (n : ℕ) → (n ≡ 0 → length qs ≡ boats b) →
+    outcome-listing b s (outcome n a) (slots-after n qs slots) ≡ outcome-listing b s (outcome n a) qs
+unfolding outcome slots-after outcome-listing
+same-listing b s slots qs a zero h = rw (take-at qs (drop (length qs) slots) (boats b) (h refl), take-all (boats b) qs (omega (arith, h refl)))
+same-listing b s slots qs a (suc n) h = refl
+
+-- ---- A search with a share list of 256 slots, which is long enough
+
+refusal-is : (b s : List ℕ) (n : ℕ) → n ≡ files-refusal b s → search-refusal b s 256 ≡ n
+unfolding search-refusal
+refusal-is b s zero e = let k : ltb 256 (boats b) ≡ false = le-ltb 256 (boats b) (few-boats b s (sym e)) in rw (← e, k)
+refusal-is b s (suc n) e = rw (← e, eqb·suc-zero n)
+
+pub same-refusal : (b s : List ℕ) → search-refusal b s 256 ≡ files-refusal b s
+same-refusal b s = refusal-is b s (files-refusal b s) refl
+
+shares-length : (b s : List ℕ) → files-refusal b s ≡ 0 → length (run-iterate b s .shares) ≡ boats b
+unfolding run-iterate
+shares-length b s ok = share-count b s ok _
+
+module _ (b s slots : List ℕ) {r : Searched} (e : r ≡ outcome (search-refusal b s 256) (run-answer b s)) where
+  found : r ≡ outcome (files-refusal b s) (run-answer b s)
+  found = e ∙ ap (λ (n : ℕ). outcome n (run-answer b s)) (same-refusal b s)
+
+  pub search-listable : Listable b s r
+  search-listable = rw found (listable b s (files-refusal b s) (run-answer b s) (λ h. h))
+
+  pub search-listed : {now : List ℕ} {t : Text} → now ≡ slots-after (search-refusal b s 256) (run-iterate b s .shares) slots → Holds (outcome-listing b s r now) t → Holds (search-listing b s) t
+  unfolding search-listing
+  search-listed {now} {t} f h =
+      let g : now ≡ slots-after (files-refusal b s) (run-iterate b s .shares) slots = f ∙ ap (λ (n : ℕ). slots-after n (run-iterate b s .shares) slots) (same-refusal b s) in
+      let k : outcome-listing b s r now ≡ search-listing b s = rw (found, g) (same-listing b s slots (run-iterate b s .shares) (run-answer b s) (files-refusal b s) (shares-length b s)) in
+      rw k at h

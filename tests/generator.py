@@ -1,0 +1,135 @@
+"""Drawn fleet books and sheets for the tests, draw for draw as crates/samples makes them."""
+
+SCALES = [1, 2, 10, 200, 2000]
+SPECIAL = [0, 1, 2, 3, 5, 8, 10, 64, 65, 256, 360, 361]
+LIMITS = [2000, 2001, 63536, 63535]
+
+
+class Draws:
+    """A linear congruential generator."""
+
+    def __init__(self, seed):
+        self.seed = seed
+
+    def draw(self, n):
+        """A number below n, 0 where n is 0."""
+        self.seed = self.seed % 2147483647 * 48271 % 2147483647
+        return self.seed % n if n else 0
+
+
+class Plan:
+    """The sizes of a case."""
+
+    def __init__(self, boats, columns, scale, steps, front):
+        self.boats = boats
+        self.columns = columns
+        self.scale = scale
+        self.steps = steps
+        self.front = front
+
+
+def draw_plan(draws):
+    boats = draws.draw(8) + 1
+    columns = draws.draw(5) + 1
+    scale = SCALES[draws.draw(5)]
+    steps = draws.draw(12) + 1
+    front = draws.draw(4)
+    return Plan(boats, columns, scale, steps, front)
+
+
+def value_bytes(value):
+    return (value % 65536).to_bytes(2, "little")
+
+
+def draw_front(draws, count):
+    return bytes(draws.draw(256) for _ in range(count))
+
+
+def draw_row(draws, columns, scale):
+    return [draws.draw(2 * scale + 1) - scale for _ in range(columns)]
+
+
+def row_bytes(row):
+    return b"".join(value_bytes(value) for value in row)
+
+
+def draw_book(draws, plan):
+    """Where the rows of a drawn book start, and the bytes of the book."""
+    front = draw_front(draws, plan.front)
+    rows = []
+    for i in range(plan.boats):
+        again = draws.draw(4) == 0
+        rows.append(rows[-1] if again and i else draw_row(draws, plan.columns, plan.scale))
+    file = front + b"".join(row_bytes(row) for row in rows)
+    file += (2 * plan.boats * plan.columns).to_bytes(4, "little")
+    file += plan.boats.to_bytes(2, "little")
+    file += plan.columns.to_bytes(2, "little")
+    return len(front), file + b"WBK1"
+
+
+def draw_target(draws, plan, book, rows):
+    """The bytes of a target: drawn, one boat's row, between two boats, or far out."""
+    width = 2 * plan.columns
+    kind = draws.draw(4)
+    a = rows + width * draws.draw(plan.boats)
+    b = rows + width * draws.draw(plan.boats)
+    if kind == 0:
+        return row_bytes(draw_row(draws, plan.columns, plan.scale))
+    if kind == 1:
+        return book[a:a + width]
+    if kind == 2:
+        target = b""
+        for j in range(plan.columns):
+            x = (int.from_bytes(book[a + 2 * j:a + 2 * j + 2], "little") + 2000) % 65536
+            y = (int.from_bytes(book[b + 2 * j:b + 2 * j + 2], "little") + 2000) % 65536
+            target += value_bytes((x + y) // 2 - 2000)
+        return target
+    return row_bytes(draw_row(draws, plan.columns, 2000))
+
+
+def draw_sheet(draws, plan, book, rows, tolerance):
+    """The bytes of a drawn sheet for a book whose rows start at `rows`."""
+    file = draw_front(draws, plan.front)
+    file += draw_target(draws, plan, book, rows)
+    file += (2 * plan.columns).to_bytes(4, "little")
+    file += plan.columns.to_bytes(2, "little")
+    file += plan.steps.to_bytes(2, "little")
+    file += tolerance.to_bytes(4, "little")
+    return file + b"WSH1"
+
+
+def with_bytes(buffer, at, new):
+    """The buffer with bytes replaced; what would fall past its end is left out."""
+    changed = bytearray(buffer)
+    for i, x in enumerate(new):
+        if at + i < len(changed):
+            changed[at + i] = x
+    return bytes(changed)
+
+
+def damage_in(draws, buffer, end):
+    """Damage to a file that ends at `end` of a buffer: where it then starts and ends, and the buffer.
+
+    A byte, a number of the trailer, a value, or a cut at either side.
+    """
+    kind = draws.draw(6)
+    place = draws.draw(end)
+    near = draws.draw(16)
+    x = draws.draw(65536)
+    if kind == 4:
+        return 0, place, buffer
+    if kind == 5:
+        return place, end, buffer
+    if kind == 0:
+        return 0, end, with_bytes(buffer, place, [x % 256])
+    if kind == 1:
+        return 0, end, with_bytes(buffer, max(end - near - 1, 0), [x % 256])
+    if kind == 2:
+        return 0, end, with_bytes(buffer, max(end - 2 * near - 4, 0), SPECIAL[x % 12].to_bytes(2, "little"))
+    return 0, end, with_bytes(buffer, place, LIMITS[x % 4].to_bytes(2, "little"))
+
+
+def damage(draws, file):
+    """A damaged file."""
+    start, end, changed = damage_in(draws, file, len(file))
+    return changed[start:end]

@@ -1,0 +1,153 @@
+#!/usr/bin/env python3
+"""Run the built programs in folders of their own, and compare what they print and leave with the reference.
+
+Use: python3 tests/run_programs.py target/bin
+Runs those of mixlist, mixcard and mixcheck that are built. The last line says how many runs passed.
+"""
+import os
+import shutil
+import subprocess
+import sys
+import tempfile
+
+HERE = os.path.dirname(os.path.abspath(__file__))
+sys.path.insert(0, HERE)
+import exact  # noqa: E402
+
+P = [[0, 0], [4, 0], [0, 4]]
+BOOK = exact.make_book(P)
+SHEET = exact.make_sheet([1, 1], steps=9, tolerance=1)
+SPENT = exact.make_sheet([1, 1], steps=2, tolerance=1)
+NO_STEPS = exact.make_sheet([1, 1], steps=0, tolerance=1)
+FOLDER = None  # stands for a folder in the place of a file
+
+# Name, and the files of the folder.
+FILES = [
+    ("case a", {"fleet.wbk": BOOK, "sheet.wsh": SHEET}),
+    ("spent", {"fleet.wbk": BOOK, "sheet.wsh": SPENT}),
+    ("empty folder", {}),
+    ("no sheet", {"fleet.wbk": BOOK}),
+    ("no book", {"sheet.wsh": SHEET}),
+    ("no steps", {"fleet.wbk": BOOK, "sheet.wsh": NO_STEPS}),
+    ("book of 40,000 bytes", {"fleet.wbk": BOOK.rjust(40000, b"x"), "sheet.wsh": SHEET}),
+    ("book of 40,001 bytes", {"fleet.wbk": BOOK.rjust(40001, b"x"), "sheet.wsh": SHEET}),
+    ("book of 90,000 bytes", {"fleet.wbk": BOOK.rjust(40000, b"x") + BOOK.rjust(50000, b"x"), "sheet.wsh": SHEET}),
+    ("book cut at 40,001 bytes", {"fleet.wbk": BOOK.rjust(40001, b"x") + b"x", "sheet.wsh": SHEET}),
+    ("sheet of 40,001 bytes", {"fleet.wbk": BOOK, "sheet.wsh": SHEET.rjust(40001, b"x")}),
+    ("book a folder", {"fleet.wbk": FOLDER, "sheet.wsh": SHEET}),
+    ("sheet a folder", {"fleet.wbk": BOOK, "sheet.wsh": FOLDER}),
+]
+
+
+def content(files, name):
+    """A file as the programs count it: one that is missing or cannot be read is empty."""
+    return files.get(name) or b""
+
+
+def run(program, files, read_only=False):
+    """Standard output, standard error and the files of the folder afterwards."""
+    folder = tempfile.mkdtemp()
+    try:
+        for name, data in files.items():
+            path = os.path.join(folder, name)
+            if data is FOLDER:
+                os.mkdir(path)
+            else:
+                with open(path, "wb") as file:
+                    file.write(data)
+        command = [os.path.abspath(program)]
+        if read_only:
+            command = ["sh", "-c", "ulimit -f 0; trap '' XFSZ; exec " + command[0]]
+        done = subprocess.run(command, cwd=folder, stdout=subprocess.PIPE, stderr=subprocess.PIPE, check=False)
+        left = {}
+        for name in os.listdir(folder):
+            path = os.path.join(folder, name)
+            left[name] = FOLDER if os.path.isdir(path) else exact.read_file(path)
+        return done.stdout, done.stderr, left
+    finally:
+        shutil.rmtree(folder)
+
+
+class Runs:
+    """Counts of what passed and failed."""
+
+    def __init__(self):
+        self.passed = 0
+        self.failed = 0
+
+    def expect(self, name, right):
+        if right:
+            self.passed += 1
+        else:
+            self.failed += 1
+            print("FAILED: " + name)
+
+
+def unread(files):
+    """What standard error says of files that cannot be read."""
+    return b"".join(name.encode() + b": could not be read whole\n"
+                    for name in ("fleet.wbk", "sheet.wsh", "card.wcd") if name in files and files[name] is FOLDER)
+
+
+def check_mixlist(program, runs):
+    for name, files in FILES:
+        out, err, left = run(program, files)
+        runs.expect("mixlist, " + name,
+                    out == exact.listing(content(files, "fleet.wbk"), content(files, "sheet.wsh"))
+                    and err == unread(files) and left == files)
+
+
+def check_mixcard(program, runs):
+    for name, files in FILES:
+        for older in (None, b"older card"):
+            before = dict(files) if older is None else dict(files, **{"card.wcd": older})
+            book, sheet = content(files, "fleet.wbk"), content(files, "sheet.wsh")
+            refusal, _, length, written = exact.write_card(book, sheet, bytes(1060))
+            after = dict(before)
+            faults = unread(files)
+            if refusal:
+                faults += b"card.wcd: not written, the search is refused\n"
+            else:
+                after["card.wcd"] = written[:length]
+            out, err, left = run(program, before)
+            runs.expect("mixcard, %s, %s" % (name, older), (out, err, left) == (exact.listing(book, sheet), faults, after))
+    # The file system takes no byte: an older card stays, and no other file is left.
+    before = {"fleet.wbk": BOOK, "sheet.wsh": SHEET, "card.wcd": b"older card"}
+    out, err, left = run(program, before, read_only=True)
+    runs.expect("mixcard, no room", (out, err, left) == (b"", b"card.wcd: could not be written\n", before))
+    # A folder stands in the card's place.
+    before = {"fleet.wbk": BOOK, "sheet.wsh": SHEET, "card.wcd": FOLDER}
+    out, err, left = run(program, before)
+    runs.expect("mixcard, card a folder", (out, err, left) == (b"", b"card.wcd: could not be written\n", before))
+
+
+def check_mixcheck(program, runs):
+    _, answer, length, written = exact.write_card(BOOK, SHEET, bytes(1060))
+    card = written[:length]
+    cards = [("its card", card), ("front text", b"front" + card), ("none", None), ("empty", b""), ("a folder", FOLDER),
+             ("another share", bytes([0, 0, 2]) + card[3:]), ("40,001 bytes", card.rjust(40001, b"x"))]
+    for name, files in FILES:
+        for card_name, filed in cards:
+            before = dict(files)
+            if card_name != "none":
+                before["card.wcd"] = filed
+            out, err, left = run(program, before)
+            listing = exact.card_listing(*(content(before, file) for file in ("fleet.wbk", "sheet.wsh", "card.wcd")))
+            runs.expect("mixcheck, %s, %s" % (name, card_name), (out, err, left) == (listing, unread(before), before))
+
+
+def main(arguments):
+    if len(arguments) != 1:
+        sys.stderr.write(__doc__)
+        return 2
+    runs = Runs()
+    for name, check in (("mixlist", check_mixlist), ("mixcard", check_mixcard), ("mixcheck", check_mixcheck)):
+        program = os.path.join(arguments[0], name)
+        if os.path.exists(program):
+            check(program, runs)
+    print("%d runs passed, %d failed" % (runs.passed, runs.failed))
+    return 1 if runs.failed else 0
+
+
+if __name__ == "__main__":
+    sys.exit(main(sys.argv[1:]))
