@@ -1,0 +1,451 @@
+//! The benchmark: the library's search against plain Rust and plain C that make one pass over the book a step, and against
+//! Frank-Wolfe in floating point, on the same files.
+//!
+//! Use: bench [REPEATS]. In each repeat every implementation runs in turn, so that a change of the machine's load meets all of
+//! them alike. Times are of the processor and for one call, and a time is the median of the repeats; a ratio is the median of the
+//! repeats' ratios.
+
+mod plain;
+
+use std::ffi::c_void;
+use std::hint::black_box;
+
+/// dofitrano_reply of include/dofitrano.h.
+#[repr(C)]
+#[derive(Clone, Copy, PartialEq, Debug, Default)]
+pub struct Reply {
+    pub refusal: u32,
+    pub verdict: u32,
+    pub steps: u32,
+    pub weight: u32,
+    pub distance: u64,
+    pub gap: u64,
+    pub floor: i64,
+    pub shortfall: u64,
+}
+
+/// dofitrano_card_reply of include/dofitrano.h.
+#[repr(C)]
+#[derive(Clone, Copy)]
+struct CardReply {
+    reply: Reply,
+    bytes: usize,
+}
+
+/// float_answer of float.c.
+#[repr(C)]
+#[derive(Clone, Copy)]
+struct FloatAnswer {
+    verdict: u32,
+    steps: u32,
+    distance: f64,
+    gap: f64,
+}
+
+extern "C" {
+    fn dofitrano_search(b: *const u8, bn: usize, s: *const u8, sn: usize, q: *mut u16, qn: usize) -> Reply;
+    fn dofitrano_write_card(b: *const u8, bn: usize, s: *const u8, sn: usize, c: *mut u8, cn: usize) -> CardReply;
+    fn dofitrano_check_card(
+        b: *const u8,
+        bn: usize,
+        s: *const u8,
+        sn: usize,
+        c: *const u8,
+        cn: usize,
+        q: *mut u16,
+        qn: usize,
+    ) -> Reply;
+    fn dofitrano_listing(b: *const u8, bn: usize, s: *const u8, sn: usize, t: *mut u8, tn: usize) -> usize;
+    fn plain_c_search(b: *const u8, bn: usize, s: *const u8, sn: usize, q: *mut u16, qn: usize) -> Reply;
+    fn float_search(b: *const u8, bn: usize, s: *const u8, sn: usize, weights: *mut f64) -> FloatAnswer;
+    fn stack_of(call: extern "C" fn(*mut c_void), argument: *mut c_void) -> usize;
+}
+
+// The slices give true pointers and lengths, and what is written overlaps nothing.
+fn library_search(book: &[u8], sheet: &[u8], shares: &mut [u16]) -> Reply {
+    unsafe { dofitrano_search(book.as_ptr(), book.len(), sheet.as_ptr(), sheet.len(), shares.as_mut_ptr(), shares.len()) }
+}
+
+fn library_write_card(book: &[u8], sheet: &[u8], card: &mut [u8]) -> CardReply {
+    unsafe { dofitrano_write_card(book.as_ptr(), book.len(), sheet.as_ptr(), sheet.len(), card.as_mut_ptr(), card.len()) }
+}
+
+fn library_check_card(book: &[u8], sheet: &[u8], card: &[u8], shares: &mut [u16]) -> Reply {
+    let (b, s, c) = (book.as_ptr(), sheet.as_ptr(), card.as_ptr());
+    unsafe { dofitrano_check_card(b, book.len(), s, sheet.len(), c, card.len(), shares.as_mut_ptr(), shares.len()) }
+}
+
+fn library_listing(book: &[u8], sheet: &[u8], text: &mut [u8]) -> usize {
+    unsafe { dofitrano_listing(book.as_ptr(), book.len(), sheet.as_ptr(), sheet.len(), text.as_mut_ptr(), text.len()) }
+}
+
+fn c_search(book: &[u8], sheet: &[u8], shares: &mut [u16]) -> Reply {
+    unsafe { plain_c_search(book.as_ptr(), book.len(), sheet.as_ptr(), sheet.len(), shares.as_mut_ptr(), shares.len()) }
+}
+
+fn c_float_search(book: &[u8], sheet: &[u8], weights: &mut [f64; 256]) -> FloatAnswer {
+    unsafe { float_search(book.as_ptr(), book.len(), sheet.as_ptr(), sheet.len(), weights.as_mut_ptr()) }
+}
+
+// ------------------------------------------------------------------- the inputs
+
+/// SplitMix64.
+struct Random(u64);
+
+impl Random {
+    fn next(&mut self) -> u64 {
+        self.0 = self.0.wrapping_add(0x9e37_79b9_7f4a_7c15);
+        let mut z = self.0;
+        z = (z ^ (z >> 30)).wrapping_mul(0xbf58_476d_1ce4_e5b9);
+        z = (z ^ (z >> 27)).wrapping_mul(0x94d0_49bb_1331_11eb);
+        z ^ (z >> 31)
+    }
+
+    fn value(&mut self) -> i16 {
+        (self.next() % 4001) as i16 - 2000
+    }
+}
+
+struct Input {
+    book: Vec<u8>,
+    sheet: Vec<u8>,
+}
+
+fn input(rows: &[Vec<i16>], target: &[i16], steps: u16, tolerance: u32) -> Input {
+    let mut book: Vec<u8> = rows.iter().flatten().flat_map(|v| v.to_le_bytes()).collect();
+    let back = book.len() as u32;
+    book.extend_from_slice(&back.to_le_bytes());
+    book.extend_from_slice(&(rows.len() as u16).to_le_bytes());
+    book.extend_from_slice(&(target.len() as u16).to_le_bytes());
+    book.extend_from_slice(b"WBK1");
+    let mut sheet: Vec<u8> = target.iter().flat_map(|v| v.to_le_bytes()).collect();
+    let back = sheet.len() as u32;
+    sheet.extend_from_slice(&back.to_le_bytes());
+    sheet.extend_from_slice(&(target.len() as u16).to_le_bytes());
+    sheet.extend_from_slice(&steps.to_le_bytes());
+    sheet.extend_from_slice(&tolerance.to_le_bytes());
+    sheet.extend_from_slice(b"WSH1");
+    Input { book, sheet }
+}
+
+fn random_rows(rng: &mut Random, boats: usize, columns: usize) -> Vec<Vec<i16>> {
+    (0..boats).map(|_| (0..columns).map(|_| rng.value()).collect()).collect()
+}
+
+/// The least squared distance on the way through so many steps, rounded down.
+fn nearest(rows: &[Vec<i16>], target: &[i16], steps: u16) -> u32 {
+    let along = |row: &[i16], r: &[i64]| row.iter().zip(r).map(|(v, x)| i64::from(*v) * x).sum::<i64>();
+    let mut r: Vec<i64> = rows[0].iter().zip(target).map(|(v, u)| i64::from(*v) - i64::from(*u)).collect();
+    let mut nearest = i64::MAX;
+    for t in 1..=i64::from(steps) {
+        let best = rows.iter().min_by_key(|row| along(row, &r)).unwrap();
+        if t == 1 {
+            r.fill(0);
+        }
+        for ((x, v), u) in r.iter_mut().zip(best).zip(target) {
+            *x += t * (i64::from(*v) - i64::from(*u));
+        }
+        let w = t * (t + 1) / 2;
+        nearest = nearest.min(r.iter().map(|x| x * x).sum::<i64>() / (w * w));
+    }
+    nearest as u32
+}
+
+/// Random rows and a random target, so that few boats are picked. The tolerance is one less than what the run comes to, so that
+/// it goes on to its last step.
+fn few_boats(boats: usize, columns: usize, steps: u16) -> Input {
+    let mut rng = Random(2);
+    let rows = random_rows(&mut rng, boats, columns);
+    let target: Vec<i16> = (0..columns).map(|_| rng.value()).collect();
+    let tolerance = nearest(&rows, &target, steps).saturating_sub(1);
+    input(&rows, &target, steps, tolerance)
+}
+
+/// Random rows; the target is their mean, so that most picks are of boats not picked before.
+fn many_boats(boats: usize, columns: usize, steps: u16) -> Input {
+    let mut rng = Random(2);
+    let rows = random_rows(&mut rng, boats, columns);
+    let target: Vec<i16> = (0..columns)
+        .map(|c| (rows.iter().map(|row| i32::from(row[c])).sum::<i32>() / boats as i32) as i16)
+        .collect();
+    input(&rows, &target, steps, 0)
+}
+
+/// A tolerance that the first step meets.
+fn one_step(boats: usize, columns: usize) -> Input {
+    let mut rng = Random(3);
+    let rows = random_rows(&mut rng, boats, columns);
+    let target = vec![0; columns];
+    input(&rows, &target, 360, 1_024_000_000)
+}
+
+// ------------------------------------------------------------------ the measures
+
+/// C's struct timespec.
+#[repr(C)]
+struct Timespec {
+    seconds: i64,
+    nanoseconds: i64,
+}
+
+extern "C" {
+    fn clock_gettime(clock: i32, time: *mut Timespec) -> i32;
+}
+
+/// The processor time of this thread, in seconds: what other programs use is not in it.
+fn now() -> f64 {
+    const CLOCK_THREAD_CPUTIME_ID: i32 = 3;
+    let mut time = Timespec { seconds: 0, nanoseconds: 0 };
+    assert_eq!(unsafe { clock_gettime(CLOCK_THREAD_CPUTIME_ID, &mut time) }, 0);
+    time.seconds as f64 + 1e-9 * time.nanoseconds as f64
+}
+
+/// Seconds that one call takes, over `calls` calls.
+fn time(calls: u32, mut call: impl FnMut()) -> f64 {
+    let start = now();
+    for _ in 0..calls {
+        call();
+    }
+    (now() - start) / f64::from(calls)
+}
+
+fn median(mut times: Vec<f64>) -> f64 {
+    times.sort_by(f64::total_cmp);
+    times[times.len() / 2]
+}
+
+/// The times of each implementation, one a repeat.
+struct Times {
+    library: Vec<f64>,
+    rust: Vec<f64>,
+    c: Vec<f64>,
+    float: Vec<f64>,
+}
+
+/// The median of the repeats' ratios.
+fn ratio(of: &[f64], to: &[f64]) -> f64 {
+    median(of.iter().zip(to).map(|(a, b)| a / b).collect())
+}
+
+fn microseconds(times: &[f64]) -> f64 {
+    1e6 * median(times.to_vec())
+}
+
+/// How many calls take about 3 ms.
+fn batch(mut call: impl FnMut()) -> u32 {
+    call();
+    let once = time(3, call);
+    ((0.003 / once) as u32).clamp(1, 20_000)
+}
+
+/// The times of all implementations on one input. The share list is cleared before each batch of calls, outside the time.
+fn measure(x: &Input, repeats: u32) -> Times {
+    let (book, sheet) = (&x.book[..], &x.sheet[..]);
+    let mut shares = [0u16; 256];
+    let mut weights = [0f64; 256];
+    let calls = batch(|| {
+        black_box(plain::search(black_box(book), black_box(sheet), &mut shares));
+    });
+    let mut times = Times { library: Vec::new(), rust: Vec::new(), c: Vec::new(), float: Vec::new() };
+    for _ in 0..repeats {
+        shares.fill(0);
+        times.library.push(time(calls, || {
+            black_box(library_search(black_box(book), black_box(sheet), &mut shares));
+        }));
+        shares.fill(0);
+        times.rust.push(time(calls, || {
+            black_box(plain::search(black_box(book), black_box(sheet), &mut shares));
+        }));
+        shares.fill(0);
+        times.c.push(time(calls, || {
+            black_box(c_search(black_box(book), black_box(sheet), &mut shares));
+        }));
+        weights.fill(0.0);
+        times.float.push(time(calls, || {
+            black_box(c_float_search(black_box(book), black_box(sheet), &mut weights));
+        }));
+    }
+    times
+}
+
+/// What the run is, after a check that the implementations agree.
+fn described(x: &Input) -> String {
+    let mut shares = [[0u16; 256]; 3];
+    let reply = library_search(&x.book, &x.sheet, &mut shares[0]);
+    assert_eq!(reply, plain::search(&x.book, &x.sheet, &mut shares[1]), "plain Rust differs");
+    assert_eq!(reply, c_search(&x.book, &x.sheet, &mut shares[2]), "plain C differs");
+    assert!(reply.refusal == 0 && shares[0] == shares[1] && shares[0] == shares[2], "shares differ");
+    let mut weights = [0f64; 256];
+    let float = c_float_search(&x.book, &x.sheet, &mut weights);
+    let distance = reply.distance as f64 / (f64::from(reply.weight) * f64::from(reply.weight));
+    let apart = if float.steps == reply.steps && float.verdict == reply.verdict {
+        format!("floats {:.0e} apart", ((float.distance - distance) / distance.max(1.0)).abs().max(1e-16))
+    } else {
+        format!("floats end at step {}", float.steps)
+    };
+    let picked = shares[0].iter().filter(|q| **q != 0).count();
+    format!("{} steps, {picked} boats, {apart}", reply.steps)
+}
+
+/// One row for each input: the run, the times, and the library's ratios to the others.
+fn print_inputs(inputs: &[(&str, Input)], repeats: u32) {
+    println!("| input | run | library | plain Rust | plain C | floats in C | library / Rust | library / C | library / floats |");
+    println!("|---|---|---|---|---|---|---|---|---|");
+    for (name, x) in inputs {
+        let run = described(x);
+        let t = measure(x, repeats);
+        println!(
+            "| {name} | {run} | {:.2} | {:.2} | {:.2} | {:.2} | {:.2} | {:.2} | {:.2} |",
+            microseconds(&t.library),
+            microseconds(&t.rust),
+            microseconds(&t.c),
+            microseconds(&t.float),
+            ratio(&t.library, &t.rust),
+            ratio(&t.library, &t.c),
+            ratio(&t.library, &t.float)
+        );
+    }
+}
+
+/// How the time grows with each of the sizes, the others at their largest. The sizes take turns within a repeat, so that each is
+/// compared with full size under the same load.
+fn print_growth(repeats: u32) {
+    println!("| boats | columns | steps | library | plain Rust | library / Rust | library, of full size | plain Rust, of full size |");
+    println!("|---|---|---|---|---|---|---|---|");
+    let boats = [256, 128, 64, 32].map(|n| (n, 64, 360));
+    let columns = [32, 16, 8].map(|n| (256, n, 360));
+    let steps = [180, 90, 45].map(|n| (256, 64, n));
+    let sizes: Vec<(usize, usize, u16)> = boats.into_iter().chain(columns).chain(steps).collect();
+    let inputs: Vec<Input> = sizes.iter().map(|(b, c, n)| few_boats(*b, *c, *n)).collect();
+    let mut times = vec![(Vec::new(), Vec::new()); sizes.len()];
+    for ((_, _, steps), x) in sizes.iter().zip(&inputs) {
+        let run = described(x);
+        assert!(run.starts_with(&format!("{steps} steps")), "the run ended early: {run}");
+    }
+    for _ in 0..repeats {
+        for (x, (library, rust)) in inputs.iter().zip(&mut times) {
+            let t = measure(x, 1);
+            library.extend(t.library);
+            rust.extend(t.rust);
+        }
+    }
+    let (full_library, full_rust) = times[0].clone();
+    for ((boats, columns, steps), (library, rust)) in sizes.iter().zip(&times) {
+        println!(
+            "| {boats} | {columns} | {steps} | {:.2} | {:.2} | {:.2} | {:.3} | {:.3} |",
+            microseconds(library),
+            microseconds(rust),
+            ratio(library, rust),
+            ratio(library, &full_library),
+            ratio(rust, &full_rust)
+        );
+    }
+}
+
+/// The library's other calls beside its search, on the same files; the card that is checked is the one written.
+fn print_calls(inputs: &[(&str, Input)], repeats: u32) {
+    println!("| input | search | write_card | check_card | listing | write_card / search | check_card / search | listing / search |");
+    println!("|---|---|---|---|---|---|---|---|");
+    for (name, x) in inputs {
+        let (book, sheet) = (&x.book[..], &x.sheet[..]);
+        let mut shares = [0u16; 256];
+        let mut buffer = [0u8; 1060];
+        let mut text = [0u8; 4096];
+        let written = library_write_card(book, sheet, &mut buffer);
+        let card = buffer[..written.bytes].to_vec();
+        assert!(written.reply.refusal == 0 && library_check_card(book, sheet, &card, &mut shares) == written.reply);
+        let calls = batch(|| {
+            black_box(library_search(black_box(book), black_box(sheet), &mut shares));
+        });
+        let mut times = [const { Vec::new() }; 4];
+        for _ in 0..repeats {
+            shares.fill(0);
+            times[0].push(time(calls, || {
+                black_box(library_search(black_box(book), black_box(sheet), &mut shares));
+            }));
+            buffer.fill(0);
+            times[1].push(time(calls, || {
+                black_box(library_write_card(black_box(book), black_box(sheet), &mut buffer));
+            }));
+            shares.fill(0);
+            times[2].push(time(calls, || {
+                black_box(library_check_card(black_box(book), black_box(sheet), black_box(&card), &mut shares));
+            }));
+            text.fill(0);
+            times[3].push(time(calls, || {
+                black_box(library_listing(black_box(book), black_box(sheet), &mut text));
+            }));
+        }
+        let [search, write, check, list] = &times;
+        println!(
+            "| {name} | {:.2} | {:.2} | {:.2} | {:.2} | {:.2} | {:.3} | {:.2} |",
+            microseconds(search),
+            microseconds(write),
+            microseconds(check),
+            microseconds(list),
+            ratio(write, search),
+            ratio(check, search),
+            ratio(list, search)
+        );
+    }
+}
+
+extern "C" fn search_once(input: *mut c_void) {
+    // `print_stack` passes an input that outlives the call.
+    let x = unsafe { &*input.cast::<Input>() };
+    let mut shares = [0u16; 256];
+    black_box(library_search(&x.book, &x.sheet, &mut shares));
+}
+
+extern "C" fn write_card_once(input: *mut c_void) {
+    let x = unsafe { &*input.cast::<Input>() };
+    let mut card = [0u8; 1060];
+    black_box(library_write_card(&x.book, &x.sheet, &mut card));
+}
+
+extern "C" fn listing_once(input: *mut c_void) {
+    let x = unsafe { &*input.cast::<Input>() };
+    let mut text = [0u8; 4096];
+    black_box(library_listing(&x.book, &x.sheet, &mut text));
+}
+
+/// The calls whose stack is measured; it has the caller's own list or buffer in it.
+const CALLS: [(&str, extern "C" fn(*mut c_void)); 3] =
+    [("search", search_once), ("write_card", write_card_once), ("listing", listing_once)];
+
+/// The stack that the calls use at full size.
+fn print_stack() {
+    let mut x = many_boats(256, 64, 360);
+    let argument: *mut c_void = (&raw mut x).cast();
+    for (name, call) in CALLS {
+        println!("stack of {name} at full size: {} bytes", unsafe { stack_of(call, argument) });
+    }
+}
+
+fn main() {
+    let repeats = std::env::args().nth(1).map_or(31, |word| word.parse().expect("a number of repeats"));
+    println!("Processor times in microseconds a call, medians of {repeats} repeats.");
+    println!("Share lists and buffers were cleared before each batch of calls, outside the time. The files are read again in each call, from the cache.");
+    println!();
+    let inputs = [
+        ("full size, 256 x 64 x 360, few boats picked", few_boats(256, 64, 360)),
+        ("full size, many boats picked", many_boats(256, 64, 360)),
+        ("256 x 64 x 47, every pick a new boat", many_boats(256, 64, 47)),
+        ("typical, 40 x 20 x 60, few boats picked", few_boats(40, 20, 60)),
+        ("typical, many boats picked", many_boats(40, 20, 60)),
+        ("one step, 256 x 64", one_step(256, 64)),
+        ("one step, 40 x 20", one_step(40, 20)),
+        ("one step, 3 x 2", one_step(3, 2)),
+    ];
+    print_inputs(&inputs, repeats);
+    println!();
+    println!("The library's other calls beside its search:");
+    println!();
+    print_calls(&inputs, repeats);
+    println!();
+    println!("How the time grows, few boats picked:");
+    println!();
+    print_growth(repeats);
+    println!();
+    print_stack();
+}

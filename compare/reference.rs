@@ -1,0 +1,340 @@
+//! A second implementation of the files, the search, the card and the listing, which compare/main.rs sets against the
+//! library. It is written from the definitions of the formats and the method and takes the plainest way: 128-bit integers,
+//! every quantity computed anew after each step from the shares alone.
+
+const MOST_BYTES: usize = 40_000;
+
+/// The verdict of a run and what it carries.
+#[derive(Clone, Copy, PartialEq, Debug)]
+pub enum Verdict {
+    Within,
+    Beyond(i128),
+    Spent(i128),
+}
+
+impl Verdict {
+    pub fn number(self) -> u16 {
+        match self {
+            Verdict::Within => 1,
+            Verdict::Beyond(_) => 2,
+            Verdict::Spent(_) => 3,
+        }
+    }
+
+    fn word(self) -> &'static str {
+        match self {
+            Verdict::Within => "within",
+            Verdict::Beyond(_) => "beyond",
+            Verdict::Spent(_) => "spent",
+        }
+    }
+}
+
+/// Steps used, W, E, G and the verdict.
+#[derive(Clone, Copy, PartialEq, Debug)]
+pub struct Answer {
+    pub steps: usize,
+    pub weight: i128,
+    pub distance: i128,
+    pub gap: i128,
+    pub verdict: Verdict,
+}
+
+/// An accepted fleet book and sheet.
+pub struct Problem {
+    pub rows: Vec<Vec<i128>>,
+    pub target: Vec<i128>,
+    pub steps: usize,
+    pub tolerance: i128,
+}
+
+fn unsigned(bytes: &[u8]) -> u64 {
+    bytes.iter().rev().fold(0, |n, b| n * 256 + u64::from(*b))
+}
+
+fn signed16(bytes: &[u8]) -> i128 {
+    i128::from(i16::from_le_bytes([bytes[0], bytes[1]]))
+}
+
+fn in_range(v: &i128) -> bool {
+    (-2000..=2000).contains(v)
+}
+
+/// The rows of a fleet book, or the number that refuses it.
+pub fn read_book(book: &[u8]) -> Result<Vec<Vec<i128>>, u32> {
+    if book.len() < 12 || book.len() > MOST_BYTES {
+        return Err(1);
+    }
+    let (before, trailer) = book.split_at(book.len() - 12);
+    if &trailer[8..] != b"WBK1" {
+        return Err(2);
+    }
+    let boats = unsigned(&trailer[4..6]) as usize;
+    if boats == 0 || boats > 256 {
+        return Err(3);
+    }
+    let columns = unsigned(&trailer[6..8]) as usize;
+    if columns == 0 || columns > 64 {
+        return Err(4);
+    }
+    let back = unsigned(&trailer[..4]) as usize;
+    if back != 2 * boats * columns || back > before.len() {
+        return Err(5);
+    }
+    let values: Vec<i128> = before[before.len() - back..].chunks(2).map(signed16).collect();
+    if !values.iter().all(in_range) {
+        return Err(6);
+    }
+    Ok(values.chunks(columns).map(|row| row.to_vec()).collect())
+}
+
+/// Target, steps and tolerance of a sheet for a book of so many columns, or the number that refuses it.
+fn read_sheet(sheet: &[u8], columns: usize) -> Result<(Vec<i128>, usize, i128), u32> {
+    if sheet.len() < 16 || sheet.len() > MOST_BYTES {
+        return Err(11);
+    }
+    let (before, trailer) = sheet.split_at(sheet.len() - 16);
+    if &trailer[12..] != b"WSH1" {
+        return Err(12);
+    }
+    if unsigned(&trailer[4..6]) as usize != columns {
+        return Err(13);
+    }
+    let steps = unsigned(&trailer[6..8]) as usize;
+    if steps == 0 || steps > 360 {
+        return Err(14);
+    }
+    let tolerance = i128::from(unsigned(&trailer[8..12]));
+    if tolerance > 1_024_000_000 {
+        return Err(15);
+    }
+    let back = unsigned(&trailer[..4]) as usize;
+    if back != 2 * columns || back > before.len() {
+        return Err(16);
+    }
+    let target: Vec<i128> = before[before.len() - back..].chunks(2).map(signed16).collect();
+    if !target.iter().all(in_range) {
+        return Err(17);
+    }
+    Ok((target, steps, tolerance))
+}
+
+pub fn read_files(book: &[u8], sheet: &[u8]) -> Result<Problem, u32> {
+    let rows = read_book(book)?;
+    let (target, steps, tolerance) = read_sheet(sheet, rows[0].len())?;
+    Ok(Problem { rows, target, steps, tolerance })
+}
+
+fn inner(a: &[i128], b: &[i128]) -> i128 {
+    a.iter().zip(b).map(|(x, y)| x * y).sum()
+}
+
+impl Problem {
+    /// Sum over boats of share times row, and that less the total of the shares times the target.
+    fn point_and_residual(&self, shares: &[u16]) -> (Vec<i128>, Vec<i128>) {
+        let total: i128 = shares.iter().map(|q| i128::from(*q)).sum();
+        let mut y = vec![0; self.target.len()];
+        for (q, row) in shares.iter().zip(&self.rows) {
+            if *q != 0 {
+                for (p, v) in y.iter_mut().zip(row) {
+                    *p += i128::from(*q) * v;
+                }
+            }
+        }
+        let r = y.iter().zip(&self.target).map(|(p, u)| p - total * u).collect();
+        (y, r)
+    }
+
+    /// E and G of some shares.
+    pub fn distance_and_gap(&self, shares: &[u16]) -> (i128, i128) {
+        let total: i128 = shares.iter().map(|q| i128::from(*q)).sum();
+        let (y, r) = self.point_and_residual(shares);
+        let gap = self.rows.iter().map(|v| {
+            let direction: Vec<i128> = y.iter().zip(v).map(|(p, x)| p - total * x).collect();
+            inner(&r, &direction)
+        });
+        (inner(&r, &r), gap.max().unwrap())
+    }
+
+    /// The lowest-numbered boat of least score in some direction.
+    fn pick(&self, direction: &[i128]) -> usize {
+        let scores: Vec<i128> = self.rows.iter().map(|v| inner(direction, v)).collect();
+        let least = scores.iter().min().unwrap();
+        scores.iter().position(|s| s == least).unwrap()
+    }
+
+    /// The verdict after t steps, none where the search goes on.
+    fn judge(&self, t: usize, weight: i128, e: i128, g: i128) -> Option<Verdict> {
+        let limit = self.tolerance * weight * weight;
+        if e <= limit {
+            Some(Verdict::Within)
+        } else if e - 2 * g > limit {
+            Some(Verdict::Beyond(e - 2 * g))
+        } else if t == self.steps {
+            Some(Verdict::Spent(e - limit))
+        } else {
+            None
+        }
+    }
+
+    /// The answer and the shares of a run.
+    pub fn run(&self) -> (Answer, Vec<u16>) {
+        let mut shares = vec![0u16; self.rows.len()];
+        let mut direction: Vec<i128> = self.rows[0].iter().zip(&self.target).map(|(x, u)| x - u).collect();
+        let mut t = 0;
+        loop {
+            t += 1;
+            shares[self.pick(&direction)] += t as u16;
+            let weight = (t * (t + 1) / 2) as i128;
+            let (distance, gap) = self.distance_and_gap(&shares);
+            if let Some(verdict) = self.judge(t, weight, distance, gap) {
+                return (Answer { steps: t, weight, distance, gap, verdict }, shares);
+            }
+            direction = self.point_and_residual(&shares).1;
+        }
+    }
+
+    /// The answer that a card with these shares after t steps must carry, none where no verdict is due.
+    pub fn answer_of(&self, t: usize, shares: &[u16]) -> Option<Answer> {
+        let weight = (t * (t + 1) / 2) as i128;
+        let (distance, gap) = self.distance_and_gap(shares);
+        let verdict = self.judge(t, weight, distance, gap)?;
+        Some(Answer { steps: t, weight, distance, gap, verdict })
+    }
+
+    /// The card of some shares and fields.
+    pub fn card(&self, shares: &[u16], verdict: u16, steps: u16, tolerance: u32, distance: u64, gap: u64) -> Vec<u8> {
+        let mut card = Vec::new();
+        for (boat, share) in shares.iter().enumerate() {
+            if *share != 0 {
+                card.extend_from_slice(&(boat as u16).to_le_bytes());
+                card.extend_from_slice(&share.to_le_bytes());
+            }
+        }
+        let back = card.len() as u32;
+        card.extend_from_slice(&back.to_le_bytes());
+        card.extend_from_slice(&verdict.to_le_bytes());
+        card.extend_from_slice(&steps.to_le_bytes());
+        card.extend_from_slice(&tolerance.to_le_bytes());
+        card.extend_from_slice(&distance.to_le_bytes());
+        card.extend_from_slice(&gap.to_le_bytes());
+        card.extend_from_slice(&(self.rows.len() as u16).to_le_bytes());
+        card.extend_from_slice(&(self.target.len() as u16).to_le_bytes());
+        card.extend_from_slice(b"WCD1");
+        card
+    }
+
+    pub fn answer_card(&self, answer: &Answer, shares: &[u16]) -> Vec<u8> {
+        self.card(
+            shares,
+            answer.verdict.number(),
+            answer.steps as u16,
+            self.tolerance as u32,
+            answer.distance as u64,
+            answer.gap as u64,
+        )
+    }
+
+    /// The answer and the shares of a card, or the number, 31 to 39, that refuses it.
+    fn read_card(&self, card: &[u8]) -> Result<(Answer, Vec<u16>), u32> {
+        if card.len() < 36 || card.len() > MOST_BYTES {
+            return Err(31);
+        }
+        let (before, trailer) = card.split_at(card.len() - 36);
+        if &trailer[32..] != b"WCD1" {
+            return Err(32);
+        }
+        if unsigned(&trailer[28..30]) as usize != self.rows.len() || unsigned(&trailer[30..32]) as usize != self.target.len() {
+            return Err(33);
+        }
+        let verdict = unsigned(&trailer[4..6]) as u16;
+        let t = unsigned(&trailer[6..8]) as usize;
+        if !(1..=3).contains(&verdict) || t == 0 || t > self.steps {
+            return Err(34);
+        }
+        let back = unsigned(&trailer[..4]) as usize;
+        if back == 0 || back % 4 != 0 || back > 4 * self.rows.len() || back > before.len() {
+            return Err(35);
+        }
+        let mut shares = vec![0u16; self.rows.len()];
+        let mut lowest = 0;
+        let body = &before[before.len() - back..];
+        for pair in body.chunks(4) {
+            let boat = unsigned(&pair[..2]) as usize;
+            let share = unsigned(&pair[2..]) as u16;
+            if boat < lowest || boat >= shares.len() || share == 0 {
+                return Err(36);
+            }
+            shares[boat] = share;
+            lowest = boat + 1;
+        }
+        let total: usize = shares.iter().map(|q| usize::from(*q)).sum();
+        if body.len() / 4 > t || total != t * (t + 1) / 2 {
+            return Err(37);
+        }
+        let Some(answer) = self.answer_of(t, &shares) else {
+            return Err(38);
+        };
+        if unsigned(&trailer[12..20]) as i128 != answer.distance
+            || unsigned(&trailer[20..28]) as i128 != answer.gap
+            || verdict != answer.verdict.number()
+        {
+            return Err(38);
+        }
+        if i128::from(unsigned(&trailer[8..12])) != self.tolerance {
+            return Err(39);
+        }
+        Ok((answer, shares))
+    }
+}
+
+/// The search: its answer or refusal; the share list is filled only where it answers.
+pub fn search(book: &[u8], sheet: &[u8], slots: &mut [u16]) -> Result<Answer, u32> {
+    let problem = read_files(book, sheet)?;
+    if slots.len() < problem.rows.len() {
+        return Err(21);
+    }
+    let (answer, shares) = problem.run();
+    slots[..shares.len()].copy_from_slice(&shares);
+    Ok(answer)
+}
+
+/// The writer: its answer and the bytes written, or its refusal; the buffer is written only where it answers.
+pub fn write_card(book: &[u8], sheet: &[u8], buffer: &mut [u8]) -> Result<(Answer, usize), u32> {
+    let problem = read_files(book, sheet)?;
+    let (answer, shares) = problem.run();
+    let card = problem.answer_card(&answer, &shares);
+    if buffer.len() < card.len() {
+        return Err(22);
+    }
+    buffer[..card.len()].copy_from_slice(&card);
+    Ok((answer, card.len()))
+}
+
+/// The card check: the card's answer or its refusal; the share list is filled only where it accepts.
+pub fn check_card(book: &[u8], sheet: &[u8], card: &[u8], slots: &mut [u16]) -> Result<Answer, u32> {
+    let problem = read_files(book, sheet)?;
+    if slots.len() < problem.rows.len() {
+        return Err(21);
+    }
+    let (answer, shares) = problem.read_card(card)?;
+    slots[..shares.len()].copy_from_slice(&shares);
+    Ok(answer)
+}
+
+/// The listing of a search, or the one line of its refusal.
+pub fn listing(book: &[u8], sheet: &[u8]) -> Vec<u8> {
+    let problem = match read_files(book, sheet) {
+        Ok(problem) => problem,
+        Err(number) => return format!("refused {number}\n").into_bytes(),
+    };
+    let (answer, shares) = problem.run();
+    let mut text = format!("fleet {} {}\n", problem.rows.len(), problem.target.len());
+    text += &format!("sheet {} {}\n", problem.tolerance, problem.steps);
+    text += &format!("{} {} {}\n", answer.verdict.word(), answer.steps, answer.weight);
+    text += &format!("distance {}\ngap {}\n", answer.distance, answer.gap);
+    for (boat, share) in shares.iter().enumerate().filter(|(_, q)| **q != 0) {
+        text += &format!("boat {boat} {share}\n");
+    }
+    text.into_bytes()
+}

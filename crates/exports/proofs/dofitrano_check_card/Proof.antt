@@ -1,0 +1,21 @@
+use mathlib.Core.Path.{ap, _∙_}
+use Rattle.exports.specs.Replies.{reply-of}
+use borrow.Author.Needs.{needs}
+use Rattle.exports.proofs.dofitrano_check_card.Statement.{statement}
+use Rattle.exports.proofs.dofitrano_check_card.Tie as tie
+
+check-card-requires : tie.Need-check-card-requires
+check-card-requires c κs = search needs
+
+reply-of-requires : tie.Need-reply-of-requires
+reply-of-requires c κs = search needs
+
+same-length : tie.Need-same-length
+same-length c = search needs
+
+returns : tie.Need-returns
+returns c = (c .reply-of .ensures ∙ ap reply-of (c .before .before .before .check-card .ensures .0), c .before .before .before .check-card .ensures .1 .0)
+
+pub dofitrano-check-card-spec : {M : Type 1} → statement M
+dofitrano-check-card-spec =
+    tie.close (tie.spec check-card-requires reply-of-requires same-length returns)

@@ -1,0 +1,20 @@
+use mathlib.Core.Path.{ap, _∙_}
+use Rattle.exports.specs.Replies.{reply-of}
+use borrow.Author.Needs.{needs}
+use Rattle.exports.proofs.dofitrano_search.Statement.{statement}
+use Rattle.exports.proofs.dofitrano_search.Tie as tie
+
+search-requires : tie.Need-search-requires
+search-requires c κs = search needs
+
+reply-of-requires : tie.Need-reply-of-requires
+reply-of-requires c κs = search needs
+
+same-length : tie.Need-same-length
+same-length c = search needs
+
+returns : tie.Need-returns
+returns c = (c .reply-of .ensures ∙ ap reply-of (c .before .before .before .search .ensures .0), c .before .before .before .search .ensures .1 .0)
+
+pub dofitrano-search-spec : {M : Type 1} → statement M
+dofitrano-search-spec = tie.close (tie.spec search-requires reply-of-requires same-length returns)

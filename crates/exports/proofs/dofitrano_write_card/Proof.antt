@@ -1,0 +1,21 @@
+use mathlib.Core.Path.{ap, _∙_}
+use Rattle.exports.specs.Replies.{card-reply-of}
+use borrow.Author.Needs.{needs}
+use Rattle.exports.proofs.dofitrano_write_card.Statement.{statement}
+use Rattle.exports.proofs.dofitrano_write_card.Tie as tie
+
+write-card-requires : tie.Need-write-card-requires
+write-card-requires c κs = search needs
+
+card-reply-of-requires : tie.Need-card-reply-of-requires
+card-reply-of-requires c κs = search needs
+
+same-length : tie.Need-same-length
+same-length c = search needs
+
+returns : tie.Need-returns
+returns c = (c .card-reply-of .ensures ∙ ap card-reply-of (c .before .before .before .write-card .ensures .0), c .before .before .before .write-card .ensures .1 .0)
+
+pub dofitrano-write-card-spec : {M : Type 1} → statement M
+dofitrano-write-card-spec =
+    tie.close (tie.spec write-card-requires card-reply-of-requires same-length returns)

@@ -1,0 +1,91 @@
+/* The library from C: a search and its refusal, a listing, a card written and checked. Files are built in memory. */
+#include <inttypes.h>
+#include <stdio.h>
+#include <string.h>
+
+#include "dofitrano.h"
+
+/* Three boats of two columns: (0,0), (4,0), (0,4). Body, then the trailer: back, boats, columns, letters. */
+static const uint8_t book[] = {
+    0, 0, 0, 0, 4, 0, 0, 0, 0, 0, 4, 0,
+    12, 0, 0, 0, 3, 0, 2, 0, 'W', 'B', 'K', '1'
+};
+
+/* Target (1,1); back, columns, steps, tolerance 1, letters. */
+static const uint8_t sheet[] = {
+    1, 0, 1, 0,
+    4, 0, 0, 0, 2, 0, 9, 0, 1, 0, 0, 0, 'W', 'S', 'H', '1'
+};
+#define STEPS_AT 10
+
+static const char *verdict_name(uint32_t verdict)
+{
+    switch (verdict) {
+    case DOFITRANO_WITHIN: return "within";
+    case DOFITRANO_BEYOND: return "beyond";
+    case DOFITRANO_SPENT: return "spent";
+    default: return "none";
+    }
+}
+
+static void print_reply(dofitrano_reply r)
+{
+    printf("refusal %" PRIu32 "\n", r.refusal);
+    printf("verdict %s\n", verdict_name(r.verdict));
+    printf("steps %" PRIu32 "\n", r.steps);
+    printf("weight %" PRIu32 "\n", r.weight);
+    printf("distance %" PRIu64 "\n", r.distance);
+    printf("gap %" PRIu64 "\n", r.gap);
+    printf("floor %" PRId64 "\n", r.floor);
+    printf("shortfall %" PRIu64 "\n", r.shortfall);
+}
+
+static void search(const uint8_t *the_sheet, size_t length)
+{
+    /* One slot more than there are boats: the search leaves it alone. */
+    uint16_t shares[4] = { 7, 7, 7, 7 };
+    print_reply(dofitrano_search(book, sizeof book, the_sheet, length, shares, 4));
+    printf("slots %u %u %u %u\n", shares[0], shares[1], shares[2], shares[3]);
+}
+
+static void list(void)
+{
+    uint8_t text[DOFITRANO_LISTING_MOST];
+    size_t length = dofitrano_listing(book, sizeof book, sheet, sizeof sheet, text, sizeof text);
+    fwrite(text, 1, length, stdout);
+}
+
+static void write_and_check(void)
+{
+    uint8_t card[DOFITRANO_CARD_MOST];
+    uint16_t shares[3] = { 7, 7, 7 };
+    dofitrano_card_reply written = dofitrano_write_card(book, sizeof book, sheet, sizeof sheet, card, sizeof card);
+    printf("refusal %" PRIu32 ", bytes %zu\n", written.reply.refusal, written.bytes);
+    for (size_t i = 0; i < written.bytes; i++)
+        printf("%02x", card[i]);
+    printf("\n");
+    dofitrano_reply checked = dofitrano_check_card(book, sizeof book, sheet, sizeof sheet, card, written.bytes, shares, 3);
+    printf("checked, refusal %" PRIu32 ", %s, slots %u %u %u\n", checked.refusal, verdict_name(checked.verdict),
+           shares[0], shares[1], shares[2]);
+    card[2]++; /* one share more */
+    checked = dofitrano_check_card(book, sizeof book, sheet, sizeof sheet, card, written.bytes, shares, 3);
+    printf("checked with one share more, refusal %" PRIu32 "\n", checked.refusal);
+}
+
+int main(void)
+{
+    printf("search, 9 steps\n");
+    search(sheet, sizeof sheet);
+
+    uint8_t no_steps[sizeof sheet];
+    memcpy(no_steps, sheet, sizeof sheet);
+    no_steps[STEPS_AT] = 0;
+    printf("search, 0 steps\n");
+    search(no_steps, sizeof no_steps);
+
+    printf("listing\n");
+    list();
+    printf("card\n");
+    write_and_check();
+    return 0;
+}

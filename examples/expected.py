@@ -1,0 +1,53 @@
+"""Writes what the examples must print, by the reference implementation tests/exact.py and not by the library.
+
+Use, from the repository's root: python3 examples/expected.py >examples/expected.txt
+"""
+import os
+import sys
+
+sys.path.insert(0, os.path.join(os.path.dirname(os.path.abspath(__file__)), "..", "tests"))
+import exact  # noqa: E402
+
+NAMES = {0: "none", **exact.VERDICT_NAMES}
+
+
+def print_reply(refusal, answer):
+    """The fields of a reply, 0 where the call is refused."""
+    a = answer or exact.Answer(0, 0, 0, 0, 0, None)
+    fields = [
+        ("refusal", refusal),
+        ("verdict", NAMES[a.verdict]),
+        ("steps", a.steps),
+        ("weight", a.weight),
+        ("distance", a.distance),
+        ("gap", a.gap),
+        ("floor", a.carried if a.verdict == exact.BEYOND else 0),
+        ("shortfall", a.carried if a.verdict == exact.SPENT else 0),
+    ]
+    for name, value in fields:
+        print(name, value)
+
+
+def main():
+    book = exact.make_book([[0, 0], [4, 0], [0, 4]])
+    for steps in (9, 0):
+        print("search, %d steps" % steps)
+        refusal, answer, slots = exact.search(book, exact.make_sheet([1, 1], steps, 1), [7, 7, 7, 7])
+        print_reply(refusal, answer)
+        print("slots", *slots)
+    sheet = exact.make_sheet([1, 1], 9, 1)
+    print("listing")
+    print(exact.listing(book, sheet).decode("ascii"), end="")
+    print("card")
+    refusal, _, size, buffer = exact.write_card(book, sheet, bytes(1060))
+    card = buffer[:size]
+    print("refusal %d, bytes %d" % (refusal, size))
+    print(card.hex())
+    refusal, answer, slots = exact.check_card(book, sheet, card, [7, 7, 7])
+    print("checked, refusal %d, %s, slots" % (refusal, NAMES[answer.verdict]), *slots)
+    altered = card[:2] + bytes([card[2] + 1]) + card[3:]
+    refusal, _, _ = exact.check_card(book, sheet, altered, [7, 7, 7])
+    print("checked with one share more, refusal %d" % refusal)
+
+
+main()

@@ -1,0 +1,126 @@
+"""The library from Python by ctypes: a search and its refusal, a listing, a card written and checked.
+
+Files are built in memory.
+
+Use: python3 example.py LIBRARY, the shared object that examples/python/run makes.
+"""
+import ctypes
+import struct
+import sys
+
+VERDICT_NAMES = {0: "none", 1: "within", 2: "beyond", 3: "spent"}
+
+
+class Reply(ctypes.Structure):
+    """dofitrano_reply of include/dofitrano.h."""
+
+    _fields_ = [
+        ("refusal", ctypes.c_uint32),
+        ("verdict", ctypes.c_uint32),
+        ("steps", ctypes.c_uint32),
+        ("weight", ctypes.c_uint32),
+        ("distance", ctypes.c_uint64),
+        ("gap", ctypes.c_uint64),
+        ("floor", ctypes.c_int64),
+        ("shortfall", ctypes.c_uint64),
+    ]
+
+
+class CardReply(ctypes.Structure):
+    """dofitrano_card_reply of include/dofitrano.h."""
+
+    _fields_ = [("reply", Reply), ("bytes", ctypes.c_size_t)]
+
+
+CARD_MOST = 1060
+LISTING_MOST = 4096
+
+
+def load(path):
+    """The library, with the types of its functions."""
+    library = ctypes.CDLL(path)
+    file = [ctypes.c_char_p, ctypes.c_size_t]
+    buffer = [ctypes.c_char_p, ctypes.c_size_t]
+    shares = [ctypes.POINTER(ctypes.c_uint16), ctypes.c_size_t]
+    library.dofitrano_search.restype = Reply
+    library.dofitrano_search.argtypes = file + file + shares
+    library.dofitrano_write_card.restype = CardReply
+    library.dofitrano_write_card.argtypes = file + file + buffer
+    library.dofitrano_check_card.restype = Reply
+    library.dofitrano_check_card.argtypes = file + file + file + shares
+    library.dofitrano_listing.restype = ctypes.c_size_t
+    library.dofitrano_listing.argtypes = file + file + buffer
+    return library
+
+
+def search(library, book, sheet, slots):
+    """The reply of a search, and the slots of the share list afterwards."""
+    shares = (ctypes.c_uint16 * len(slots))(*slots)
+    reply = library.dofitrano_search(book, len(book), sheet, len(sheet), shares, len(shares))
+    return reply, list(shares)
+
+
+def write_card(library, book, sheet):
+    """The reply of the card writer, and the card."""
+    output = ctypes.create_string_buffer(CARD_MOST)
+    reply = library.dofitrano_write_card(book, len(book), sheet, len(sheet), output, CARD_MOST)
+    return reply, output.raw[:reply.bytes]
+
+
+def check_card(library, book, sheet, card, slots):
+    """The reply of the card check, and the slots of the share list afterwards."""
+    shares = (ctypes.c_uint16 * len(slots))(*slots)
+    reply = library.dofitrano_check_card(book, len(book), sheet, len(sheet), card, len(card), shares, len(shares))
+    return reply, list(shares)
+
+
+def listing(library, book, sheet):
+    """The listing of a search as text."""
+    output = ctypes.create_string_buffer(LISTING_MOST)
+    length = library.dofitrano_listing(book, len(book), sheet, len(sheet), output, LISTING_MOST)
+    return output.raw[:length].decode("ascii")
+
+
+def book_of(rows):
+    """A fleet book: the rows, then the trailer."""
+    body = b"".join(struct.pack("<h", value) for row in rows for value in row)
+    return body + struct.pack("<IHH4s", len(body), len(rows), len(rows[0]), b"WBK1")
+
+
+def sheet_of(target, steps, tolerance):
+    """A sheet: the target, then the trailer."""
+    body = b"".join(struct.pack("<h", value) for value in target)
+    return body + struct.pack("<IHHI4s", len(body), len(target), steps, tolerance, b"WSH1")
+
+
+def print_reply(reply):
+    for name, _ in Reply._fields_:
+        value = getattr(reply, name)
+        print(name, VERDICT_NAMES[value] if name == "verdict" else value)
+
+
+def main(path):
+    library = load(path)
+    book = book_of([(0, 0), (4, 0), (0, 4)])
+    for steps in (9, 0):
+        print("search, %d steps" % steps)
+        # One slot more than there are boats: the search leaves it alone.
+        reply, slots = search(library, book, sheet_of((1, 1), steps, 1), [7, 7, 7, 7])
+        print_reply(reply)
+        print("slots", *slots)
+    sheet = sheet_of((1, 1), 9, 1)
+    print("listing")
+    print(listing(library, book, sheet), end="")
+    print("card")
+    written, card = write_card(library, book, sheet)
+    print("refusal %d, bytes %d" % (written.reply.refusal, written.bytes))
+    print(card.hex())
+    reply, slots = check_card(library, book, sheet, card, [7, 7, 7])
+    print("checked, refusal %d, %s, slots" % (reply.refusal, VERDICT_NAMES[reply.verdict]), *slots)
+    altered = card[:2] + bytes([card[2] + 1]) + card[3:]
+    reply, _ = check_card(library, book, sheet, altered, [7, 7, 7])
+    print("checked with one share more, refusal %d" % reply.refusal)
+
+
+if __name__ == "__main__":
+    main(sys.argv[1])

@@ -1,0 +1,119 @@
+/* Dofitrano: mixtures of boats that come near a target, as a library for C.
+ *
+ * `rt staticlib exports` builds target/staticlib/libexports.a, which has these functions. Each of them is proved to do
+ * what its contract says (crates/exports/src/lib.rt), for every content of the files. No proof covers what a C
+ * program passes, so the caller must see to the following:
+ *
+ *   - A list or a buffer passes as a pointer and a length. The pointer is not null, also where the length is 0; it is
+ *     aligned for its type; and all elements that the length says can be read, or read and written where there is no
+ *     `const`. A length counts elements and not bytes.
+ *   - What a function writes to does not overlap anything else that is passed in the same call. Files that are only
+ *     read may overlap one another.
+ *   - Nothing else writes to what was passed while the call runs.
+ *   - The prototypes here are those of the library that is linked. Nothing compares the two.
+ *
+ * The functions keep no pointer and no state between calls, and allocate nothing. */
+#ifndef DOFITRANO_H
+#define DOFITRANO_H
+
+#include <stddef.h>
+#include <stdint.h>
+
+#ifdef __cplusplus
+extern "C" {
+#endif
+
+/* Numbers that refuse a call. The lowest that applies is given back, and every list and buffer passed is as it was. */
+enum dofitrano_refusal {
+    DOFITRANO_ACCEPTED = 0,
+    /* the fleet book */
+    DOFITRANO_BOOK_LENGTH = 1,   /* shorter than 12 or longer than 40,000 bytes */
+    DOFITRANO_BOOK_LETTERS = 2,  /* letters not WBK1 */
+    DOFITRANO_BOOK_BOATS = 3,    /* boats outside 1 to 256 */
+    DOFITRANO_BOOK_COLUMNS = 4,  /* columns outside 1 to 64 */
+    DOFITRANO_BOOK_BACK = 5,     /* back is not 2 x boats x columns, or reaches before the first byte */
+    DOFITRANO_BOOK_VALUE = 6,    /* a value outside -2,000 to 2,000 */
+    /* the sheet */
+    DOFITRANO_SHEET_LENGTH = 11,    /* shorter than 16 or longer than 40,000 bytes */
+    DOFITRANO_SHEET_LETTERS = 12,   /* letters not WSH1 */
+    DOFITRANO_SHEET_COLUMNS = 13,   /* columns differ from the book's */
+    DOFITRANO_SHEET_STEPS = 14,     /* steps outside 1 to 360 */
+    DOFITRANO_SHEET_TOLERANCE = 15, /* tolerance above 1,024,000,000 */
+    DOFITRANO_SHEET_BACK = 16,      /* back is not 2 x columns, or reaches before the first byte */
+    DOFITRANO_SHEET_VALUE = 17,     /* a value outside -2,000 to 2,000 */
+    /* the calling program */
+    DOFITRANO_SHARE_LIST = 21,  /* share list shorter than the number of boats */
+    DOFITRANO_CARD_BUFFER = 22, /* card buffer shorter than the card */
+    /* the card */
+    DOFITRANO_CARD_LENGTH = 31,    /* shorter than 36 or longer than 40,000 bytes */
+    DOFITRANO_CARD_LETTERS = 32,   /* letters not WCD1 */
+    DOFITRANO_CARD_SIZES = 33,     /* boats or columns differ from the book's */
+    DOFITRANO_CARD_STEPS = 34,     /* verdict outside 1 to 3, or steps used 0 or above the sheet's */
+    DOFITRANO_CARD_BACK = 35,      /* back 0, no multiple of 4, above 4 x boats, or before the first byte */
+    DOFITRANO_CARD_BOATS = 36,     /* boats not strictly ascending, a boat not in the book, or a share of 0 */
+    DOFITRANO_CARD_SHARES = 37,    /* more boats than steps used, or shares not totalling t (t + 1) / 2 */
+    DOFITRANO_CARD_UNTRUE = 38,    /* E, G or the verdict untrue of the shares */
+    DOFITRANO_CARD_TOLERANCE = 39  /* tolerance differs from the sheet's */
+};
+
+enum dofitrano_verdict {
+    DOFITRANO_WITHIN = 1, /* the squared distance is at most the tolerance */
+    DOFITRANO_BEYOND = 2, /* the squared distance of every mixture is above the tolerance */
+    DOFITRANO_SPENT = 3   /* neither was shown by the sheet's last step */
+};
+
+/* The answer of a call. Where the call is refused, every field but `refusal` is 0: there is no answer to give. */
+typedef struct dofitrano_reply {
+    uint32_t refusal;   /* the number that refuses the call, 0 for an answer */
+    uint32_t verdict;   /* 1 Within, 2 Beyond, 3 Spent */
+    uint32_t steps;     /* t, the steps used */
+    uint32_t weight;    /* W = t (t + 1) / 2, the total of the shares */
+    uint64_t distance;  /* E: the squared distance is E / W^2 */
+    uint64_t gap;       /* G: the gap is G / W^2 */
+    int64_t floor;      /* of Beyond: E - 2 G; else 0 */
+    uint64_t shortfall; /* of Spent: E - tolerance x W^2; else 0 */
+} dofitrano_reply;
+
+/* Searches a mixture of the book's boats near the sheet's target. Refuses by 1 to 17 and 21. Where it answers, the first
+ * slots of `shares` are the boats' shares, one a boat and 0 for an unused boat; later slots are as they were. */
+dofitrano_reply dofitrano_search(const uint8_t *book, size_t book_length,
+                                 const uint8_t *sheet, size_t sheet_length,
+                                 uint16_t *shares, size_t slots);
+
+/* The reply of the card writer. Where the call is refused, `bytes` is 0: nothing was written. */
+typedef struct dofitrano_card_reply {
+    dofitrano_reply reply; /* the run's answer, or the number that refuses the call */
+    size_t bytes;          /* the bytes of the card that was written */
+} dofitrano_card_reply;
+
+/* A card has at most 4 bytes a boat and 36 more: a buffer of this length is never too short. */
+#define DOFITRANO_CARD_MOST 1060
+
+/* Makes the search itself and writes its card to the first bytes of `output`; later bytes are as they were. Refuses by 1 to 17
+ * and 22. */
+dofitrano_card_reply dofitrano_write_card(const uint8_t *book, size_t book_length,
+                                          const uint8_t *sheet, size_t sheet_length,
+                                          uint8_t *output, size_t output_length);
+
+/* Checks a card against its book and sheet without a search. Refuses by 1 to 17, 21 and 31 to 39. Where it accepts, it replies
+ * with the card's answer and fills the first slots of `shares` with the card's shares as dofitrano_search does. */
+dofitrano_reply dofitrano_check_card(const uint8_t *book, size_t book_length,
+                                     const uint8_t *sheet, size_t sheet_length,
+                                     const uint8_t *card, size_t card_length,
+                                     uint16_t *shares, size_t slots);
+
+/* A listing has at most so many bytes. */
+#define DOFITRANO_LISTING_MOST 4096
+
+/* Makes the search and lists its answer, or the number that refuses the files, as lines of text. Gives back the listing's length
+ * in bytes; there is no 0 byte after it. The listing is in the first bytes of `output` where it is that long, and later bytes are
+ * as they were. A shorter buffer is left as it was. */
+size_t dofitrano_listing(const uint8_t *book, size_t book_length,
+                         const uint8_t *sheet, size_t sheet_length,
+                         uint8_t *output, size_t output_length);
+
+#ifdef __cplusplus
+}
+#endif
+
+#endif
