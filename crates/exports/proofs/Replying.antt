@@ -1,5 +1,9 @@
 -- The reply of an answer, field by field, and that of the card writer are those of the definitions. Assumes nothing.
-use mathlib.Core.Path.{_≡_, refl, sym, _∙_}
+use Rattle.card.specs.Checking.{Check-right}
+use Rattle.card.specs.Filing.{Filing-right}
+use Rattle.method.specs.Promise.{Outcome-right}
+use mathlib.Core.Path.{_≡_, refl, sym, _∙_, subst}
+use mathlib.Core.List.{List}
 use Prim.Native.Nat.{ℕ}
 use lib.IntN.{ℤ}
 use Rattle.method.specs.declared.Answer.{Answer}
@@ -26,3 +30,14 @@ write-refused e er = rw (e, er)
 pub filed : {w : Written} {a : Answer} {size : ℕ} → w ≡ written.Filed a size → {r : Reply} → r ≡ reply-of (Answered a) → record { reply = r; bytes = size } ≡ card-reply-of w
 unfolding card-reply-of
 filed e er = rw (e, er)
+
+-- ---- What an entry promises of what it gave back, said of the outcome by which the contracts give it
+
+pub searched-right : (b s : List ℕ) {r o : Searched} {slots after : List ℕ} → r ≡ o → slots ≡ after → Outcome-right b s r slots → Outcome-right b s o slots
+searched-right b s {slots = q} e f h = subst (λ x. Outcome-right b s x q) e h
+
+pub checked-right : (b s w : List ℕ) {r o : Searched} {slots after : List ℕ} → r ≡ o → slots ≡ after → Check-right b s w r slots → Check-right b s w o slots
+checked-right b s w {slots = q} e f h = subst (λ x. Check-right b s w x q) e h
+
+pub filed-right : (b s : List ℕ) {r o : Written} {output after : List ℕ} → r ≡ o → output ≡ after → Filing-right b s r output → Filing-right b s o output
+filed-right b s {output = q} e f h = subst (λ x. Filing-right b s x q) e h

@@ -2,7 +2,8 @@
 //
 // Entries, which ask nothing of their caller: dofitrano_search, dofitrano_write_card, dofitrano_check_card, dofitrano_listing.
 // A slice passes as a pointer and a length; include/dofitrano.h declares the functions for C and says what a caller in another
-// language must see to.
+// language must see to. The first clause of a contract gives the reply, the second every slot or byte that was lent, the third
+// what the entry behind it promises of both.
 ghost use mathlib.Core.Path.{_≡_};
 ghost use mathlib.Core.List.{_++_};
 ghost use Prim.Native.Nat.{_≤_};
@@ -11,7 +12,9 @@ ghost use Rattle.method.specs.Answers.{verdict-number, outcome, search-refusal,
 ghost use Rattle.files.specs.Book.{boats};
 ghost use Rattle.card_format.specs.Format.{card-shares, card-answer, run-card};
 ghost use Rattle.card_format.specs.Checks.{write-refusal, check-refusal};
-ghost use Rattle.card.specs.Filing.{filing};
+ghost use Rattle.card.specs.Filing.{filing, Filing-right};
+ghost use Rattle.card.specs.Checking.{Check-right};
+ghost use Rattle.method.specs.Promise.{Outcome-right};
 ghost use Rattle.listing.specs.Lines.{search-listing};
 ghost use Rattle.exports.specs.Replies.{floor-of, shortfall-of, reply-of, card-reply-of, bytes-after};
 use card::Written;
@@ -110,6 +113,7 @@ pub fn reply_of(found: Searched) -> Reply
 pub extern "C" fn dofitrano_search(book: &[u8], sheet: &[u8], shares: &mut [u16]) -> Reply
     ensures { λ r. ⌜ r ≡ reply-of (outcome (search-refusal (now (book .entry)) (now (sheet .entry)) (length (now (shares .entry)))) (run-answer (now (book .entry)) (now (sheet .entry)))) ⌝ }
     ensures { λ _. ⌜ now (shares .exit) ≡ slots-after (search-refusal (now (book .entry)) (now (sheet .entry)) (length (now (shares .entry)))) (run-iterate (now (book .entry)) (now (sheet .entry)) .shares) (now (shares .entry)) ⌝ }
+    ensures { λ _. ⌜ Outcome-right (now (book .entry)) (now (sheet .entry)) (outcome (search-refusal (now (book .entry)) (now (sheet .entry)) (length (now (shares .entry)))) (run-answer (now (book .entry)) (now (sheet .entry)))) (now (shares .exit)) ⌝ }
 {
     let found = search::search(book, sheet, &mut *shares);
     reply_of(found)
@@ -125,6 +129,7 @@ pub extern "C" fn dofitrano_check_card(
 ) -> Reply
     ensures { λ r. ⌜ r ≡ reply-of (outcome (check-refusal (now (book .entry)) (now (sheet .entry)) (now (card .entry)) (length (now (shares .entry)))) (card-answer (now (book .entry)) (now (sheet .entry)) (now (card .entry)))) ⌝ }
     ensures { λ _. ⌜ now (shares .exit) ≡ slots-after (check-refusal (now (book .entry)) (now (sheet .entry)) (now (card .entry)) (length (now (shares .entry)))) (card-shares (boats (now (book .entry))) (now (card .entry))) (now (shares .entry)) ⌝ }
+    ensures { λ _. ⌜ Check-right (now (book .entry)) (now (sheet .entry)) (now (card .entry)) (outcome (check-refusal (now (book .entry)) (now (sheet .entry)) (now (card .entry)) (length (now (shares .entry)))) (card-answer (now (book .entry)) (now (sheet .entry)) (now (card .entry)))) (now (shares .exit)) ⌝ }
 {
     let found = card::check_card(book, sheet, card, &mut *shares);
     reply_of(found)
@@ -160,6 +165,7 @@ pub fn card_reply_of(written: Written) -> CardReply
 pub extern "C" fn dofitrano_write_card(book: &[u8], sheet: &[u8], output: &mut [u8]) -> CardReply
     ensures { λ r. ⌜ r ≡ card-reply-of (filing (write-refusal (now (book .entry)) (now (sheet .entry)) (length (now (output .entry)))) (run-answer (now (book .entry)) (now (sheet .entry))) (length (run-card (now (book .entry)) (now (sheet .entry))))) ⌝ }
     ensures { λ _. ⌜ now (output .exit) ≡ slots-after (write-refusal (now (book .entry)) (now (sheet .entry)) (length (now (output .entry)))) (run-card (now (book .entry)) (now (sheet .entry))) (now (output .entry)) ⌝ }
+    ensures { λ _. ⌜ Filing-right (now (book .entry)) (now (sheet .entry)) (filing (write-refusal (now (book .entry)) (now (sheet .entry)) (length (now (output .entry)))) (run-answer (now (book .entry)) (now (sheet .entry))) (length (run-card (now (book .entry)) (now (sheet .entry))))) (now (output .exit)) ⌝ }
 {
     let written = card::write_card(book, sheet, &mut *output);
     card_reply_of(written)

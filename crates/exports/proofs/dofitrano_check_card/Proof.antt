@@ -1,5 +1,6 @@
 use mathlib.Core.Path.{ap, _∙_}
 use Rattle.exports.specs.Replies.{reply-of}
+use Rattle.exports.proofs.Replying.{checked-right}
 use borrow.Author.Needs.{needs}
 use Rattle.exports.proofs.dofitrano_check_card.Statement.{statement}
 use Rattle.exports.proofs.dofitrano_check_card.Tie as tie
@@ -14,7 +15,7 @@ same-length : tie.Need-same-length
 same-length c = search needs
 
 returns : tie.Need-returns
-returns c = (c .reply-of .ensures ∙ ap reply-of (c .before .before .before .check-card .ensures .0), c .before .before .before .check-card .ensures .1 .0)
+returns c = (c .reply-of .ensures ∙ ap reply-of (c .before .before .before .check-card .ensures .0), (c .before .before .before .check-card .ensures .1 .0, checked-right _ _ _ (c .before .before .before .check-card .ensures .0) (c .before .before .before .check-card .ensures .1 .0) (c .before .before .before .check-card .ensures .1 .1)))
 
 pub dofitrano-check-card-spec : {M : Type 1} → statement M
 dofitrano-check-card-spec =

@@ -1,5 +1,6 @@
 use mathlib.Core.Path.{ap, _∙_}
 use Rattle.exports.specs.Replies.{reply-of}
+use Rattle.exports.proofs.Replying.{searched-right}
 use borrow.Author.Needs.{needs}
 use Rattle.exports.proofs.dofitrano_search.Statement.{statement}
 use Rattle.exports.proofs.dofitrano_search.Tie as tie
@@ -14,7 +15,7 @@ same-length : tie.Need-same-length
 same-length c = search needs
 
 returns : tie.Need-returns
-returns c = (c .reply-of .ensures ∙ ap reply-of (c .before .before .before .search .ensures .0), c .before .before .before .search .ensures .1 .0)
+returns c = (c .reply-of .ensures ∙ ap reply-of (c .before .before .before .search .ensures .0), (c .before .before .before .search .ensures .1 .0, searched-right _ _ (c .before .before .before .search .ensures .0) (c .before .before .before .search .ensures .1 .0) (c .before .before .before .search .ensures .1 .1)))
 
 pub dofitrano-search-spec : {M : Type 1} → statement M
 dofitrano-search-spec = tie.close (tie.spec search-requires reply-of-requires same-length returns)

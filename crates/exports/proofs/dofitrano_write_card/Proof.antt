@@ -1,5 +1,6 @@
 use mathlib.Core.Path.{ap, _∙_}
 use Rattle.exports.specs.Replies.{card-reply-of}
+use Rattle.exports.proofs.Replying.{filed-right}
 use borrow.Author.Needs.{needs}
 use Rattle.exports.proofs.dofitrano_write_card.Statement.{statement}
 use Rattle.exports.proofs.dofitrano_write_card.Tie as tie
@@ -14,7 +15,7 @@ same-length : tie.Need-same-length
 same-length c = search needs
 
 returns : tie.Need-returns
-returns c = (c .card-reply-of .ensures ∙ ap card-reply-of (c .before .before .before .write-card .ensures .0), c .before .before .before .write-card .ensures .1 .0)
+returns c = (c .card-reply-of .ensures ∙ ap card-reply-of (c .before .before .before .write-card .ensures .0), (c .before .before .before .write-card .ensures .1 .0, filed-right _ _ (c .before .before .before .write-card .ensures .0) (c .before .before .before .write-card .ensures .1 .0) (c .before .before .before .write-card .ensures .1 .1)))
 
 pub dofitrano-write-card-spec : {M : Type 1} → statement M
 dofitrano-write-card-spec =
