@@ -2,7 +2,7 @@
 use Rattle.card.specs.Checking.{Check-right}
 use Rattle.card.specs.Filing.{Filing-right}
 use Rattle.method.specs.Promise.{Outcome-right}
-use mathlib.Core.Path.{_≡_, refl, sym, _∙_, subst}
+use mathlib.Core.Path.{_≡_, subst}
 use mathlib.Core.List.{List}
 use Prim.Native.Nat.{ℕ}
 use lib.IntN.{ℤ}
@@ -13,7 +13,6 @@ use Rattle.method.specs.Answers.{verdict-number}
 use Rattle.card.specs.declared.Written.{Written}
 use Rattle.card.specs.declared.Written.the-variants as written
 use Rattle.exports.specs.declared.Reply.{Reply}
-use Rattle.exports.specs.declared.CardReply.{CardReply}
 use Rattle.exports.specs.Replies.{floor-of, shortfall-of, reply-of, card-reply-of}
 
 -- the floor comes back from its bits, `bits`

@@ -9,7 +9,7 @@ ghost use Rattle.files.specs.Bytes.{values};
 ghost use Rattle.files.specs.Book.{rows-from};
 ghost use Rattle.frank_wolfe.specs.Vectors.{add, subtract, scale, inner, squared-norm};
 ghost use Rattle.scoring.specs.Scores.{Scores-of, Scores-are};
-ghost use Rattle.method.specs.Iterates.{scores};
+ghost use Rattle.method.specs.Iterates.{scores, argmin};
 ghost use Rattle.scoring.specs.Operands.{Rows-bounded, Rescorable, Score-sized, Bounded, Span, Grid, Movable, Gap-sized};
 
 // <r, v>, where v is the row of `columns` values at `at`.
@@ -155,6 +155,25 @@ pub fn products(d: &[i16], book: &[u8], at: usize, boats: usize, columns: usize)
         i += 1;
     }
     row
+}
+
+// The first boat where the products are least.
+pub fn least_of(products: &[i32], boats: usize) -> usize
+    requires { ⌜ (1 ≤ boats) × (boats ≤ length (now products)) ⌝ }
+    ensures { λ i. ⌜ i ≡ argmin (take boats (now (products .entry))) ⌝ }
+{
+    let mut best = 0;
+    let mut least = products[0];
+    let mut i = 1;
+    while i < boats {
+        let p = products[i];
+        if p < least {
+            best = i;
+            least = p;
+        }
+        i += 1;
+    }
+    best
 }
 
 // The score of boat i moved by k times its product.

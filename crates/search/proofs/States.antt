@@ -1,25 +1,22 @@
 -- What the leaf functions require and give, in terms of an accepted fleet book b and sheet s, and that states stay what they are to hold. Assumes nothing.
-use mathlib.Core.Path.{_≡_, refl, sym, ap, ap₂, _∙_, subst}
+use mathlib.Core.Path.{_≡_, refl, sym, ap, ap₂, _∙_}
 use mathlib.Core.List.{List, [], _∷_, _++_}
 use Prim.Native.Nat.{ℕ, zero, suc, _+_, _*_, _-_, _≤_, _<_}
-use native.Mathlib.Nat.{suc-mul, zero-mul, mul-le-mul-right}
+use native.Mathlib.Nat.{suc-mul, mul-le-mul-right}
 use native.Mathlib.Omega.{arith}
-use native.Mathlib.Numerals.{add-one}
-use lib.IntN.{ℤ, pos, natAbs, _+ℤ_, _-ℤ_, _*ℤ_, +ℤ-idl}
-use lib.ListN.{length, getD, take, drop, set, replicate, length-replicate}
+use lib.IntN.{ℤ, pos, natAbs, _+ℤ_, _*ℤ_, +ℤ-idl}
+use lib.ListN.{length, getD, take, drop, set, replicate}
 use lib.Seq.{take-at, getD-take, take-set-lt, length-take-le}
 use Rattle.files.specs.Bytes.{values}
 use Rattle.files.specs.Book.{boats, columns, rows, rows-from, rows-offset}
-use Rattle.files.specs.Sheet.{sheet, sheet-columns, target-offset, files-refusal}
+use Rattle.files.specs.Sheet.{sheet, target-offset, files-refusal}
 use Rattle.files.specs.Fits.{Book-fits, Sheet-fits}
 use Rattle.files.proofs.Accepted.{files-accepted}
 use Rattle.files.proofs.Access.{rows-at, row-at, target-at}
-use Rattle.files.proofs.Rows.{length-values}
 use Rattle.frank_wolfe.specs.Vectors.{add, subtract, scale, inner}
-use Rattle.frank_wolfe.proofs.Vectors.{plain, scale-one, length-add, length-scale, length-subtract, inner-add, inner-scale, inner-zero}
+use Rattle.frank_wolfe.proofs.Vectors.{plain, length-add, length-scale, length-subtract, inner-add, inner-scale, inner-zero}
 use Rattle.method.specs.Iterates as M
-use Rattle.method.specs.Iterates.{Iterate, iterate, direction, step, start, argmin, row, weight, residual}
-use Rattle.method.proofs.Weights.{weight-suc, weight-most, weight-monotone}
+use Rattle.method.specs.Iterates.{iterate, direction, step, start, argmin, row, residual}
 use Rattle.method.proofs.Argmin.{argmin-below, among-row, score-at}
 use Rattle.method.proofs.Entries as E
 use Rattle.method.proofs.Shares.{residual-step, residual-start}
@@ -27,18 +24,10 @@ use Rattle.method.proofs.Accepted.{in-range, residual-length}
 use Rattle.scoring.specs.Operands.{Bounded, Span, Grid, Movable, Rows-bounded, Rescorable}
 use Rattle.scoring.specs.Scores.{Scores-are}
 use Rattle.scoring.specs.declared.Scored.{Scored}
-use Rattle.search.specs.declared.Layout.{Layout}
 use Rattle.search.specs.declared.State.{State}
-use Rattle.search.specs.States.{file-layout, iterate-of, scores-of, Products, Holds}
+use Rattle.search.specs.States.{iterate-of, scores-of, Products, Holds}
 
 -- ---- Vectors
-
-add-zeros : (c : ℕ) (x : List ℤ) → length x ≡ c → add (replicate c (pos 0)) x ≡ x
-unfolding add
-add-zeros zero [] e = refl
-add-zeros zero (a ∷ x) e = absurd (omega arith)
-add-zeros (suc c) [] e = absurd (omega arith)
-add-zeros (suc c) (a ∷ x) e = ap₂ (λ p q. p ∷ q) (+ℤ-idl a) (add-zeros c x (omega arith))
 
 take-replicate : {A : Type 0} (n m : ℕ) (a : A) → n ≤ m → take n (replicate m a) ≡ replicate n a
 take-replicate zero m a h = refl
@@ -181,21 +170,17 @@ module _ (b s : List ℕ) (ok : files-refusal b s ≡ 0) where
 
   -- ---- The fresh state
 
-  pub fresh-holds : {ps : List ℤ} (sc : Scored) → Products b s 0 ps →
-      Scores-are (add (take (boats b) (replicate 256 (pos 0))) (scale 1 (take (boats b) ps))) (boats b) sc →
-      Holds b s 0 (record { steps = 0; shares = replicate 256 0; residual = replicate 64 (pos 0); scores = replicate 256 (pos 0); best = sc .best })
+  pub fresh-holds : {ps : List ℤ} → Products b s 0 ps → {best : ℕ} → best ≡ argmin (take (boats b) ps) →
+      Holds b s 0 (record { steps = 0; shares = replicate 256 0; residual = replicate 64 (pos 0); scores = replicate 256 (pos 0); best = best })
   unfolding iterate start direction
-  fresh-holds {ps} sc P h =
+  fresh-holds P h =
       let z : residual (sheet s .target) 0 (start (rows b) (columns b)) ≡ replicate (columns b) (pos 0) = residual-start (rows b) (sheet s .target) (columns b) (sheet-fits .target-length) in
       record {
         steps-are = refl;
         shares-are = take-replicate (boats b) 256 0 (book-fits .most-boats) ∙ rw (book-fits .row-count);
         residual-is = take-replicate (columns b) 64 (pos 0) (book-fits .most-columns) ∙ sym z;
         scores-are = take-replicate (boats b) 256 (pos 0) (book-fits .most-boats) ∙ sym (rw (z, scores-zero (columns b) (rows b), book-fits .row-count));
-        best-is =
-            h .best-is
-            ∙ ap argmin (rw (scale-one, take-replicate (boats b) 256 (pos 0) (book-fits .most-boats))
-            (add-zeros (boats b) (take (boats b) ps) (length-take-le (boats b) ps (P .long)) ∙ P .are));
+        best-is = h ∙ ap argmin (P .are);
       }
 
   -- ---- The next state

@@ -1,7 +1,7 @@
 -- The needs of `products_of`, `fresh` and `next`, with the layout l of the files as the code has it. Assumes nothing.
-use mathlib.Core.Path.{_≡_, refl, sym, ap, _∙_}
-use mathlib.Core.List.{List, [], _∷_, _++_}
-use Prim.Native.Nat.{ℕ, zero, suc, _+_, _*_, _-_, _≤_, _<_}
+use mathlib.Core.Path.{_≡_, refl, sym, _∙_}
+use mathlib.Core.List.{List, _++_}
+use Prim.Native.Nat.{ℕ, suc, _+_, _*_, _-_, _≤_, _<_}
 use native.Mathlib.Omega.{arith}
 use native.Mathlib.Numerals.{add-one}
 use lib.IntN.{ℤ, pos, natAbs}
@@ -10,11 +10,11 @@ use lib.Seq.{getD-take}
 use mir.Syntax.{w16, w64}
 use mir.Val.{Fits}
 use Rattle.files.specs.Bytes.{values}
-use Rattle.files.specs.Book.{boats, columns, rows, rows-from, rows-offset}
-use Rattle.files.specs.Sheet.{sheet, target-offset, files-refusal}
+use Rattle.files.specs.Book.{boats, columns, rows, rows-from}
+use Rattle.files.specs.Sheet.{sheet, files-refusal}
 use Rattle.frank_wolfe.specs.Vectors.{add, subtract, scale, inner}
 use Rattle.method.specs.Iterates as M
-use Rattle.method.specs.Iterates.{iterate, row, weight, residual}
+use Rattle.method.specs.Iterates.{row, weight, residual, argmin}
 use Rattle.method.proofs.Weights.{weight-most, weight-suc}
 use Rattle.method.proofs.Argmin.{among-row, score-at}
 use Rattle.method.proofs.Mixtures.{score-most}
@@ -27,11 +27,6 @@ use Rattle.search.specs.declared.Layout.{Layout}
 use Rattle.search.specs.declared.State.{State}
 use Rattle.search.specs.States.{file-layout, iterate-of, Products, Holds}
 use Rattle.search.proofs.States.{book-fits, row-span, target-span, grid, movable, moved-front, differable, difference-front, rows-bounded, products-are, rescorable, fresh-holds, best-below, next-residual, next-holds}
-
-zero-entry : (n j : ℕ) → natAbs (getD (replicate n (pos 0)) j (pos 0)) ≤ 0
-zero-entry zero j = omega arith
-zero-entry (suc n) zero = omega arith
-zero-entry (suc n) (suc j) = zero-entry n j
 
 module _ (b s : List ℕ) (ok : files-refusal b s ≡ 0) {l : Layout} (e : l ≡ file-layout b s) where
   -- ---- products_of
@@ -66,15 +61,14 @@ module _ (b s : List ℕ) (ok : files-refusal b s ≡ 0) {l : Layout} (e : l ≡
 
   -- ---- fresh
 
-  pub fresh-rescorable : {ps : List ℤ} → Products b s 0 ps → Rescorable (replicate 256 (pos 0)) 1 ps (l .boats)
+  pub fresh-asks : {ps : List ℤ} → Products b s 0 ps → (1 ≤ l .boats) × (l .boats ≤ length ps)
   unfolding file-layout
-  fresh-rescorable P = rw e (rescorable b s ok (replicate 256 (pos 0)) 1 0 (book-fits b s ok .some-boats) P refl (omega arith) (λ q g. omega (arith, zero-entry 256 q)))
+  fresh-asks P = rw e (book-fits b s ok .some-boats, P .long)
 
-  pub fresh-result : {ps : List ℤ} → Products b s 0 ps → (sc : Scored) →
-      Scores-are (add (take (l .boats) (replicate 256 (pos 0))) (scale 1 (take (l .boats) ps))) (l .boats) sc →
-      Holds b s 0 (record { steps = 0; shares = replicate 256 0; residual = replicate 64 (pos 0); scores = replicate 256 (pos 0); best = sc .best })
+  pub fresh-result : {ps : List ℤ} → Products b s 0 ps → {best : ℕ} → best ≡ argmin (take (l .boats) ps) →
+      Holds b s 0 (record { steps = 0; shares = replicate 256 0; residual = replicate 64 (pos 0); scores = replicate 256 (pos 0); best = best })
   unfolding file-layout
-  fresh-result P sc k = fresh-holds b s ok sc P (rw e at k)
+  fresh-result P h = fresh-holds b s ok P (rw e at h)
 
   -- ---- next
 

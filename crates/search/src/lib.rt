@@ -78,15 +78,14 @@ impl State {
         requires { ⌜ layout ≡ file-layout (now book) (now sheet) ⌝ }
         ensures { λ r. ⌜ Holds (now (book .entry)) (now (sheet .entry)) 0 r ⌝ }
     {
-        let boats = layout.boats;
         let row = products_of(0, book, sheet, layout);
-        let first = scoring::rescored([0i64; 256], 1, &row, boats);
+        let best = scoring::least_of(&row, layout.boats);
         State {
             steps: 0,
             shares: [0u16; 256],
             residual: [0i32; 64],
             scores: [0i64; 256],
-            best: first.best,
+            best,
         }
     }
 
