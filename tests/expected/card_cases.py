@@ -5,6 +5,7 @@ import sys
 
 sys.path.insert(0, os.path.join(os.path.dirname(os.path.abspath(__file__)), ".."))
 import exact  # noqa: E402
+from printing import answer_lines, checksum, outcome_lines, slots_line  # noqa: E402
 
 FLEET_P = [[0, 0], [4, 0], [0, 4]]
 MARKED = [
@@ -20,27 +21,9 @@ MARKED = [
 ]
 
 
-def checksum(content):
-    total = 0
-    for x in content:
-        total = (total * 257 + x) % 1000003
-    return total
-
-
-def answer_lines(answer):
-    text = "%s %d %d %d %d\n" % (
-        exact.VERDICT_NAMES[answer.verdict], answer.steps, answer.weight, answer.distance, answer.gap)
-    if answer.verdict == exact.BEYOND:
-        text += "floor %d\n" % answer.carried
-    if answer.verdict == exact.SPENT:
-        text += "shortfall %d\n" % answer.carried
-    return text
-
-
 def checked(book, sheet, card):
     refusal, answer, slots = exact.check_card(book, sheet, card, [7] * 4)
-    text = "refused %d\n" % refusal if refusal else answer_lines(answer)
-    return text + "slots " + " ".join(str(slot) for slot in slots) + "\n"
+    return outcome_lines(refusal, answer) + slots_line(slots)
 
 
 def written(book, sheet, buffer, room):

@@ -5,6 +5,7 @@ import sys
 
 sys.path.insert(0, os.path.join(os.path.dirname(os.path.abspath(__file__)), ".."))
 import exact  # noqa: E402
+from printing import outcome_lines, slots_line  # noqa: E402
 from make_data import FILES  # noqa: E402
 
 # Book, sheet and length of the share list, in the program's order.
@@ -26,17 +27,8 @@ LISTS = [
 def searched(book, sheet, length):
     """The outcome, and the first 12 of 260 slots, of which the first `length` were lent."""
     refusal, answer, lent = exact.search(book, sheet, [7] * length)
-    if refusal:
-        text = "refused %d\n" % refusal
-    else:
-        text = "%s %d %d %d %d\n" % (
-            exact.VERDICT_NAMES[answer.verdict], answer.steps, answer.weight, answer.distance, answer.gap)
-        if answer.verdict == exact.BEYOND:
-            text += "floor %d\n" % answer.carried
-        if answer.verdict == exact.SPENT:
-            text += "shortfall %d\n" % answer.carried
     slots = lent + [7] * (260 - length)
-    return text + "slots " + " ".join(str(slot) for slot in slots[:12]) + "\n"
+    return outcome_lines(refusal, answer) + slots_line(slots[:12])
 
 
 def files(cases):
