@@ -1,3 +1,4 @@
+-- `card::answer_of` meets its contract.
 use native.Mathlib.Omega.{arith}
 use Rattle.card.proofs.Testing.{weight-fits}
 use Rattle.card.proofs.Answering.{all-rows, few-shares, entries, best-slot, measurable, answered}

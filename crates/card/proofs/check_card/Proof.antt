@@ -1,3 +1,4 @@
+-- `card::check_card` meets its contract.
 use mathlib.Core.Path.{refl, sym, _∙_}
 use denote.Ref.{now}
 use Rattle.search.proofs.States.{sheet-fits}

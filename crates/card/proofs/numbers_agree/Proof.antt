@@ -1,3 +1,4 @@
+-- `card::numbers_agree` meets its contract.
 use Rattle.card.proofs.Testing.{distance-differs, gap-differs, verdict-differs, numbers-tested}
 use borrow.Author.Needs.{needs}
 use Rattle.card.proofs.numbers_agree.Statement.{statement}

@@ -1,3 +1,4 @@
+-- `card::shares_total` meets its contract.
 use Rattle.card.proofs.Testing.{boats-many, total-tested, weight-fits}
 use borrow.Author.Needs.{needs}
 use Rattle.card.proofs.shares_total.Statement.{statement}

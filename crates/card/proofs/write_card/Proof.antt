@@ -1,3 +1,4 @@
+-- `card::write_card` meets its contract.
 use denote.Ref.{now}
 use mathlib.Core.Path.{sym, _∙_}
 use Rattle.search.proofs.States.{book-fits, sheet-fits}

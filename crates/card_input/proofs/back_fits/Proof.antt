@@ -1,3 +1,4 @@
+-- `card_input::back_fits` meets its contract.
 use Rattle.card_input.proofs.Reading.{back-zero, back-uneven, back-many, back-last}
 use borrow.Author.Needs.{needs}
 use Rattle.card_input.proofs.back_fits.Statement.{statement}

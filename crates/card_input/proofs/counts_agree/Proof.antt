@@ -1,3 +1,4 @@
+-- `card_input::counts_agree` meets its contract.
 use Rattle.card_input.proofs.Reading.{counts-differ, counts-same}
 use borrow.Author.Needs.{needs}
 use Rattle.card_input.proofs.counts_agree.Statement.{statement}

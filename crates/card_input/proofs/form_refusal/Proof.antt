@@ -1,3 +1,4 @@
+-- `card_input::form_refusal` meets its contract.
 use native.Mathlib.Omega.{arith}
 use denote.Ref.{now}
 use Rattle.files.proofs.Refusal.{at-least}

@@ -1,3 +1,4 @@
+-- `card_input::is_between` meets its contract.
 use borrow.Author.Tests.{le-leb, lt-leb}
 use Rattle.files.specs.Bytes.{between}
 use Rattle.card_input.proofs.is_between.Statement.{statement}

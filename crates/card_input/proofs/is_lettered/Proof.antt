@@ -1,3 +1,4 @@
+-- `card_input::is_lettered` meets its contract.
 use Rattle.card_input.proofs.Reading.{bytes-of, lettered}
 use borrow.Author.Needs.{needs}
 use Rattle.card_input.proofs.is_lettered.Statement.{statement}

@@ -1,3 +1,4 @@
+-- `card_input::pair_count` meets its contract.
 use Rattle.card_input.proofs.Reading.{count-at}
 use borrow.Author.Needs.{needs}
 use Rattle.card_input.proofs.pair_count.Statement.{statement}

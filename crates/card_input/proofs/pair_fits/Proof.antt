@@ -1,3 +1,4 @@
+-- `card_input::pair_fits` meets its contract.
 use borrow.Author.Needs.{needs}
 use Rattle.card_input.proofs.Reading.{pair-low, pair-high, pair-last}
 use Rattle.card_input.proofs.pair_fits.Statement.{statement}

@@ -1,3 +1,4 @@
+-- `card_input::pairs_in_order` meets its contract; `Inv-loop` is what its loop keeps.
 use borrow.Author.Needs.{needs}
 use Prim.Native.Nat.{_-_}
 use Rattle.card_input.proofs.Reading.{Ordering, ordering-start, ordering-out, ordering-more, ordering-end}

@@ -1,3 +1,4 @@
+-- `card_input::shares_of` meets its contract; `Inv-loop` is what its loop keeps.
 use borrow.Author.Needs.{needs}
 use Prim.Native.Nat.{_-_}
 use Rattle.card_input.proofs.Reading.{Taking, taking-start, taking-slot, taking-more, taking-end}

@@ -1,3 +1,4 @@
+-- `card_input::steps_fit` meets its contract.
 use Rattle.card_input.proofs.Reading.{steps-out, steps-tested}
 use borrow.Author.Needs.{needs}
 use Rattle.card_input.proofs.steps_fit.Statement.{statement}

@@ -1,3 +1,4 @@
+-- `card_input::steps_used` meets its contract.
 use Rattle.card_input.proofs.Reading.{steps-at}
 use borrow.Author.Needs.{needs}
 use Rattle.card_input.proofs.steps_used.Statement.{statement}

@@ -1,3 +1,4 @@
+-- `card_output::held` meets its contract.
 use borrow.Author.Needs.{needs}
 use Rattle.card_output.proofs.Placing.{held-none, held-some}
 use Rattle.card_output.proofs.held.Statement.{statement}

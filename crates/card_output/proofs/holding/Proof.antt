@@ -1,3 +1,4 @@
+-- `card_output::holding` meets its contract; `Inv-loop` is what its loop keeps.
 use mathlib.Core.Path.{_≡_}
 use lib.ListN.{length}
 use borrow.Author.Needs.{needs}

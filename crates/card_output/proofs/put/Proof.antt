@@ -1,3 +1,4 @@
+-- `card_output::put` meets its contract; `Inv-loop` is what its loop keeps.
 use borrow.Author.Needs.{needs}
 use Prim.Native.Nat.{_-_}
 use Rattle.card_output.proofs.Placing.{Putting, put-start, put-more, put-end}

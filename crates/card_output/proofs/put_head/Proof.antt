@@ -1,3 +1,4 @@
+-- `card_output::put_head` meets its contract.
 use Rattle.card_output.proofs.Placing.{head-placed}
 use borrow.Author.Needs.{needs}
 use Rattle.card_output.proofs.put_head.Statement.{statement}

@@ -1,3 +1,4 @@
+-- `card_output::put_pair` meets its contract.
 use native.Mathlib.Omega.{arith}
 use Rattle.card_output.proofs.Placing.{pair-skipped, pair-long, pair-placed}
 use borrow.Author.Needs.{needs}

@@ -1,3 +1,4 @@
+-- `card_output::put_pairs` meets its contract; `Inv-loop` is what its loop keeps.
 use borrow.Author.Needs.{needs}
 use mathlib.Core.Path.{_≡_}
 use lib.ListN.{length}

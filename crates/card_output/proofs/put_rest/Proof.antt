@@ -1,3 +1,4 @@
+-- `card_output::put_rest` meets its contract.
 use Rattle.card_output.proofs.Placing.{rest-placed}
 use borrow.Author.Needs.{needs}
 use Rattle.card_output.proofs.put_rest.Statement.{statement}

@@ -1,3 +1,4 @@
+-- `card_output::put_trailer` meets its contract.
 use Rattle.card_output.proofs.Placing.{trailer-placed}
 use borrow.Author.Needs.{needs}
 use Rattle.card_output.proofs.put_trailer.Statement.{statement}

@@ -1,3 +1,4 @@
+-- `card_output::verdict_number` meets its contract.
 use Rattle.method.specs.Answers.{verdict-number}
 use borrow.Author.Needs.{needs}
 use Rattle.card_output.proofs.verdict_number.Statement.{statement}

@@ -1,3 +1,4 @@
+-- `exports::card_reply_of` meets its contract.
 use Rattle.exports.proofs.Replying.{write-refused, filed}
 use borrow.Author.Needs.{needs}
 use Rattle.exports.proofs.card_reply_of.Statement.{statement}

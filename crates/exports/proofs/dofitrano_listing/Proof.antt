@@ -1,3 +1,4 @@
+-- `exports::dofitrano_listing` meets its contract.
 use Rattle.exports.proofs.Putting.{left-alone, put}
 use borrow.Author.Needs.{needs}
 use Rattle.exports.proofs.dofitrano_listing.Statement.{statement}

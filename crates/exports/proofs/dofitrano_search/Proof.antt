@@ -1,3 +1,4 @@
+-- `exports::dofitrano_search` meets its contract.
 use mathlib.Core.Path.{ap, _∙_}
 use Rattle.exports.specs.Replies.{reply-of}
 use Rattle.exports.proofs.Replying.{searched-right}

@@ -1,3 +1,4 @@
+-- `exports::dofitrano_write_card` meets its contract.
 use mathlib.Core.Path.{ap, _∙_}
 use Rattle.exports.specs.Replies.{card-reply-of}
 use Rattle.exports.proofs.Replying.{filed-right}

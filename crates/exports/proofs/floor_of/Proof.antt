@@ -1,3 +1,4 @@
+-- `exports::floor_of` meets its contract.
 use mathlib.Core.Path.{sym, ap, _∙_}
 use Rattle.exports.specs.Replies.{floor-of}
 use borrow.Author.Needs.{needs}

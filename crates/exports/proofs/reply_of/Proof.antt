@@ -1,3 +1,4 @@
+-- `exports::reply_of` meets its contract.
 use Rattle.exports.proofs.Replying.{answered}
 use mir.Facts.{toZ-ofZ}
 use Rattle.exports.specs.Replies.{reply-of}

@@ -1,3 +1,4 @@
+-- `exports::shortfall_of` meets its contract.
 use Rattle.exports.specs.Replies.{shortfall-of}
 use borrow.Author.Needs.{needs}
 use Rattle.exports.proofs.shortfall_of.Statement.{statement}

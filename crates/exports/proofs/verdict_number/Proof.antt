@@ -1,3 +1,4 @@
+-- `exports::verdict_number` meets its contract.
 use Rattle.method.specs.Answers.{verdict-number}
 use borrow.Author.Needs.{needs}
 use Rattle.exports.proofs.verdict_number.Statement.{statement}

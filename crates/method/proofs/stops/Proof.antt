@@ -1,3 +1,4 @@
+-- `method::stops` meets its contract.
 use borrow.Author.Needs.{needs}
 use Rattle.method.specs.Answers.{stops}
 use Rattle.method.proofs.stops.Statement.{statement}

@@ -1,3 +1,4 @@
+-- `scoring::gap_of` meets its contract.
 use Rattle.scoring.proofs.Gaps.{spread-fits, product-fits, gap-fits, gap-cast, gap-result}
 use native.Mathlib.Omega.{arith}
 use borrow.Author.Needs.{needs}

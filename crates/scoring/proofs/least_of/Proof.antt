@@ -1,3 +1,4 @@
+-- `scoring::least_of` meets its contract; `Inv-loop` is what its loop keeps.
 use mathlib.Core.Logic.{⊎-elim}
 use Prim.Native.Nat.{_-_}
 use native.Mathlib.Omega.{arith}

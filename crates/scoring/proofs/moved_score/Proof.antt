@@ -1,3 +1,4 @@
+-- `scoring::moved_score` meets its contract.
 use Rattle.scoring.proofs.Rescores.{product-cast, change-fits, score-fits, score-read}
 use borrow.Author.Needs.{needs}
 use Rattle.scoring.proofs.moved_score.Statement.{statement}

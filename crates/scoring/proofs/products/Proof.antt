@@ -1,3 +1,4 @@
+-- `scoring::products` meets its contract; `Inv-loop` is what its loop keeps.
 use borrow.Author.Needs.{needs, sfits-of}
 use Prim.Native.Nat.{_-_}
 use lib.ListN.{take}

@@ -1,3 +1,4 @@
+-- `scoring::rescored` meets its contract; `Inv-loop` is what its loop keeps.
 use mathlib.Core.Logic.{⊎-elim}
 use mir.Syntax.{w64}
 use mir.Facts.{toZ-ofZ}

@@ -1,3 +1,4 @@
+-- `scoring::score_boats` meets its contract; `Inv-loop` is what its loop keeps.
 use borrow.Author.Needs.{needs, sfits-of}
 use mathlib.Core.Path.{refl}
 use mathlib.Core.Logic.{⊎-elim}

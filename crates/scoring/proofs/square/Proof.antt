@@ -1,3 +1,4 @@
+-- `scoring::square` meets its contract.
 use Rattle.scoring.proofs.Squares.{held-fits, square-fits, square-cast, square-is}
 use Rattle.scoring.proofs.square.Statement.{statement}
 use Rattle.scoring.proofs.square.Tie as tie

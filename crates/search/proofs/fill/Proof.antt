@@ -1,3 +1,4 @@
+-- `search::fill` meets its contract; `Inv-loop` is what its loop keeps.
 use borrow.Author.Needs.{needs}
 use Prim.Native.Nat.{_-_}
 use mathlib.Core.Path.{_≡_}

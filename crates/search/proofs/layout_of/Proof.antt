@@ -1,3 +1,4 @@
+-- `search::layout_of` meets its contract.
 use Rattle.search.specs.States.{file-layout}
 use Rattle.search.proofs.States.{book-fits, sheet-fits}
 use borrow.Author.Needs.{needs}

@@ -1,3 +1,4 @@
+-- `search::measured` meets its contract.
 use mathlib.Core.Path.{refl}
 use mir.Facts.{toZ-ofZ}
 use Rattle.search.proofs.Measuring.{gap-sized, judgeable, answer-is}

@@ -1,3 +1,4 @@
+-- `search::products_of` meets its contract.
 use Rattle.search.proofs.Steps.{row-fits, cells-fit, cell-fits, difference-asks, products-asks, products-right}
 use borrow.Author.Needs.{needs}
 use Rattle.search.proofs.products_of.Statement.{statement}

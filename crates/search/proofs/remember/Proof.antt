@@ -1,3 +1,4 @@
+-- `search::remember` meets its contract.
 use native.Mathlib.Omega.{arith}
 use Rattle.search.proofs.Memory.{slot-fits, store-asks, tag-fits, kept, learnt}
 use borrow.Author.Needs.{needs}

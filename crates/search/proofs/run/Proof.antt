@@ -1,3 +1,4 @@
+-- `search::run` meets its contract.
 use native.Mathlib.Omega.{arith}
 use Rattle.search.proofs.States.{sheet-fits, best-below}
 use Rattle.search.proofs.Memory.{room-for, room-always}

@@ -1,3 +1,4 @@
+-- `search::run_on` meets its contract; `Inv-loop` is what its loop keeps.
 use Rattle.search.proofs.States.{sheet-fits, best-below}
 use Rattle.search.proofs.Memory.{slot-fits, slot-bytes-fit, slot-starts, slot-part, remembers-nothing}
 use Rattle.search.proofs.Runs.{next-answerable, going-more, going-done}

@@ -1,3 +1,4 @@
+-- `search::search` meets its contract.
 use native.Mathlib.Omega.{arith}
 use mathlib.Core.Path.{sym, _∙_}
 use Rattle.search.proofs.States.{book-fits}

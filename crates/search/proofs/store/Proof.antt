@@ -1,3 +1,4 @@
+-- `search::store` meets its contract; `Inv-loop` is what its loop keeps.
 use mir.Facts.{toZ-ofZ}
 use borrow.Author.Needs.{needs}
 use Prim.Native.Nat.{_-_}

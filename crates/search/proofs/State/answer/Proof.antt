@@ -1,3 +1,4 @@
+-- `search::State::answer` meets its contract.
 use mathlib.Core.Path.{_∙_}
 use Rattle.search.proofs.Measuring.{least-kept}
 use borrow.Author.Needs.{needs}

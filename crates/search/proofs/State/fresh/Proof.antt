@@ -1,3 +1,4 @@
+-- `search::State::fresh` meets its contract.
 use Rattle.search.proofs.States.{book-fits}
 use Rattle.search.proofs.Steps.{fresh-asks, fresh-result}
 use borrow.Author.Needs.{needs}

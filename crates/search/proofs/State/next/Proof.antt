@@ -1,3 +1,4 @@
+-- `search::State::next` meets its contract.
 use native.Mathlib.Omega.{arith}
 use Rattle.search.proofs.States.{best-below}
 use Rattle.search.proofs.Steps.{best-slot, share-fits, row-fits, cells-fit, cell-fits, next-moved, next-rescorable, next-result}

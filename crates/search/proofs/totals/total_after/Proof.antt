@@ -1,3 +1,4 @@
+-- `search::totals::total_after` meets its contract.
 use native.Mathlib.Omega.{arith}
 use Rattle.method.specs.Iterates.{weight}
 use Rattle.search.proofs.Table.{entry}
