@@ -6,7 +6,10 @@
 //! repeats' ratios.
 
 mod plain;
+#[path = "../compare/random.rs"]
+mod random;
 
+use random::Random;
 use std::ffi::c_void;
 use std::hint::black_box;
 
@@ -89,18 +92,7 @@ fn c_float_search(book: &[u8], sheet: &[u8], weights: &mut [f64; 256]) -> FloatA
 
 // ------------------------------------------------------------------- the inputs
 
-/// SplitMix64.
-struct Random(u64);
-
 impl Random {
-    fn next(&mut self) -> u64 {
-        self.0 = self.0.wrapping_add(0x9e37_79b9_7f4a_7c15);
-        let mut z = self.0;
-        z = (z ^ (z >> 30)).wrapping_mul(0xbf58_476d_1ce4_e5b9);
-        z = (z ^ (z >> 27)).wrapping_mul(0x94d0_49bb_1331_11eb);
-        z ^ (z >> 31)
-    }
-
     fn value(&mut self) -> i16 {
         (self.next() % 4001) as i16 - 2000
     }

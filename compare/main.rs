@@ -3,8 +3,10 @@
 //!
 //! Use: compare [COUNT [SEED]]. The last line has the count; the exit status is 1 where a case differs, and the case is printed.
 
+mod random;
 mod reference;
 
+use random::Random;
 use reference::{Answer, Verdict};
 use std::collections::BTreeMap;
 
@@ -128,18 +130,7 @@ fn reply_of(outcome: &Result<Answer, u32>) -> Reply {
 
 // -------------------------------------------------------------- random numbers
 
-/// SplitMix64.
-struct Random(u64);
-
 impl Random {
-    fn next(&mut self) -> u64 {
-        self.0 = self.0.wrapping_add(0x9e37_79b9_7f4a_7c15);
-        let mut z = self.0;
-        z = (z ^ (z >> 30)).wrapping_mul(0xbf58_476d_1ce4_e5b9);
-        z = (z ^ (z >> 27)).wrapping_mul(0x94d0_49bb_1331_11eb);
-        z ^ (z >> 31)
-    }
-
     fn below(&mut self, n: usize) -> usize {
         (self.next() % n as u64) as usize
     }

@@ -1,5 +1,13 @@
-"""Answers as the test programs print them (crates/printing)."""
+"""Answers as the test programs print them (crates/printing), and listings of a program's data folder."""
+import os
+
 import exact
+
+CRATES = os.path.join(os.path.dirname(os.path.abspath(__file__)), "..", "crates")
+
+
+def data_file(program, name):
+    return exact.read_file(os.path.join(CRATES, program, "data", name))
 
 
 def checksum(content):

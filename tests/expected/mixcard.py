@@ -3,12 +3,8 @@
 import os
 import sys
 
-HERE = os.path.dirname(os.path.abspath(__file__))
-sys.path.insert(0, os.path.join(HERE, ".."))
+sys.path.insert(0, os.path.join(os.path.dirname(os.path.abspath(__file__)), ".."))
 import exact  # noqa: E402
+from printing import data_file  # noqa: E402
 
-DATA = os.path.join(HERE, "..", "..", "crates", "mixcard", "data")
-
-sys.stdout.buffer.write(exact.listing(
-    exact.read_file(os.path.join(DATA, "fleet.wbk")),
-    exact.read_file(os.path.join(DATA, "sheet.wsh"))))
+sys.stdout.buffer.write(exact.listing(data_file("mixcard", "fleet.wbk"), data_file("mixcard", "sheet.wsh")))

@@ -3,13 +3,9 @@
 import os
 import sys
 
-HERE = os.path.dirname(os.path.abspath(__file__))
-sys.path.insert(0, os.path.join(HERE, ".."))
+sys.path.insert(0, os.path.join(os.path.dirname(os.path.abspath(__file__)), ".."))
 import exact  # noqa: E402
-
-DATA = os.path.join(HERE, "..", "..", "crates", "mixcheck", "data")
+from printing import data_file  # noqa: E402
 
 sys.stdout.buffer.write(exact.card_listing(
-    exact.read_file(os.path.join(DATA, "fleet.wbk")),
-    exact.read_file(os.path.join(DATA, "sheet.wsh")),
-    exact.read_file(os.path.join(DATA, "card.wcd"))))
+    data_file("mixcheck", "fleet.wbk"), data_file("mixcheck", "sheet.wsh"), data_file("mixcheck", "card.wcd")))
