@@ -1,7 +1,7 @@
 // The mixture search: the state of a run, its steps, and the entry `search`.
 //
 // Entry, which asks nothing of its caller: search. Helpers for other crates, whose callers prove what they require:
-// layout_of, State and its methods, run, fill.
+// layout_of, products_of, State and its methods, measured, run, fill.
 ghost use mathlib.Core.Path.{_≡_};
 ghost use mathlib.Core.List.{_++_};
 ghost use Prim.Native.Nat.{_+_, _*_, _%_, _≤_, _<_};

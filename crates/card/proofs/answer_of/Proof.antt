@@ -11,43 +11,33 @@ use Rattle.card.proofs.residual_of.Reads as residual-of-reads
 use Rattle.scoring.proofs.score_boats.Reads as score-boats-reads
 use Rattle.search.proofs.measured.Reads as measured-reads
 
--- src/lib.rt:87:13
 residual-of-requires : tie.Need-residual-of-requires
 residual-of-requires c κs = (c .before .before .pre .0, (c .before .before .pre .1 .0, few-shares _ _ (c .before .before .pre .0) (c .before .before .pre .1 .0) (c .before .before .args .shares) (c .before .before .pre .1 .1 .0 .0) (c .before .before .pre .1 .1 .0 .1) (c .before .before .pre .1 .1 .1)))
 
--- src/lib.rt:88:39
 slice-aggregate-score-boats : tie.Need-slice-aggregate-score-boats
 slice-aggregate-score-boats c = search needs
 
--- src/lib.rt:88:9
 score-boats-requires : tie.Need-score-boats-requires
 score-boats-requires c κs = (all-rows _ _ (c .before .before .before .before .pre .0) (c .before .before .before .before .pre .1 .0), entries _ _ (c .before .before .before .before .pre .0) (c .before .before .before .before .pre .1 .0) (c .before .before .before .before .args .shares) (c .before .before .before .before .pre .1 .1 .0 .0) (c .before .before .before .before .pre .1 .1 .0 .1) (c .before .before .before .before .pre .1 .1 .1) (search needs) (c .before .residual-of .result) (search needs) (c .before .residual-of .ensures))
 
--- src/lib.rt:91:30
 add-measured : tie.Need-add-measured
 add-measured c = search needs
 
--- src/lib.rt:91:25
 mul-measured : tie.Need-mul-measured
 mul-measured c = weight-fits _ (omega (arith, c .before .before .before .before .before .before .pre .1 .1 .0 .1))
 
--- src/lib.rt:91:42
 slice-aggregate-measured : tie.Need-slice-aggregate-measured
 slice-aggregate-measured c = search needs
 
--- src/lib.rt:91:46
 mul-measured-2 : tie.Need-mul-measured-2
 mul-measured-2 c = omega (arith, best-slot _ _ (c .before .before .before .before .before .before .before .pre .0) (c .before .before .before .before .before .before .before .pre .1 .0) (c .before .before .before .before .before .before .before .args .shares) (c .before .before .before .before .before .before .before .pre .1 .1 .0 .0) (c .before .before .before .before .before .before .before .pre .1 .1 .0 .1) (c .before .before .before .before .before .before .before .pre .1 .1 .1) (search needs) (c .before .before .before .before .residual-of .result) (search needs) (c .before .before .before .before .residual-of .ensures) (c .before .before .score-boats .ensures))
 
--- src/lib.rt:91:46
 array-copy-out-measured : tie.Need-array-copy-out-measured
 array-copy-out-measured c = best-slot _ _ (c .before .before .before .before .before .before .before .pre .0) (c .before .before .before .before .before .before .before .pre .1 .0) (c .before .before .before .before .before .before .before .args .shares) (c .before .before .before .before .before .before .before .pre .1 .1 .0 .0) (c .before .before .before .before .before .before .before .pre .1 .1 .0 .1) (c .before .before .before .before .before .before .before .pre .1 .1 .1) (search needs) (c .before .before .before .before .residual-of .result) (search needs) (c .before .before .before .before .residual-of .ensures) (c .before .before .score-boats .ensures)
 
--- src/lib.rt:91:5
 measured-requires : tie.Need-measured-requires
 measured-requires c κs = measurable _ _ (c .before .before .before .before .before .before .before .before .pre .0) (c .before .before .before .before .before .before .before .before .pre .1 .0) (c .before .before .before .before .before .before .before .before .args .shares) (c .before .before .before .before .before .before .before .before .pre .1 .1 .0 .0) (c .before .before .before .before .before .before .before .before .pre .1 .1 .0 .1) (c .before .before .before .before .before .before .before .before .pre .1 .1 .1) (search needs) (c .before .before .before .before .before .residual-of .result) (search needs) (c .before .before .before .before .before .residual-of .ensures) (c .before .before .before .score-boats .ensures)
 
--- src/lib.rt:77:1
 returns : tie.Need-returns
 returns c = answered _ _ (c .before .before .before .before .before .before .before .before .before .pre .0) (c .before .before .before .before .before .before .before .before .before .pre .1 .0) (c .before .before .before .before .before .before .before .before .before .args .shares) (c .before .before .before .before .before .before .before .before .before .pre .1 .1 .0 .0) (c .before .before .before .before .before .before .before .before .before .pre .1 .1 .0 .1) (c .before .before .before .before .before .before .before .before .before .pre .1 .1 .1) (search needs) (c .before .before .before .before .before .before .residual-of .result) (search needs) (c .before .before .before .before .before .before .residual-of .ensures) (c .before .before .before .before .score-boats .ensures) (c .measured .ensures)
 

@@ -19,79 +19,60 @@ use Rattle.files.proofs.steps.Reads as steps-reads
 use Rattle.search.proofs.fill.Reads as fill-reads
 use Rattle.search.proofs.layout_of.Reads as layout-of-reads
 
--- src/lib.rt:152:9
 files-refusal-requires : tie.Need-files-refusal-requires
 files-refusal-requires c κs = search needs
 
--- src/lib.rt:154:9
 returns : tie.Need-returns
 returns c = refused-by-files _ _ _ _ _ (c .before .files-refusal .ensures) (c .if1 .taken)
 
--- src/lib.rt:156:9
 layout-of-requires : tie.Need-layout-of-requires
 layout-of-requires c κs = search needs
 
--- src/lib.rt:159:9
 returns-2 : tie.Need-returns-2
 returns-2 c = refused-short _ _ _ _ (sym (c .before .before .before .files-refusal .ensures) ∙ c .before .before .if1 .left) (c .before .layout-of .ensures) (c .if2 .taken)
 
--- src/lib.rt:161:70
 steps-requires : tie.Need-steps-requires
 steps-requires c κs = sheet-fits _ _ (sym (c .before .before .before .files-refusal .ensures) ∙ c .before .before .if1 .left) .at-least
 
--- src/lib.rt:161:9
 form-refusal-requires : tie.Need-form-refusal-requires
 form-refusal-requires c κs = layout-boats _ _ (sym (c .before .before .before .before .files-refusal .ensures) ∙ c .before .before .before .if1 .left) (c .before .before .layout-of .ensures)
 
--- src/lib.rt:163:9
 returns-3 : tie.Need-returns-3
 returns-3 c = refused-by-form _ _ _ _ (sym (c .before .before .before .before .before .before .files-refusal .ensures) ∙ c .before .before .before .before .before .if1 .left) (c .before .before .before .before .layout-of .ensures) (c .before .before .before .if2 .left) refl (c .before .before .steps .ensures) (c .before .form-refusal .ensures) (c .if3 .taken)
 
--- src/lib.rt:165:9
 pair-count-requires : tie.Need-pair-count-requires
 pair-count-requires c κs = formed _ _ _ _ (form-zero _ _ _ (now (c .before .before .before .before .before .before .before .before .before .before .before .args .shares)) (sym (c .before .before .before .before .before .before .files-refusal .ensures) ∙ c .before .before .before .before .before .if1 .left) (c .before .before .before .before .layout-of .ensures) (c .before .before .before .if2 .left) refl (c .before .before .steps .ensures) (c .before .form-refusal .ensures) (c .if3 .left)) .long
 
--- src/lib.rt:166:45
 sub-shares-of : tie.Need-sub-shares-of
 sub-shares-of c = formed _ _ _ _ (form-zero _ _ _ (now (c .before .before .before .before .before .before .before .before .before .before .before .before .args .shares)) (sym (c .before .before .before .before .before .before .before .files-refusal .ensures) ∙ c .before .before .before .before .before .before .if1 .left) (c .before .before .before .before .before .layout-of .ensures) (c .before .before .before .before .if2 .left) refl (c .before .before .before .steps .ensures) (c .before .before .form-refusal .ensures) (c .before .if3 .left)) .long
 
--- src/lib.rt:166:63
 mul-shares-of : tie.Need-mul-shares-of
 mul-shares-of c = search needs
 
--- src/lib.rt:166:45
 sub-shares-of-2 : tie.Need-sub-shares-of-2
 sub-shares-of-2 c = pairs-room _ _ _ (sym (c .before .before .before .before .before .before .before .files-refusal .ensures) ∙ c .before .before .before .before .before .before .if1 .left) (form-zero _ _ _ (now (c .before .before .before .before .before .before .before .before .before .before .before .before .args .shares)) (sym (c .before .before .before .before .before .before .before .files-refusal .ensures) ∙ c .before .before .before .before .before .before .if1 .left) (c .before .before .before .before .before .layout-of .ensures) (c .before .before .before .before .if2 .left) refl (c .before .before .before .steps .ensures) (c .before .before .form-refusal .ensures) (c .before .if3 .left)) (c .pair-count .ensures .0)
 
--- src/lib.rt:166:9
 shares-of-requires : tie.Need-shares-of-requires
 shares-of-requires c κs = pairs-asked _ _ _ (sym (c .before .before .before .before .before .before .before .files-refusal .ensures) ∙ c .before .before .before .before .before .before .if1 .left) (form-zero _ _ _ (now (c .before .before .before .before .before .before .before .before .before .before .before .before .args .shares)) (sym (c .before .before .before .before .before .before .before .files-refusal .ensures) ∙ c .before .before .before .before .before .before .if1 .left) (c .before .before .before .before .before .layout-of .ensures) (c .before .before .before .before .if2 .left) refl (c .before .before .before .steps .ensures) (c .before .before .form-refusal .ensures) (c .before .if3 .left)) (c .pair-count .ensures .0)
 
--- src/lib.rt:167:11
 judged-requires : tie.Need-judged-requires
 judged-requires c κs = ((sym (c .before .before .before .before .before .before .before .before .files-refusal .ensures) ∙ c .before .before .before .before .before .before .before .if1 .left), (c .before .before .before .before .before .before .layout-of .ensures, ((form-zero _ _ _ (now (c .before .before .before .before .before .before .before .before .before .before .before .before .before .args .shares)) (sym (c .before .before .before .before .before .before .before .before .files-refusal .ensures) ∙ c .before .before .before .before .before .before .before .if1 .left) (c .before .before .before .before .before .before .layout-of .ensures) (c .before .before .before .before .before .if2 .left) refl (c .before .before .before .before .steps .ensures) (c .before .before .before .form-refusal .ensures) (c .before .before .if3 .left)), (found-are _ _ _ (sym (c .before .before .before .before .before .before .before .before .files-refusal .ensures) ∙ c .before .before .before .before .before .before .before .if1 .left) (form-zero _ _ _ (now (c .before .before .before .before .before .before .before .before .before .before .before .before .before .args .shares)) (sym (c .before .before .before .before .before .before .before .before .files-refusal .ensures) ∙ c .before .before .before .before .before .before .before .if1 .left) (c .before .before .before .before .before .before .layout-of .ensures) (c .before .before .before .before .before .if2 .left) refl (c .before .before .before .before .steps .ensures) (c .before .before .before .form-refusal .ensures) (c .before .before .if3 .left)) (c .before .pair-count .ensures .0) (c .shares-of .ensures)))))
 
--- src/lib.rt:168:27
 enum-known-n : tie.Need-enum-known-n
 enum-known-n c = search needs
 
--- src/lib.rt:169:28
 enum-known-answer : tie.Need-enum-known-answer
 enum-known-answer c = search needs
 
--- src/lib.rt:170:13
 fill-requires : tie.Need-fill-requires
 fill-requires c κs = (layout-boats _ _ (sym (c .before .before .before .before .before .before .before .before .before .before .before .before .before .files-refusal .ensures) ∙ c .before .before .before .before .before .before .before .before .before .before .before .before .if1 .left) (c .before .before .before .before .before .before .before .before .before .before .before .layout-of .ensures), c .before .before .before .before .before .before .before .before .before .before .if2 .left)
 
--- src/lib.rt:147:1
 returns-4 : tie.Need-returns-4
 returns-4 c = refused-by-truth _ _ _ _ (sym (c .before .before .before .before .before .before .before .before .before .before .before .before .files-refusal .ensures) ∙ c .before .before .before .before .before .before .before .before .before .before .before .if1 .left) (c .before .before .before .before .before .before .before .before .before .before .layout-of .ensures) (c .before .before .before .before .before .before .before .before .before .if2 .left) refl (c .before .before .before .before .before .before .before .before .steps .ensures) (c .before .before .before .before .before .before .before .form-refusal .ensures) (c .before .before .before .before .before .before .if3 .left) _ (sym (c .before .n .given .1) ∙ c .before .before .before .judged .ensures)
 
--- src/lib.rt:147:1
 same-length : tie.Need-same-length
 same-length c = search needs
 
--- src/lib.rt:147:1
 returns-5 : tie.Need-returns-5
 returns-5 c = answered _ _ _ _ (sym (c .before .before .before .before .before .before .before .before .before .before .before .before .before .before .before .before .files-refusal .ensures) ∙ c .before .before .before .before .before .before .before .before .before .before .before .before .before .before .before .if1 .left) (c .before .before .before .before .before .before .before .before .before .before .before .before .before .before .layout-of .ensures) (c .before .before .before .before .before .before .before .before .before .before .before .before .before .if2 .left) refl (c .before .before .before .before .before .before .before .before .before .before .before .before .steps .ensures) (c .before .before .before .before .before .before .before .before .before .before .before .form-refusal .ensures) (c .before .before .before .before .before .before .before .before .before .before .if3 .left) (bytes-of _ (c .before .before .before .before .before .before .before .before .before .before .before .before .before .before .before .before .before .before .shared-slice-known3 .given)) _ (found-are _ _ _ (sym (c .before .before .before .before .before .before .before .before .before .before .before .before .before .before .before .before .files-refusal .ensures) ∙ c .before .before .before .before .before .before .before .before .before .before .before .before .before .before .before .if1 .left) (form-zero _ _ _ (now (c .before .before .before .before .before .before .before .before .before .before .before .before .before .before .before .before .before .before .before .before .before .args .shares)) (sym (c .before .before .before .before .before .before .before .before .before .before .before .before .before .before .before .before .files-refusal .ensures) ∙ c .before .before .before .before .before .before .before .before .before .before .before .before .before .before .before .if1 .left) (c .before .before .before .before .before .before .before .before .before .before .before .before .before .before .layout-of .ensures) (c .before .before .before .before .before .before .before .before .before .before .before .before .before .if2 .left) refl (c .before .before .before .before .before .before .before .before .before .before .before .before .steps .ensures) (c .before .before .before .before .before .before .before .before .before .before .before .form-refusal .ensures) (c .before .before .before .before .before .before .before .before .before .before .if3 .left)) (c .before .before .before .before .before .before .before .before .before .pair-count .ensures .0) (c .before .before .before .before .before .before .before .before .shares-of .ensures)) (search needs) (c .before .before .fill .ensures) _ (sym (c .before .before .before .before .before .answer .given .1) ∙ c .before .before .before .before .before .before .before .judged .ensures)
 

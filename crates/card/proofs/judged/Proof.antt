@@ -14,51 +14,39 @@ use Rattle.files.proofs.steps.Reads as steps-reads
 use Rattle.files.proofs.tolerance.Reads as tolerance-reads
 use Rattle.files.proofs.u32_at.Reads as u32-at-reads
 
--- src/lib.rt:132:9
 shares-total-requires : tie.Need-shares-total-requires
 shares-total-requires c κs = (long _ _ _ (c .before .before .before .pre .0) (c .before .before .before .pre .1 .0) (c .before .before .before .pre .1 .1 .0) (c .before .before .before .args .shares) (c .before .before .before .pre .1 .1 .1), few-boats _ _ _ (c .before .before .before .pre .0) (c .before .before .before .pre .1 .0) (c .before .before .before .pre .1 .1 .0) (c .before .before .before .args .shares) (c .before .before .before .pre .1 .1 .1))
 
--- src/lib.rt:133:9
 returns : tie.Need-returns
 returns c = total-refused _ _ _ (c .before .before .before .before .before .pre .0) (c .before .before .before .before .before .pre .1 .0) (c .before .before .before .before .before .pre .1 .1 .0) (c .before .before .before .before .before .args .shares) (c .before .before .before .before .before .pre .1 .1 .1) _ (c .before .shares-total .ensures) (c .if1 .taken)
 
--- src/lib.rt:135:57
 steps-used-requires : tie.Need-steps-used-requires
 steps-used-requires c κs = long _ _ _ (c .before .before .before .before .before .pre .0) (c .before .before .before .before .before .pre .1 .0) (c .before .before .before .before .before .pre .1 .1 .0) (c .before .before .before .before .before .args .shares) (c .before .before .before .before .before .pre .1 .1 .1)
 
--- src/lib.rt:135:9
 answer-of-requires : tie.Need-answer-of-requires
 answer-of-requires c κs = (c .before .before .before .before .before .before .pre .0, (c .before .before .before .before .before .before .pre .1 .0, (steps-asked _ _ _ (c .before .before .before .before .before .before .pre .0) (c .before .before .before .before .before .before .pre .1 .0) (c .before .before .before .before .before .before .pre .1 .1 .0) (c .before .before .before .before .before .before .args .shares) (c .before .before .before .before .before .before .pre .1 .1 .1) _ (c .before .before .shares-total .ensures) (c .before .if1 .left) (c .steps-used .ensures .0), total-asked _ _ _ (c .before .before .before .before .before .before .pre .0) (c .before .before .before .before .before .before .pre .1 .0) (c .before .before .before .before .before .before .pre .1 .1 .0) (c .before .before .before .before .before .before .args .shares) (c .before .before .before .before .before .before .pre .1 .1 .1) _ (c .before .before .shares-total .ensures) (c .before .if1 .left) (c .steps-used .ensures .0))))
 
--- src/lib.rt:136:29
 steps-requires : tie.Need-steps-requires
 steps-requires c κs = sheet-fits _ _ (c .before .before .before .before .before .before .before .pre .0) .at-least
 
--- src/lib.rt:136:9
 numbers-agree-requires : tie.Need-numbers-agree-requires
 numbers-agree-requires c κs = long _ _ _ (c .before .before .before .before .before .before .before .before .pre .0) (c .before .before .before .before .before .before .before .before .pre .1 .0) (c .before .before .before .before .before .before .before .before .pre .1 .1 .0) (c .before .before .before .before .before .before .before .before .args .shares) (c .before .before .before .before .before .before .before .before .pre .1 .1 .1)
 
--- src/lib.rt:137:9
 returns-2 : tie.Need-returns-2
 returns-2 c = numbers-refused _ _ _ (c .before .before .before .before .before .before .before .before .before .before .pre .0) (c .before .before .before .before .before .before .before .before .before .before .pre .1 .0) (c .before .before .before .before .before .before .before .before .before .before .pre .1 .1 .0) (c .before .before .before .before .before .before .before .before .before .before .args .shares) (c .before .before .before .before .before .before .before .before .before .before .pre .1 .1 .1) _ (c .before .before .before .before .before .before .shares-total .ensures) (c .before .before .before .before .before .if1 .left) (c .before .before .before .before .steps-used .ensures .0) (c .before .before .before .answer-of .ensures) (c .before .before .steps .ensures) _ (c .before .numbers-agree .ensures) (c .if2 .taken)
 
--- src/lib.rt:139:28
 sub-u32-at : tie.Need-sub-u32-at
 sub-u32-at c = omega (arith, long _ _ _ (c .before .before .before .before .before .before .before .before .before .before .pre .0) (c .before .before .before .before .before .before .before .before .before .before .pre .1 .0) (c .before .before .before .before .before .before .before .before .before .before .pre .1 .1 .0) (c .before .before .before .before .before .before .before .before .before .before .args .shares) (c .before .before .before .before .before .before .before .before .before .before .pre .1 .1 .1))
 
--- src/lib.rt:139:8
 u32-at-requires : tie.Need-u32-at-requires
 u32-at-requires c κs = omega (arith, long _ _ _ (c .before .before .before .before .before .before .before .before .before .before .pre .0) (c .before .before .before .before .before .before .before .before .before .before .pre .1 .0) (c .before .before .before .before .before .before .before .before .before .before .pre .1 .1 .0) (c .before .before .before .before .before .before .before .before .before .before .args .shares) (c .before .before .before .before .before .before .before .before .before .before .pre .1 .1 .1))
 
--- src/lib.rt:139:48
 tolerance-requires : tie.Need-tolerance-requires
 tolerance-requires c κs = sheet-fits _ _ (c .before .before .before .before .before .before .before .before .before .before .before .pre .0) .at-least
 
--- src/lib.rt:140:9
 returns-3 : tie.Need-returns-3
 returns-3 c = tolerance-refused _ _ _ (c .before .before .before .before .before .before .before .before .before .before .before .before .before .pre .0) (c .before .before .before .before .before .before .before .before .before .before .before .before .before .pre .1 .0) (c .before .before .before .before .before .before .before .before .before .before .before .before .before .pre .1 .1 .0) (c .before .before .before .before .before .before .before .before .before .before .before .before .before .args .shares) (c .before .before .before .before .before .before .before .before .before .before .before .before .before .pre .1 .1 .1) _ (c .before .before .before .before .before .before .before .before .before .shares-total .ensures) (c .before .before .before .before .before .before .before .before .if1 .left) (c .before .before .before .before .before .before .before .steps-used .ensures .0) (c .before .before .before .before .before .before .answer-of .ensures) (c .before .before .before .before .before .steps .ensures) _ (c .before .before .before .before .numbers-agree .ensures) (c .before .before .before .if2 .left) (c .before .before .u32-at .ensures) (c .before .tolerance .ensures) (c .if3 .taken)
 
--- src/lib.rt:125:1
 returns-4 : tie.Need-returns-4
 returns-4 c = judged-true _ _ _ (c .before .before .before .before .before .before .before .before .before .before .before .before .before .pre .0) (c .before .before .before .before .before .before .before .before .before .before .before .before .before .pre .1 .0) (c .before .before .before .before .before .before .before .before .before .before .before .before .before .pre .1 .1 .0) (c .before .before .before .before .before .before .before .before .before .before .before .before .before .args .shares) (c .before .before .before .before .before .before .before .before .before .before .before .before .before .pre .1 .1 .1) _ (c .before .before .before .before .before .before .before .before .before .shares-total .ensures) (c .before .before .before .before .before .before .before .before .if1 .left) (c .before .before .before .before .before .before .before .steps-used .ensures .0) (c .before .before .before .before .before .before .answer-of .ensures) (c .before .before .before .before .before .steps .ensures) _ (c .before .before .before .before .numbers-agree .ensures) (c .before .before .before .if2 .left) (c .before .before .u32-at .ensures) (c .before .tolerance .ensures) (c .if3 .left)
 

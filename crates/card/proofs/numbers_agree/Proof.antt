@@ -11,59 +11,45 @@ use Rattle.files.proofs.u16_at.Reads as u16-at-reads
 use Rattle.files.proofs.u64_at.Reads as u64-at-reads
 use Rattle.method.proofs.stops.Reads as stops-reads
 
--- src/lib.rt:112:28
 sub-u64-at : tie.Need-sub-u64-at
 sub-u64-at c = search needs
 
--- src/lib.rt:112:8
 u64-at-requires : tie.Need-u64-at-requires
 u64-at-requires c κs = search needs
 
--- src/lib.rt:113:9
 returns : tie.Need-returns
 returns c = search (needs, distance-differs)
 
--- src/lib.rt:115:28
 sub-u64-at-2 : tie.Need-sub-u64-at-2
 sub-u64-at-2 c = search needs
 
--- src/lib.rt:115:8
 u64-at-requires-2 : tie.Need-u64-at-requires-2
 u64-at-requires-2 c κs = search needs
 
--- src/lib.rt:116:9
 returns-2 : tie.Need-returns-2
 returns-2 c = search (needs, gap-differs)
 
--- src/lib.rt:118:28
 sub-u16-at : tie.Need-sub-u16-at
 sub-u16-at c = search needs
 
--- src/lib.rt:118:8
 u16-at-requires : tie.Need-u16-at-requires
 u16-at-requires c κs = search needs
 
--- src/lib.rt:118:8
 cast-if3 : tie.Need-cast-if3
 cast-if3 c = search needs
 
--- src/lib.rt:118:55
 verdict-number-requires : tie.Need-verdict-number-requires
 verdict-number-requires c κs = search needs
 
--- src/lib.rt:119:9
 returns-3 : tie.Need-returns-3
 returns-3 c = search (needs, verdict-differs)
 
--- src/lib.rt:121:26
 steps-used-requires : tie.Need-steps-used-requires
 steps-used-requires c κs = search needs
 
--- src/lib.rt:121:5
 stops-requires : tie.Need-stops-requires
 stops-requires c κs = search needs
 
--- src/lib.rt:107:1
 returns-4 : tie.Need-returns-4
 returns-4 c = search (needs, numbers-tested)
 

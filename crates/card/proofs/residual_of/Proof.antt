@@ -18,51 +18,39 @@ Inv-loop book sheet shares rows target columns boats r₀ i₀ r i = Summing boo
 abbrev μ-loop : tie.MeasureT-loop
 μ-loop book sheet shares rows target columns boats r₀ i₀ r i = boats - i
 
--- src/lib.rt:67:5
 loop-holds : tie.Need-loop-holds Inv-loop μ-loop
 loop-holds c = summing-start _ _ (c .before .before .pre .0)
 
--- src/lib.rt:68:31
 mul-row : tie.Need-mul-row Inv-loop μ-loop
 mul-row c = let n : length (c .before .before .before .before .args .t4) ≡ 256 = search needs in row-cell-fits _ _ (c .before .before .before .before .pre .0) (c .before .before .before .before .pre .1 .0) (c .before .loop .inv) n (c .loop-test .taken) (search needs)
 
--- src/lib.rt:68:26
 mul-row-2 : tie.Need-mul-row-2 Inv-loop μ-loop
 mul-row-2 c = let n : length (c .before .before .before .before .args .t4) ≡ 256 = search needs in row-cells-fit _ _ (c .before .before .before .before .pre .0) (c .before .before .before .before .pre .1 .0) (c .before .loop .inv) n (c .loop-test .taken) (search needs)
 
--- src/lib.rt:68:19
 add-row : tie.Need-add-row Inv-loop μ-loop
 add-row c = let n : length (c .before .before .before .before .args .t4) ≡ 256 = search needs in row-fits _ _ (c .before .before .before .before .pre .0) (c .before .before .before .before .pre .1 .0) (c .before .loop .inv) n (c .loop-test .taken) (search needs)
 
--- src/lib.rt:69:38
 mul-wide : tie.Need-mul-wide Inv-loop μ-loop
 mul-wide c = let n : length (c .before .before .before .before .args .t4) ≡ 256 = search needs in omega (arith, boat-slot _ _ (c .before .before .before .before .pre .0) (c .before .before .before .before .pre .1 .0) (c .before .loop .inv) n (c .loop-test .taken))
 
--- src/lib.rt:69:38
 array-read-wide : tie.Need-array-read-wide Inv-loop μ-loop
 array-read-wide c = let n : length (c .before .before .before .before .args .t4) ≡ 256 = search needs in boat-slot _ _ (c .before .before .before .before .pre .0) (c .before .before .before .before .pre .1 .0) (c .before .loop .inv) n (c .loop-test .taken)
 
--- src/lib.rt:69:13
 wide-requires : tie.Need-wide-requires Inv-loop μ-loop
 wide-requires c κs = search needs
 
--- src/lib.rt:70:13
 moved-requires : tie.Need-moved-requires Inv-loop μ-loop
 moved-requires c κs = let n : length (c .before .before .before .before .before .args .t4) ≡ 256 = search needs in boat-moved _ _ (c .before .before .before .before .before .pre .0) (c .before .before .before .before .before .pre .1 .0) (c .before .before .loop .inv) n (c .before .loop-test .taken) (c .wide .ensures .0) (c .before .before .before .before .before .pre .1 .1)
 
--- src/lib.rt:72:9
 add-i : tie.Need-add-i Inv-loop μ-loop
 add-i c = search needs
 
--- src/lib.rt:67:5
 loop-less : tie.Need-loop-less Inv-loop μ-loop
 loop-less c = search needs
 
--- src/lib.rt:67:5
 loop-again : tie.Need-loop-again Inv-loop μ-loop
 loop-again c = let n : length (c .before .before .before .before .before .before .args .t4) ≡ 256 = search needs in boat-added _ _ (c .before .before .before .before .before .before .pre .0) (c .before .before .before .before .before .before .pre .1 .0) (c .before .before .before .loop .inv) n (c .before .before .loop-test .taken) (c .before .wide .ensures .0) (search needs) (c .moved .ensures)
 
--- src/lib.rt:55:1
 returns : tie.Need-returns Inv-loop μ-loop
 returns c = let n : length (c .before .before .before .before .args .t4) ≡ 256 = search needs in residual-done _ _ (c .before .before .before .before .pre .0) (c .before .before .before .before .pre .1 .0) (c .before .loop .inv) n (c .loop-test .left)
 

@@ -9,35 +9,27 @@ use Rattle.card_input.proofs.pair_count.Reads as pair-count-reads
 use Rattle.card_input.proofs.steps_used.Reads as steps-used-reads
 use Rattle.card_input.proofs.total.Reads as total-reads
 
--- src/lib.rt:99:9
 steps-used-requires : tie.Need-steps-used-requires
 steps-used-requires c κs = search needs
 
--- src/lib.rt:100:9
 cast-if1 : tie.Need-cast-if1
 cast-if1 c = search needs
 
--- src/lib.rt:100:23
 pair-count-requires : tie.Need-pair-count-requires
 pair-count-requires c κs = search needs
 
--- src/lib.rt:101:9
 returns : tie.Need-returns
 returns c = search (needs, boats-many)
 
--- src/lib.rt:103:5
 total-requires : tie.Need-total-requires
 total-requires c κs = search needs
 
--- src/lib.rt:103:46
 add-result : tie.Need-add-result
 add-result c = search needs
 
--- src/lib.rt:103:41
 mul-result : tie.Need-mul-result
 mul-result c = weight-fits _ (c .before .before .before .steps-used .ensures .1)
 
--- src/lib.rt:95:1
 returns-2 : tie.Need-returns-2
 returns-2 c = search (needs, total-tested)
 

@@ -17,63 +17,48 @@ use Rattle.files.proofs.files_refusal.Reads as files-refusal-reads
 use Rattle.files.proofs.tolerance.Reads as tolerance-reads
 use Rattle.search.proofs.run.Reads as run-reads
 
--- src/lib.rt:37:9
 files-refusal-requires : tie.Need-files-refusal-requires
 files-refusal-requires c κs = search needs
 
--- src/lib.rt:39:9
 returns : tie.Need-returns
 returns c = refused-by-files _ _ _ _ (c .before .files-refusal .ensures) (c .if1 .taken)
 
--- src/lib.rt:41:9
 boats-requires : tie.Need-boats-requires
 boats-requires c κs = book-fits _ _ (sym (c .before .files-refusal .ensures) ∙ c .if1 .left) .at-least
 
--- src/lib.rt:42:9
 run-requires : tie.Need-run-requires
 run-requires c κs = search needs
 
--- src/lib.rt:44:20
 holding-requires : tie.Need-holding-requires
 holding-requires c κs = rw (c .before .before .boats .ensures) (book-fits _ _ (sym (c .before .before .before .before .files-refusal .ensures) ∙ c .before .before .before .if1 .left) .most-boats)
 
--- src/lib.rt:44:16
 mul-back : tie.Need-mul-back
 mul-back c = search needs
 
--- src/lib.rt:45:23
 add-if2 : tie.Need-add-if2
 add-if2 c = search needs
 
--- src/lib.rt:46:9
 returns-2 : tie.Need-returns-2
 returns-2 c = refused-short _ _ _ (sym (c .before .before .before .before .before .before .files-refusal .ensures) ∙ c .before .before .before .before .before .if1 .left) (c .before .before .before .before .boats .ensures) (c .before .before .before .run .ensures) _ (c .before .holding .ensures .0) (c .if2 .taken)
 
--- src/lib.rt:49:5
 put-pairs-requires : tie.Need-put-pairs-requires
 put-pairs-requires c κs = (rw (c .before .before .before .before .before .before .boats .ensures) (book-fits _ _ (sym (c .before .before .before .before .before .before .before .before .files-refusal .ensures) ∙ c .before .before .before .before .before .before .before .if1 .left) .most-boats), pairs-fit _ _ (now (c .before .before .before .before .before .before .before .before .before .before .before .before .args .output)) (sym (c .before .before .before .before .before .before .before .before .files-refusal .ensures) ∙ c .before .before .before .before .before .before .before .if1 .left) (c .before .before .before .before .before .before .boats .ensures) (c .before .before .before .before .before .run .ensures) _ (c .before .before .before .holding .ensures .0) (c .before .before .if2 .left))
 
--- src/lib.rt:50:52
 tolerance-requires : tie.Need-tolerance-requires
 tolerance-requires c κs = sheet-fits _ _ (sym (c .before .before .before .before .before .before .before .before .before .before .before .before .files-refusal .ensures) ∙ c .before .before .before .before .before .before .before .before .before .before .before .if1 .left) .at-least
 
--- src/lib.rt:50:84
 columns-requires : tie.Need-columns-requires
 columns-requires c κs = book-fits _ _ (sym (c .before .before .before .before .before .before .before .before .before .before .before .before .before .files-refusal .ensures) ∙ c .before .before .before .before .before .before .before .before .before .before .before .before .if1 .left) .at-least
 
--- src/lib.rt:50:5
 put-trailer-requires : tie.Need-put-trailer-requires
 put-trailer-requires c κs = search needs
 
--- src/lib.rt:51:28
 add-t12 : tie.Need-add-t12
 add-t12 c = search needs
 
--- src/lib.rt:32:1
 same-length : tie.Need-same-length
 same-length c = search needs
 
--- src/lib.rt:32:1
 returns-3 : tie.Need-returns-3
 returns-3 c = filed _ _ _ (sym (c .before .before .before .before .before .before .before .before .before .before .before .before .before .before .before .before .before .files-refusal .ensures) ∙ c .before .before .before .before .before .before .before .before .before .before .before .before .before .before .before .before .if1 .left) (c .before .before .before .before .before .before .before .before .before .before .before .before .before .before .before .boats .ensures) (c .before .before .before .before .before .before .before .before .before .before .before .before .before .before .run .ensures) _ (c .before .before .before .before .before .before .before .before .before .before .before .before .holding .ensures .0) (c .before .before .before .before .before .before .before .before .before .before .before .if2 .left) _ _ (c .before .before .before .before .before .before .before .before .put-pairs .ensures) _ _ (c .before .before .before .before .tolerance .ensures) (c .before .before .before .columns .ensures .0) (c .before .before .put-trailer .ensures)
 

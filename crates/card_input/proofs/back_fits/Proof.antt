@@ -7,35 +7,27 @@ use Rattle.card_input.proofs.back_fits.Reads as reads
 use Rattle.card_input.proofs.back_fits.Lts as lts
 use Rattle.files.proofs.u32_at.Reads as u32-at-reads
 
--- src/input.rt:70:16
 sub-room : tie.Need-sub-room
 sub-room c = search needs
 
--- src/input.rt:71:16
 u32-at-requires : tie.Need-u32-at-requires
 u32-at-requires c κs = search needs
 
--- src/input.rt:71:16
 cast-back : tie.Need-cast-back
 cast-back c = search needs
 
--- src/input.rt:73:9
 returns : tie.Need-returns
 returns c = search (needs, back-zero)
 
--- src/input.rt:76:9
 returns-2 : tie.Need-returns-2
 returns-2 c = search (needs, back-uneven)
 
--- src/input.rt:78:8
 mul-if3 : tie.Need-mul-if3
 mul-if3 c = search needs
 
--- src/input.rt:79:9
 returns-3 : tie.Need-returns-3
 returns-3 c = search (needs, back-many)
 
--- src/input.rt:66:1
 returns-4 : tie.Need-returns-4
 returns-4 c = search (needs, back-last)
 

@@ -7,35 +7,27 @@ use Rattle.card_input.proofs.counts_agree.Reads as reads
 use Rattle.card_input.proofs.counts_agree.Lts as lts
 use Rattle.files.proofs.u16_at.Reads as u16-at-reads
 
--- src/input.rt:39:28
 sub-u16-at : tie.Need-sub-u16-at
 sub-u16-at c = search needs
 
--- src/input.rt:39:8
 u16-at-requires : tie.Need-u16-at-requires
 u16-at-requires c κs = search needs
 
--- src/input.rt:39:8
 cast-if1 : tie.Need-cast-if1
 cast-if1 c = search needs
 
--- src/input.rt:40:9
 returns : tie.Need-returns
 returns c = search (needs, counts-differ)
 
--- src/input.rt:42:25
 sub-u16-at-2 : tie.Need-sub-u16-at-2
 sub-u16-at-2 c = search needs
 
--- src/input.rt:42:5
 u16-at-requires-2 : tie.Need-u16-at-requires-2
 u16-at-requires-2 c κs = search needs
 
--- src/input.rt:42:5
 cast-result : tie.Need-cast-result
 cast-result c = search needs
 
--- src/input.rt:35:1
 returns-2 : tie.Need-returns-2
 returns-2 c = search (needs, counts-same)
 

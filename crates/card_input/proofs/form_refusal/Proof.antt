@@ -16,71 +16,54 @@ use Rattle.card_input.proofs.pair_count.Reads as pair-count-reads
 use Rattle.card_input.proofs.pairs_in_order.Reads as pairs-in-order-reads
 use Rattle.card_input.proofs.steps_fit.Reads as steps-fit-reads
 
--- src/input.rt:129:9
 is-between-requires : tie.Need-is-between-requires
 is-between-requires c κs = search needs
 
--- src/input.rt:130:9
 returns : tie.Need-returns
 returns c = search (needs, length-out)
 
--- src/input.rt:132:9
 is-lettered-requires : tie.Need-is-lettered-requires
 is-lettered-requires c κs = search (needs, at-least)
 
--- src/input.rt:133:9
 returns-2 : tie.Need-returns-2
 returns-2 c = search (needs, letters-differ)
 
--- src/input.rt:135:9
 counts-agree-requires : tie.Need-counts-agree-requires
 counts-agree-requires c κs = search (needs, at-least)
 
--- src/input.rt:136:9
 returns-3 : tie.Need-returns-3
 returns-3 c = search (needs, counts-out)
 
--- src/input.rt:138:9
 steps-fit-requires : tie.Need-steps-fit-requires
 steps-fit-requires c κs = search (needs, at-least)
 
--- src/input.rt:139:9
 returns-4 : tie.Need-returns-4
 returns-4 c = search (needs, steps-refused)
 
--- src/input.rt:141:9
 back-fits-requires : tie.Need-back-fits-requires
 back-fits-requires c κs = (search (needs, at-least), search needs)
 
--- src/input.rt:142:9
 returns-5 : tie.Need-returns-5
 returns-5 c = search (needs, back-refused)
 
--- src/input.rt:144:9
 pair-count-requires : tie.Need-pair-count-requires
 pair-count-requires c κs = search (needs, at-least)
 
--- src/input.rt:145:30
 sub-pairs-in-order : tie.Need-sub-pairs-in-order
 sub-pairs-in-order c = search (needs, at-least)
 
--- src/input.rt:145:48
 mul-pairs-in-order : tie.Need-mul-pairs-in-order
 mul-pairs-in-order c = search needs
 
--- src/input.rt:145:30
 sub-pairs-in-order-2 : tie.Need-sub-pairs-in-order-2
 sub-pairs-in-order-2 c = body-room (c .before .before .before .before .before .before .before .before .before .before .before .before .args .boats) (now (c .before .before .before .before .before .before .before .before .before .before .before .before .args .card)) _ (c .before .before .back-fits .ensures) (c .before .if5 .left) _ (c .pair-count .ensures .0)
 
--- src/input.rt:145:9
 pairs-in-order-requires : tie.Need-pairs-in-order-requires
 pairs-in-order-requires c κs = omega (arith, body-room (c .before .before .before .before .before .before .before .before .before .before .before .before .args .boats) (now (c .before .before .before .before .before .before .before .before .before .before .before .before .args .card)) _ (c .before .before .back-fits .ensures) (c .before .if5 .left) _ (c .pair-count .ensures .0))
 
--- src/input.rt:146:9
 returns-6 : tie.Need-returns-6
 returns-6 c = search (needs, pairs-refused)
 
--- src/input.rt:125:1
 returns-7 : tie.Need-returns-7
 returns-7 c = search (needs, form-right)
 

@@ -6,12 +6,10 @@ use Rattle.card_input.proofs.is_between.Tie as tie
 use Rattle.card_input.proofs.is_between.Reads as reads
 use Rattle.card_input.proofs.is_between.Lts as lts
 
--- src/input.rt:21:9
 returns : tie.Need-returns
 unfolding between
 returns c = simp (lt-leb _ _ (c .if1 .taken))
 
--- src/input.rt:17:1
 returns-2 : tie.Need-returns-2
 unfolding between
 returns-2 c = simp (le-leb _ _ (c .if1 .left))

@@ -7,15 +7,12 @@ use Rattle.card_input.proofs.is_lettered.Reads as reads
 use Rattle.card_input.proofs.is_lettered.Lts as lts
 use Rattle.files.proofs.u32_at.Reads as u32-at-reads
 
--- src/input.rt:31:25
 sub-u32-at : tie.Need-sub-u32-at
 sub-u32-at c = search needs
 
--- src/input.rt:31:5
 u32-at-requires : tie.Need-u32-at-requires
 u32-at-requires c κs = search needs
 
--- src/input.rt:27:1
 returns : tie.Need-returns
 returns c = lettered _ (c .before .before .pre) (bytes-of _ (c .before .shared-slice-known .given)) _ (c .u32-at .ensures)
 

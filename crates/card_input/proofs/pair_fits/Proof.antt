@@ -6,15 +6,12 @@ use Rattle.card_input.proofs.pair_fits.Tie as tie
 use Rattle.card_input.proofs.pair_fits.Reads as reads
 use Rattle.card_input.proofs.pair_fits.Lts as lts
 
--- src/input.rt:97:9
 returns : tie.Need-returns
 returns c = search (needs, pair-low)
 
--- src/input.rt:100:9
 returns-2 : tie.Need-returns-2
 returns-2 c = search (needs, pair-high)
 
--- src/input.rt:93:1
 returns-3 : tie.Need-returns-3
 returns-3 c = search (needs, pair-last)
 

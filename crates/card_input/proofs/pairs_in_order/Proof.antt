@@ -15,67 +15,51 @@ Inv-loop card at count boats next₀ i₀ next i = Ordering card at count boats 
 abbrev μ-loop : tie.MeasureT-loop
 μ-loop card at count boats next₀ i₀ next i = count - i
 
--- src/input.rt:112:5
 loop-holds : tie.Need-loop-holds Inv-loop μ-loop
 loop-holds c = ordering-start
 
--- src/input.rt:113:45
 mul-u16-at : tie.Need-mul-u16-at Inv-loop μ-loop
 mul-u16-at c = search needs
 
--- src/input.rt:113:40
 add-u16-at : tie.Need-add-u16-at Inv-loop μ-loop
 add-u16-at c = search needs
 
--- src/input.rt:113:20
 u16-at-requires : tie.Need-u16-at-requires Inv-loop μ-loop
 u16-at-requires c κs = search needs
 
--- src/input.rt:113:20
 cast-boat : tie.Need-cast-boat Inv-loop μ-loop
 cast-boat c = search needs
 
--- src/input.rt:114:46
 mul-u16-at-2 : tie.Need-mul-u16-at-2 Inv-loop μ-loop
 mul-u16-at-2 c = search needs
 
--- src/input.rt:114:41
 add-u16-at-2 : tie.Need-add-u16-at-2 Inv-loop μ-loop
 add-u16-at-2 c = search needs
 
--- src/input.rt:114:41
 add-u16-at-3 : tie.Need-add-u16-at-3 Inv-loop μ-loop
 add-u16-at-3 c = search needs
 
--- src/input.rt:114:13
 u16-at-requires-2 : tie.Need-u16-at-requires-2 Inv-loop μ-loop
 u16-at-requires-2 c κs = search needs
 
--- src/input.rt:115:13
 pair-fits-requires : tie.Need-pair-fits-requires Inv-loop μ-loop
 pair-fits-requires c κs = search needs
 
--- src/input.rt:116:13
 returns : tie.Need-returns Inv-loop μ-loop
 returns c = search (needs, ordering-out)
 
--- src/input.rt:118:16
 add-next : tie.Need-add-next Inv-loop μ-loop
 add-next c = search needs
 
--- src/input.rt:119:9
 add-i : tie.Need-add-i Inv-loop μ-loop
 add-i c = search needs
 
--- src/input.rt:112:5
 loop-less : tie.Need-loop-less Inv-loop μ-loop
 loop-less c = search needs
 
--- src/input.rt:112:5
 loop-again : tie.Need-loop-again Inv-loop μ-loop
 loop-again c = search (needs, ordering-more)
 
--- src/input.rt:106:1
 returns-2 : tie.Need-returns-2 Inv-loop μ-loop
 returns-2 c = search (needs, ordering-end)
 

@@ -14,67 +14,51 @@ Inv-loop card at count shares₀ i₀ shares i = Taking card at count i shares
 abbrev μ-loop : tie.MeasureT-loop
 μ-loop card at count shares₀ i₀ shares i = count - i
 
--- src/input.rt:159:5
 loop-holds : tie.Need-loop-holds Inv-loop μ-loop
 loop-holds c = taking-start
 
--- src/input.rt:160:45
 mul-u16-at : tie.Need-mul-u16-at Inv-loop μ-loop
 mul-u16-at c = search needs
 
--- src/input.rt:160:40
 add-u16-at : tie.Need-add-u16-at Inv-loop μ-loop
 add-u16-at c = search needs
 
--- src/input.rt:160:20
 u16-at-requires : tie.Need-u16-at-requires Inv-loop μ-loop
 u16-at-requires c κs = search needs
 
--- src/input.rt:160:20
 cast-boat : tie.Need-cast-boat Inv-loop μ-loop
 cast-boat c = search needs
 
--- src/input.rt:161:49
 mul-u16-at-2 : tie.Need-mul-u16-at-2 Inv-loop μ-loop
 mul-u16-at-2 c = search needs
 
--- src/input.rt:161:44
 add-u16-at-2 : tie.Need-add-u16-at-2 Inv-loop μ-loop
 add-u16-at-2 c = search needs
 
--- src/input.rt:161:44
 add-u16-at-3 : tie.Need-add-u16-at-3 Inv-loop μ-loop
 add-u16-at-3 c = search needs
 
--- src/input.rt:161:24
 u16-at-requires-2 : tie.Need-u16-at-requires-2 Inv-loop μ-loop
 u16-at-requires-2 c κs = search needs
 
--- src/input.rt:161:24
 cast-shares : tie.Need-cast-shares Inv-loop μ-loop
 cast-shares c = search needs
 
--- src/input.rt:161:9
 mul-shares : tie.Need-mul-shares Inv-loop μ-loop
 mul-shares c = search needs
 
--- src/input.rt:161:9
 array-write-shares : tie.Need-array-write-shares Inv-loop μ-loop
 array-write-shares c = search (needs, taking-slot)
 
--- src/input.rt:162:9
 add-i : tie.Need-add-i Inv-loop μ-loop
 add-i c = search needs
 
--- src/input.rt:159:5
 loop-less : tie.Need-loop-less Inv-loop μ-loop
 loop-less c = search needs
 
--- src/input.rt:159:5
 loop-again : tie.Need-loop-again Inv-loop μ-loop
 loop-again c = search (needs, taking-more)
 
--- src/input.rt:152:1
 returns : tie.Need-returns Inv-loop μ-loop
 returns c = search (needs, taking-end)
 

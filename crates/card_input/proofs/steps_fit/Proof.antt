@@ -9,39 +9,30 @@ use Rattle.card_input.proofs.is_between.Reads as is-between-reads
 use Rattle.card_input.proofs.steps_used.Reads as steps-used-reads
 use Rattle.files.proofs.u16_at.Reads as u16-at-reads
 
--- src/input.rt:59:46
 sub-u16-at : tie.Need-sub-u16-at
 sub-u16-at c = search needs
 
--- src/input.rt:59:26
 u16-at-requires : tie.Need-u16-at-requires
 u16-at-requires c κs = search needs
 
--- src/input.rt:59:26
 cast-is-between : tie.Need-cast-is-between
 cast-is-between c = search needs
 
--- src/input.rt:59:9
 is-between-requires : tie.Need-is-between-requires
 is-between-requires c κs = search needs
 
--- src/input.rt:60:9
 returns : tie.Need-returns
 returns c = search (needs, steps-out)
 
--- src/input.rt:62:35
 steps-used-requires : tie.Need-steps-used-requires
 steps-used-requires c κs = search needs
 
--- src/input.rt:62:35
 cast-is-between-2 : tie.Need-cast-is-between-2
 cast-is-between-2 c = search needs
 
--- src/input.rt:62:5
 is-between-requires-2 : tie.Need-is-between-requires-2
 is-between-requires-2 c κs = search needs
 
--- src/input.rt:55:1
 returns-2 : tie.Need-returns-2
 returns-2 c = search (needs, steps-tested)
 

@@ -7,15 +7,12 @@ use Rattle.card_input.proofs.steps_used.Reads as reads
 use Rattle.card_input.proofs.steps_used.Lts as lts
 use Rattle.files.proofs.u16_at.Reads as u16-at-reads
 
--- src/input.rt:51:25
 sub-u16-at : tie.Need-sub-u16-at
 sub-u16-at c = search needs
 
--- src/input.rt:51:5
 u16-at-requires : tie.Need-u16-at-requires
 u16-at-requires c κs = search needs
 
--- src/input.rt:46:1
 returns : tie.Need-returns
 returns c = search (needs, steps-at)
 

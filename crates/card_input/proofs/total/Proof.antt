@@ -17,41 +17,32 @@ Inv-loop boats shares sum₀ i₀ sum i = Totalling boats shares i sum
 abbrev μ-loop : tie.MeasureT-loop
 μ-loop boats shares sum₀ i₀ sum i = boats - i
 
--- src/lib.rt:182:5
 loop-holds : tie.Need-loop-holds Inv-loop μ-loop
 loop-holds c = totalling-start
 
--- src/lib.rt:183:21
 mul-wide : tie.Need-mul-wide Inv-loop μ-loop
 mul-wide c = search needs
 
--- src/lib.rt:183:21
 array-read-wide : tie.Need-array-read-wide Inv-loop μ-loop
 array-read-wide c = search needs
 
--- src/lib.rt:183:16
 wide-requires : tie.Need-wide-requires Inv-loop μ-loop
 wide-requires c κs = search needs
 
--- src/lib.rt:183:9
 add-sum : tie.Need-add-sum Inv-loop μ-loop
 add-sum c = search needs
 
--- src/lib.rt:184:9
 add-i : tie.Need-add-i Inv-loop μ-loop
 add-i c = search needs
 
--- src/lib.rt:182:5
 loop-less : tie.Need-loop-less Inv-loop μ-loop
 loop-less c = search needs
 
--- src/lib.rt:182:5
 loop-again : tie.Need-loop-again Inv-loop μ-loop
 loop-again c =
     let l : length (c .before .before .before .args .t1) ≡ 256 = search needs in
     totalling-more (c .before .before .loop .inv) (omega arith) (c .before .loop-test .taken) _ (c .wide .ensures .0) (c .wide .ensures .1)
 
--- src/lib.rt:176:1
 returns : tie.Need-returns Inv-loop μ-loop
 returns c =
     let l : length (c .before .before .args .t1) ≡ 256 = search needs in

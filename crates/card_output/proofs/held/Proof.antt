@@ -6,11 +6,9 @@ use Rattle.card_output.proofs.held.Tie as tie
 use Rattle.card_output.proofs.held.Reads as reads
 use Rattle.card_output.proofs.held.Lts as lts
 
--- src/output.rt:59:1
 returns : tie.Need-returns
 returns c = (search (needs, held-none), search needs)
 
--- src/output.rt:59:1
 returns-2 : tie.Need-returns-2
 returns-2 c = (search (needs, held-some), search needs)
 

@@ -17,41 +17,32 @@ Inv-loop boats shares n₀ i₀ n i = Counting boats shares i n
 abbrev μ-loop : tie.MeasureT-loop
 μ-loop boats shares n₀ i₀ n i = boats - i
 
--- src/output.rt:73:5
 loop-holds : tie.Need-loop-holds Inv-loop μ-loop
 loop-holds c = counting-start
 
--- src/output.rt:74:19
 mul-held : tie.Need-mul-held Inv-loop μ-loop
 mul-held c = search needs
 
--- src/output.rt:74:19
 array-read-held : tie.Need-array-read-held Inv-loop μ-loop
 array-read-held c = search needs
 
--- src/output.rt:74:14
 held-requires : tie.Need-held-requires Inv-loop μ-loop
 held-requires c κs = search needs
 
--- src/output.rt:74:9
 add-n : tie.Need-add-n Inv-loop μ-loop
 add-n c = search needs
 
--- src/output.rt:75:9
 add-i : tie.Need-add-i Inv-loop μ-loop
 add-i c = search needs
 
--- src/output.rt:73:5
 loop-less : tie.Need-loop-less Inv-loop μ-loop
 loop-less c = search needs
 
--- src/output.rt:73:5
 loop-again : tie.Need-loop-again Inv-loop μ-loop
 loop-again c =
     let l : length (c .before .before .before .args .t1) ≡ 256 = search needs in
     counting-more (c .before .before .loop .inv) (omega arith) (c .before .loop-test .taken) _ (c .held .ensures .0)
 
--- src/output.rt:66:1
 returns : tie.Need-returns Inv-loop μ-loop
 returns c =
     let l : length (c .before .before .args .t1) ≡ 256 = search needs in

@@ -13,39 +13,30 @@ Inv-loop output₀ at width number rest₀ i₀ output rest i = Putting output�
 abbrev μ-loop : tie.MeasureT-loop
 μ-loop output₀ at width number rest₀ i₀ output rest i = width - i
 
--- src/output.rt:23:5
 loop-holds : tie.Need-loop-holds Inv-loop μ-loop
 loop-holds c = put-start
 
--- src/output.rt:24:26
 cast-output : tie.Need-cast-output Inv-loop μ-loop
 cast-output c = search needs
 
--- src/output.rt:24:16
 add-output : tie.Need-add-output Inv-loop μ-loop
 add-output c = search needs
 
--- src/output.rt:24:9
 slice-write-output : tie.Need-slice-write-output Inv-loop μ-loop
 slice-write-output c = search needs
 
--- src/output.rt:26:9
 add-i : tie.Need-add-i Inv-loop μ-loop
 add-i c = search needs
 
--- src/output.rt:23:5
 loop-less : tie.Need-loop-less Inv-loop μ-loop
 loop-less c = search needs
 
--- src/output.rt:23:5
 loop-again : tie.Need-loop-again Inv-loop μ-loop
 loop-again c = search (needs, put-more)
 
--- src/output.rt:17:1
 same-length : tie.Need-same-length Inv-loop μ-loop
 same-length c = search needs
 
--- src/output.rt:17:1
 returns : tie.Need-returns Inv-loop μ-loop
 returns c = search (needs, put-end)
 

@@ -7,39 +7,30 @@ use Rattle.card_output.proofs.put_head.Reads as reads
 use Rattle.card_output.proofs.put_head.Lts as lts
 use Rattle.card_output.proofs.put.Reads as put-reads
 
--- src/output.rt:97:5
 put-requires : tie.Need-put-requires
 put-requires c κs = search needs
 
--- src/output.rt:98:17
 add-put : tie.Need-add-put
 add-put c = search needs
 
--- src/output.rt:98:5
 put-requires-2 : tie.Need-put-requires-2
 put-requires-2 c κs = search needs
 
--- src/output.rt:99:17
 add-put-2 : tie.Need-add-put-2
 add-put-2 c = search needs
 
--- src/output.rt:99:5
 put-requires-3 : tie.Need-put-requires-3
 put-requires-3 c κs = search needs
 
--- src/output.rt:100:17
 add-put-3 : tie.Need-add-put-3
 add-put-3 c = search needs
 
--- src/output.rt:100:5
 put-requires-4 : tie.Need-put-requires-4
 put-requires-4 c κs = search needs
 
--- src/output.rt:93:1
 same-length : tie.Need-same-length
 same-length c = search needs
 
--- src/output.rt:93:1
 returns : tie.Need-returns
 returns c = search (needs, head-placed)
 

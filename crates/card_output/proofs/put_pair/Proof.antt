@@ -8,31 +8,24 @@ use Rattle.card_output.proofs.put_pair.Reads as reads
 use Rattle.card_output.proofs.put_pair.Lts as lts
 use Rattle.card_output.proofs.put.Reads as put-reads
 
--- src/output.rt:37:9
 returns : tie.Need-returns
 returns c = pair-skipped _ _ _ _ (c .if1 .taken)
 
--- src/output.rt:39:5
 put-requires : tie.Need-put-requires
 put-requires c κs = omega (arith, pair-long (c .before .before .before .args .boat) (c .before .before .before .args .share) (c .before .if1 .left), c .before .before .before .pre)
 
--- src/output.rt:40:17
 add-put : tie.Need-add-put
 add-put c = search needs
 
--- src/output.rt:40:5
 put-requires-2 : tie.Need-put-requires-2
 put-requires-2 c κs = omega (arith, pair-long (c .before .before .before .before .before .before .before .args .boat) (c .before .before .before .before .before .before .before .args .share) (c .before .before .before .before .before .if1 .left), c .before .before .before .before .before .before .before .pre, c .before .before .before .put .kept)
 
--- src/output.rt:41:5
 add-result : tie.Need-add-result
 add-result c = search needs
 
--- src/output.rt:31:1
 same-length : tie.Need-same-length
 same-length c = search needs
 
--- src/output.rt:31:1
 returns-2 : tie.Need-returns-2
 returns-2 c = pair-placed _ _ _ _ (c .before .before .before .before .before .before .before .before .if1 .left) (c .before .before .before .before .before .before .before .before .before .before .pre) (c .before .before .before .before .before .before .put .ensures) (c .before .before .put2 .ensures)
 

@@ -17,43 +17,34 @@ Inv-loop output₀ boats shares at₀ i₀ output at i = Pairing output₀ boats
 abbrev μ-loop : tie.MeasureT-loop
 μ-loop output₀ boats shares at₀ i₀ output at i = boats - i
 
--- src/output.rt:52:5
 loop-holds : tie.Need-loop-holds Inv-loop μ-loop
 loop-holds c = pairing-start
 
--- src/output.rt:53:38
 mul-put-pair : tie.Need-mul-put-pair Inv-loop μ-loop
 mul-put-pair c = search needs
 
--- src/output.rt:53:38
 array-read-put-pair : tie.Need-array-read-put-pair Inv-loop μ-loop
 array-read-put-pair c = search needs
 
--- src/output.rt:53:9
 put-pair-requires : tie.Need-put-pair-requires Inv-loop μ-loop
 put-pair-requires c κs =
     let l : length (c .before .before .before .before .args .t2) ≡ 256 = search needs in
     pair-room (c .before .before .loop .inv) (omega arith) (c .before .loop-test .taken) (c .before .before .before .before .pre .1)
 
--- src/output.rt:54:9
 add-i : tie.Need-add-i Inv-loop μ-loop
 add-i c = search needs
 
--- src/output.rt:52:5
 loop-less : tie.Need-loop-less Inv-loop μ-loop
 loop-less c = search needs
 
--- src/output.rt:52:5
 loop-again : tie.Need-loop-again Inv-loop μ-loop
 loop-again c =
     let l : length (c .before .before .before .before .before .before .before .args .t2) ≡ 256 = search needs in
     pairing-more (c .before .before .before .before .before .loop .inv) (omega arith) (c .before .before .before .before .loop-test .taken) (c .before .before .before .before .before .before .before .pre .1) _ _ (c .before .before .put-pair .ensures .0) (c .before .before .put-pair .ensures .1)
 
--- src/output.rt:45:1
 same-length : tie.Need-same-length Inv-loop μ-loop
 same-length c = search needs
 
--- src/output.rt:45:1
 returns : tie.Need-returns Inv-loop μ-loop
 returns c =
     let l : length (c .before .before .before .args .t2) ≡ 256 = search needs in

@@ -7,47 +7,36 @@ use Rattle.card_output.proofs.put_rest.Reads as reads
 use Rattle.card_output.proofs.put_rest.Lts as lts
 use Rattle.card_output.proofs.put.Reads as put-reads
 
--- src/output.rt:108:5
 put-requires : tie.Need-put-requires
 put-requires c κs = search needs
 
--- src/output.rt:109:17
 add-put : tie.Need-add-put
 add-put c = search needs
 
--- src/output.rt:109:5
 put-requires-2 : tie.Need-put-requires-2
 put-requires-2 c κs = search needs
 
--- src/output.rt:110:17
 add-put-2 : tie.Need-add-put-2
 add-put-2 c = search needs
 
--- src/output.rt:110:5
 put-requires-3 : tie.Need-put-requires-3
 put-requires-3 c κs = search needs
 
--- src/output.rt:111:17
 add-put-3 : tie.Need-add-put-3
 add-put-3 c = search needs
 
--- src/output.rt:111:5
 put-requires-4 : tie.Need-put-requires-4
 put-requires-4 c κs = search needs
 
--- src/output.rt:112:17
 add-put-4 : tie.Need-add-put-4
 add-put-4 c = search needs
 
--- src/output.rt:112:5
 put-requires-5 : tie.Need-put-requires-5
 put-requires-5 c κs = search needs
 
--- src/output.rt:104:1
 same-length : tie.Need-same-length
 same-length c = search needs
 
--- src/output.rt:104:1
 returns : tie.Need-returns
 returns c =
     rest-placed _ _ _ _ _ _ (c .before .before .before .before .before .before .before .before .before .before .before .before .before .before .before .before .before .before .before .before .before .pre) (c .before .before .before .before .before .before .before .before .before .before .before .before .before .before .before .before .before .before .put .ensures) (c .before .before .before .before .before .before .before .before .before .before .before .before .before .before .put2 .ensures) (c .before .before .before .before .before .before .before .before .before .before .put3 .ensures) (c .before .before .before .before .before .before .put4 .ensures) (c .before .before .put5 .ensures)

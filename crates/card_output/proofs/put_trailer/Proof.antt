@@ -9,31 +9,24 @@ use Rattle.card_output.proofs.put_head.Reads as put-head-reads
 use Rattle.card_output.proofs.put_rest.Reads as put-rest-reads
 use Rattle.card_output.proofs.verdict_number.Reads as verdict-number-reads
 
--- src/output.rt:121:37
 verdict-number-requires : tie.Need-verdict-number-requires
 verdict-number-requires c κs = search needs
 
--- src/output.rt:121:62
 cast-put-head : tie.Need-cast-put-head
 cast-put-head c = search needs
 
--- src/output.rt:121:5
 put-head-requires : tie.Need-put-head-requires
 put-head-requires c κs = search needs
 
--- src/output.rt:122:22
 add-put-rest : tie.Need-add-put-rest
 add-put-rest c = search needs
 
--- src/output.rt:122:5
 put-rest-requires : tie.Need-put-rest-requires
 put-rest-requires c κs = search needs
 
--- src/output.rt:116:1
 same-length : tie.Need-same-length
 same-length c = search needs
 
--- src/output.rt:116:1
 returns : tie.Need-returns
 returns c = search (needs, trailer-placed)
 

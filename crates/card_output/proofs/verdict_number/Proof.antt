@@ -6,29 +6,23 @@ use Rattle.card_output.proofs.verdict_number.Tie as tie
 use Rattle.card_output.proofs.verdict_number.Reads as reads
 use Rattle.card_output.proofs.verdict_number.Lts as lts
 
--- src/output.rt:85:28
 enum-told : tie.Need-enum-told
 enum-told c = search needs
 
--- src/output.rt:86:31
 enum-told-2 : tie.Need-enum-told-2
 enum-told-2 c = search needs
 
--- src/output.rt:87:30
 enum-told-3 : tie.Need-enum-told-3
 enum-told-3 c = search needs
 
--- src/output.rt:81:1
 returns : tie.Need-returns
 unfolding verdict-number
 returns c = search needs
 
--- src/output.rt:81:1
 returns-2 : tie.Need-returns-2
 unfolding verdict-number
 returns-2 c = search needs
 
--- src/output.rt:81:1
 returns-3 : tie.Need-returns-3
 unfolding verdict-number
 returns-3 c = search needs

@@ -12,54 +12,42 @@ use Rattle.method.proofs.judge.Tie as tie
 use Rattle.method.proofs.judge.Reads as reads
 use Rattle.method.proofs.judge.Lts as lts
 
--- src/lib.rt:35:37
 mul-limit : tie.Need-mul-limit
 mul-limit c = square-fits (c .args .w) (search needs)
 
--- src/lib.rt:35:17
 mul-limit-2 : tie.Need-mul-limit-2
 mul-limit-2 c = search needs
 
--- src/lib.rt:37:9
 returns : tie.Need-returns
 unfolding verdict
 returns c = simp (le-leb _ _ (c .if1 .taken))
 
--- src/lib.rt:39:16
 mul-if2 : tie.Need-mul-if2
 mul-if2 c = search needs
 
--- src/lib.rt:39:8
 add-if2 : tie.Need-add-if2
 add-if2 c = search needs
 
--- src/lib.rt:40:32
 cast-t11 : tie.Need-cast-t11
 cast-t11 c = search needs
 
--- src/lib.rt:40:44
 mul-t12 : tie.Need-mul-t12
 mul-t12 c = search needs
 
--- src/lib.rt:40:43
 cast-t13 : tie.Need-cast-t13
 cast-t13 c = search needs
 
--- src/lib.rt:40:32
 sub-t14 : tie.Need-sub-t14
 sub-t14 c = floor-fits (c .before .before .args .e) (2 * c .before .before .args .g) (c .before .before .pre .distance) (omega arith)
 
--- src/lib.rt:40:9
 returns-2 : tie.Need-returns-2
 unfolding verdict
 returns-2 c = ap Beyond (floor-read (c .before .before .args .e) (2 * c .before .before .args .g) (c .before .before .pre .distance) (omega arith))
     ∙ simp (lt-leb _ _ (c .before .if1 .left), lt-ltb _ _ (c .if2 .taken))
 
--- src/lib.rt:42:20
 sub-t8 : tie.Need-sub-t8
 sub-t8 c = search needs
 
--- src/lib.rt:31:1
 returns-3 : tie.Need-returns-3
 unfolding verdict
 returns-3 c = simp (lt-leb _ _ (c .before .if1 .left), le-ltb _ _ (c .if2 .left))

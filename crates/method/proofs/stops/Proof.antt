@@ -6,29 +6,23 @@ use Rattle.method.proofs.stops.Tie as tie
 use Rattle.method.proofs.stops.Reads as reads
 use Rattle.method.proofs.stops.Lts as lts
 
--- src/lib.rt:50:28
 enum-told : tie.Need-enum-told
 enum-told c = search needs
 
--- src/lib.rt:51:31
 enum-told-2 : tie.Need-enum-told-2
 enum-told-2 c = search needs
 
--- src/lib.rt:52:30
 enum-told-3 : tie.Need-enum-told-3
 enum-told-3 c = search needs
 
--- src/lib.rt:46:1
 returns : tie.Need-returns
 unfolding stops
 returns c = search needs
 
--- src/lib.rt:46:1
 returns-2 : tie.Need-returns-2
 unfolding stops
 returns-2 c = search needs
 
--- src/lib.rt:46:1
 returns-3 : tie.Need-returns-3
 unfolding stops
 returns-3 c = cc

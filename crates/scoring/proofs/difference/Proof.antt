@@ -16,63 +16,48 @@ Inv-loop book at sheet from columns d₀ j₀ d j = Differing book at sheet from
 abbrev μ-loop : tie.MeasureT-loop
 μ-loop book at sheet from columns d₀ j₀ d j = columns - j
 
--- src/lib.rt:120:5
 loop-holds : tie.Need-loop-holds Inv-loop μ-loop
 loop-holds c = differing-start refl
 
--- src/lib.rt:121:44
 mul-value-at : tie.Need-mul-value-at Inv-loop μ-loop
 mul-value-at c = search needs
 
--- src/lib.rt:121:39
 add-value-at : tie.Need-add-value-at Inv-loop μ-loop
 add-value-at c = search needs
 
--- src/lib.rt:121:17
 value-at-requires : tie.Need-value-at-requires Inv-loop μ-loop
 value-at-requires c κs = search needs
 
--- src/lib.rt:121:83
 mul-value-at-2 : tie.Need-mul-value-at-2 Inv-loop μ-loop
 mul-value-at-2 c = search needs
 
--- src/lib.rt:121:76
 add-value-at-2 : tie.Need-add-value-at-2 Inv-loop μ-loop
 add-value-at-2 c = search needs
 
--- src/lib.rt:121:53
 value-at-requires-2 : tie.Need-value-at-requires-2 Inv-loop μ-loop
 value-at-requires-2 c κs = search needs
 
--- src/lib.rt:121:17
 sub-d : tie.Need-sub-d Inv-loop μ-loop
 sub-d c = wide-fits (c .before .before .before .loop .inv) (c .before .before .before .before .before .before .pre .0 .few-columns) (c .before .before .before .before .before .before .pre .1 .1 .0) (c .before .before .before .before .before .before .pre .1 .1 .1) (c .before .before .loop-test .taken) (c .before .value-at .ensures) (c .value-at2 .ensures)
 
--- src/lib.rt:121:16
 cast-d : tie.Need-cast-d Inv-loop μ-loop
 cast-d c = narrow-fits (c .before .before .before .loop .inv) (c .before .before .before .before .before .before .pre .0 .few-columns) (c .before .before .before .before .before .before .pre .1 .1 .0) (c .before .before .before .before .before .before .pre .1 .1 .1) (c .before .before .loop-test .taken) (c .before .value-at .ensures) (c .value-at2 .ensures)
 
--- src/lib.rt:121:9
 mul-d : tie.Need-mul-d Inv-loop μ-loop
 mul-d c = search needs
 
--- src/lib.rt:121:9
 array-set-from-d : tie.Need-array-set-from-d Inv-loop μ-loop
 array-set-from-d c = omega (arith, c .before .before .before .before .before .before .pre .0 .few-columns)
 
--- src/lib.rt:122:9
 add-i : tie.Need-add-i Inv-loop μ-loop
 add-i c = search needs
 
--- src/lib.rt:120:5
 loop-less : tie.Need-loop-less Inv-loop μ-loop
 loop-less c = search needs
 
--- src/lib.rt:120:5
 loop-again : tie.Need-loop-again Inv-loop μ-loop
 loop-again c = differing-more (c .before .before .before .loop .inv) (c .before .before .before .before .before .before .pre .0 .few-columns) (c .before .before .before .before .before .before .pre .1 .1 .0) (c .before .before .before .before .before .before .pre .1 .1 .1) (c .before .before .loop-test .taken) (c .before .value-at .ensures) (c .value-at2 .ensures)
 
--- src/lib.rt:112:1
 returns : tie.Need-returns Inv-loop μ-loop
 returns c = differing-end (c .before .loop .inv) (c .loop-test .left)
 

@@ -7,31 +7,24 @@ use Rattle.scoring.proofs.gap_of.Tie as tie
 use Rattle.scoring.proofs.gap_of.Reads as reads
 use Rattle.scoring.proofs.gap_of.Lts as lts
 
--- src/lib.rt:115:6
 cast-result : tie.Need-cast-result
 cast-result c = search needs
 
--- src/lib.rt:115:17
 cast-result-2 : tie.Need-cast-result-2
 cast-result-2 c = search needs
 
--- src/lib.rt:115:29
 sub-result : tie.Need-sub-result
 sub-result c = spread-fits (c .pre)
 
--- src/lib.rt:115:17
 mul-result : tie.Need-mul-result
 mul-result c = product-fits (c .pre)
 
--- src/lib.rt:115:6
 add-result : tie.Need-add-result
 add-result c = gap-fits (c .pre)
 
--- src/lib.rt:115:5
 cast-result-3 : tie.Need-cast-result-3
 cast-result-3 c = gap-cast (c .pre)
 
--- src/lib.rt:111:1
 returns : tie.Need-returns
 returns c = gap-result (c .pre)
 

@@ -16,59 +16,45 @@ Inv-loop r bytes at columns sum₀ i₀ sum i = Summed w64 8519680000000 r bytes
 abbrev μ-loop : tie.MeasureT-loop
 μ-loop r bytes at columns sum₀ i₀ sum i = columns - i
 
--- src/lib.rt:22:5
 loop-holds : tie.Need-loop-holds Inv-loop μ-loop
 loop-holds c = sum-start
 
--- src/lib.rt:23:16
 mul-sum : tie.Need-mul-sum Inv-loop μ-loop
 mul-sum c = search needs
 
--- src/lib.rt:23:16
 shared-slice-copy-out-sum : tie.Need-shared-slice-copy-out-sum Inv-loop μ-loop
 shared-slice-copy-out-sum c = omega (arith, c .before .before .before .pre .0 .few-columns)
 
--- src/lib.rt:23:16
 cast-sum : tie.Need-cast-sum Inv-loop μ-loop
 cast-sum c = search (needs, entry-cast-fits)
 
--- src/lib.rt:23:58
 mul-value-at : tie.Need-mul-value-at Inv-loop μ-loop
 mul-value-at c = search needs
 
--- src/lib.rt:23:53
 add-value-at : tie.Need-add-value-at Inv-loop μ-loop
 add-value-at c = search needs
 
--- src/lib.rt:23:30
 value-at-requires : tie.Need-value-at-requires Inv-loop μ-loop
 value-at-requires c κs = search needs
 
--- src/lib.rt:23:30
 cast-sum-2 : tie.Need-cast-sum-2 Inv-loop μ-loop
 cast-sum-2 c = search (needs, value-cast-fits)
 
--- src/lib.rt:23:16
 mul-sum-2 : tie.Need-mul-sum-2 Inv-loop μ-loop
 mul-sum-2 c = product-fits tt (c .before .before .before .loop .inv) (c .before .before .before .before .before .pre .0) (c .before .before .before .before .before .pre .1 .long) (c .before .before .loop-test .taken) (c .value-at .ensures) (entry-cast-read (c .before .before .before .before .before .pre .1) (c .before .before .loop-test .taken)) (value-cast-read _ (c .value-at .ensures)) (wide-product (c .before .before .before .before .before .pre .1) (c .before .before .loop-test .taken) _ (c .value-at .ensures) (entry-cast-read (c .before .before .before .before .before .pre .1) (c .before .before .loop-test .taken)) (value-cast-read _ (c .value-at .ensures)))
 
--- src/lib.rt:23:9
 add-sum : tie.Need-add-sum Inv-loop μ-loop
 add-sum c = sum-fits tt (c .before .before .before .loop .inv) (c .before .before .before .before .before .pre .0) (c .before .before .before .before .before .pre .1 .long) (c .before .before .loop-test .taken) (c .value-at .ensures) (entry-cast-read (c .before .before .before .before .before .pre .1) (c .before .before .loop-test .taken)) (value-cast-read _ (c .value-at .ensures)) (wide-product (c .before .before .before .before .before .pre .1) (c .before .before .loop-test .taken) _ (c .value-at .ensures) (entry-cast-read (c .before .before .before .before .before .pre .1) (c .before .before .loop-test .taken)) (value-cast-read _ (c .value-at .ensures)))
 
--- src/lib.rt:24:9
 add-i : tie.Need-add-i Inv-loop μ-loop
 add-i c = search needs
 
--- src/lib.rt:22:5
 loop-less : tie.Need-loop-less Inv-loop μ-loop
 loop-less c = search needs
 
--- src/lib.rt:22:5
 loop-again : tie.Need-loop-again Inv-loop μ-loop
 loop-again c = sum-more tt (c .before .before .before .loop .inv) (c .before .before .before .before .before .pre .0) (c .before .before .before .before .before .pre .1 .long) (c .before .before .loop-test .taken) (c .value-at .ensures) (entry-cast-read (c .before .before .before .before .before .pre .1) (c .before .before .loop-test .taken)) (value-cast-read _ (c .value-at .ensures)) (wide-product (c .before .before .before .before .before .pre .1) (c .before .before .loop-test .taken) _ (c .value-at .ensures) (entry-cast-read (c .before .before .before .before .before .pre .1) (c .before .before .loop-test .taken)) (value-cast-read _ (c .value-at .ensures)))
 
--- src/lib.rt:15:1
 returns : tie.Need-returns Inv-loop μ-loop
 returns c = sum-end tt (c .before .loop .inv) (c .before .before .before .pre .0) (c .loop-test .left)
 

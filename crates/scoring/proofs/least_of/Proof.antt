@@ -21,33 +21,26 @@ Inv-loop products boats best₀ least₀ i₀ best least i = Ahead w32 (take boa
 abbrev μ-loop : tie.MeasureT-loop
 μ-loop products boats best₀ least₀ i₀ best least i = boats - i
 
--- src/lib.rt:166:21
 shared-slice-copy-out-least : tie.Need-shared-slice-copy-out-least Inv-loop μ-loop
 shared-slice-copy-out-least c = search needs
 
--- src/lib.rt:168:5
 loop-holds : tie.Need-loop-holds Inv-loop μ-loop
 loop-holds c =
     let n = length-take-le (c .before .args .boats) (c .before .args .products .now) (c .before .pre .1) in
     ahead-start (omega (arith, n, c .before .pre .0)) (toZ-ofZ (sfits-of (c .least .given)) ∙ sym (getD-take _ _ 0 (pos 0) (c .before .pre .0)))
 
--- src/lib.rt:169:17
 mul-p : tie.Need-mul-p Inv-loop μ-loop
 mul-p c = search needs
 
--- src/lib.rt:169:17
 shared-slice-copy-out-p : tie.Need-shared-slice-copy-out-p Inv-loop μ-loop
 shared-slice-copy-out-p c = search needs
 
--- src/lib.rt:174:9
 add-i : tie.Need-add-i Inv-loop μ-loop
 add-i c = search needs
 
--- src/lib.rt:168:5
 loop-less : tie.Need-loop-less Inv-loop μ-loop
 loop-less c = search needs
 
--- src/lib.rt:168:5
 loop-again : tie.Need-loop-again Inv-loop μ-loop
 loop-again c =
     let d = c .before .before .before .loop .inv in
@@ -60,7 +53,6 @@ loop-again c =
     (λ w. rw (w .1, w .2) (ahead-same d (omega (arith, n)) e (rw f at (w .0 .left))))
     (c .if1 .came)
 
--- src/lib.rt:161:1
 returns : tie.Need-returns Inv-loop μ-loop
 returns c =
     let n = length-take-le (c .before .before .before .args .boats) (c .before .before .before .args .products .now) (c .before .before .before .pre .1) in

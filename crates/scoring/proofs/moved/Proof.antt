@@ -15,75 +15,57 @@ Inv-loop book at sheet from columns k next₀ j₀ next j = Moving book at sheet
 abbrev μ-loop : tie.MeasureT-loop
 μ-loop book at sheet from columns k next₀ j₀ next j = columns - j
 
--- src/lib.rt:70:5
 loop-holds : tie.Need-loop-holds Inv-loop μ-loop
 loop-holds c = move-start (search needs)
 
--- src/lib.rt:71:44
 mul-value-at : tie.Need-mul-value-at Inv-loop μ-loop
 mul-value-at c = search needs
 
--- src/lib.rt:71:39
 add-value-at : tie.Need-add-value-at Inv-loop μ-loop
 add-value-at c = search needs
 
--- src/lib.rt:71:17
 value-at-requires : tie.Need-value-at-requires Inv-loop μ-loop
 value-at-requires c κs = search needs
 
--- src/lib.rt:71:83
 mul-value-at-2 : tie.Need-mul-value-at-2 Inv-loop μ-loop
 mul-value-at-2 c = search needs
 
--- src/lib.rt:71:76
 add-value-at-2 : tie.Need-add-value-at-2 Inv-loop μ-loop
 add-value-at-2 c = search needs
 
--- src/lib.rt:71:53
 value-at-requires-2 : tie.Need-value-at-requires-2 Inv-loop μ-loop
 value-at-requires-2 c κs = search needs
 
--- src/lib.rt:71:17
 sub-d : tie.Need-sub-d Inv-loop μ-loop
 sub-d c = difference-fits (c .before .before .before .loop .inv) (c .before .before .before .before .before .before .pre .0 .few-columns) (c .before .before .before .before .before .before .pre .1 .1) (c .before .before .loop-test .taken) (c .before .value-at .ensures) (c .value-at2 .ensures)
 
--- src/lib.rt:72:20
 cast-next : tie.Need-cast-next Inv-loop μ-loop
 cast-next c = search needs
 
--- src/lib.rt:72:20
 mul-next : tie.Need-mul-next Inv-loop μ-loop
 mul-next c = change-fits (c .before .before .before .loop .inv) (c .before .before .before .before .before .before .pre .0 .few-columns) (c .before .before .before .before .before .before .pre .1 .1) (c .before .before .loop-test .taken) (c .before .value-at .ensures) (c .value-at2 .ensures)
 
--- src/lib.rt:72:9
 mul-next-2 : tie.Need-mul-next-2 Inv-loop μ-loop
 mul-next-2 c = search needs
 
--- src/lib.rt:72:9
 array-copy-out-next : tie.Need-array-copy-out-next Inv-loop μ-loop
 array-copy-out-next c = omega (arith, c .before .before .before .before .before .before .pre .0 .few-columns)
 
--- src/lib.rt:72:9
 add-next : tie.Need-add-next Inv-loop μ-loop
 add-next c = entry-fits (c .before .before .before .before .loop .inv) (c .before .before .before .before .before .before .before .pre .0 .few-columns) (c .before .before .before .before .before .before .before .pre .1 .1) (c .before .before .before .loop-test .taken) (c .before .before .value-at .ensures) (c .before .value-at2 .ensures)
 
--- src/lib.rt:72:9
 array-set-from-next : tie.Need-array-set-from-next Inv-loop μ-loop
 array-set-from-next c = omega (arith, c .before .before .before .before .before .before .before .pre .0 .few-columns)
 
--- src/lib.rt:73:9
 add-j : tie.Need-add-j Inv-loop μ-loop
 add-j c = search needs
 
--- src/lib.rt:70:5
 loop-less : tie.Need-loop-less Inv-loop μ-loop
 loop-less c = search needs
 
--- src/lib.rt:70:5
 loop-again : tie.Need-loop-again Inv-loop μ-loop
 loop-again c = move-more (c .before .before .before .before .loop .inv) (c .before .before .before .before .before .before .before .pre .0 .few-columns) (c .before .before .before .before .before .before .before .pre .1 .1) (c .before .before .before .loop-test .taken) (c .before .before .value-at .ensures) (c .before .value-at2 .ensures)
 
--- src/lib.rt:54:1
 returns : tie.Need-returns Inv-loop μ-loop
 returns c = move-end (c .before .loop .inv) (c .loop-test .left)
 

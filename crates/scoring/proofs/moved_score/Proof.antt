@@ -6,39 +6,30 @@ use Rattle.scoring.proofs.moved_score.Tie as tie
 use Rattle.scoring.proofs.moved_score.Reads as reads
 use Rattle.scoring.proofs.moved_score.Lts as lts
 
--- src/lib.rt:165:5
 mul-result : tie.Need-mul-result
 mul-result c = search needs
 
--- src/lib.rt:165:5
 shared-slice-copy-out-result : tie.Need-shared-slice-copy-out-result
 shared-slice-copy-out-result c = search needs
 
--- src/lib.rt:165:15
 cast-result : tie.Need-cast-result
 cast-result c = search needs
 
--- src/lib.rt:165:26
 mul-result-2 : tie.Need-mul-result-2
 mul-result-2 c = search needs
 
--- src/lib.rt:165:26
 shared-slice-copy-out-result-2 : tie.Need-shared-slice-copy-out-result-2
 shared-slice-copy-out-result-2 c = search needs
 
--- src/lib.rt:165:26
 cast-result-2 : tie.Need-cast-result-2
 cast-result-2 c = product-cast (c .before .before .pre)
 
--- src/lib.rt:165:15
 mul-result-3 : tie.Need-mul-result-3
 mul-result-3 c = change-fits (c .before .before .pre)
 
--- src/lib.rt:165:5
 add-result : tie.Need-add-result
 add-result c = score-fits (c .before .before .pre)
 
--- src/lib.rt:161:1
 returns : tie.Need-returns
 returns c = score-read (c .before .before .pre)
 

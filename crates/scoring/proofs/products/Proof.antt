@@ -18,43 +18,33 @@ Inv-loop d book at boats columns row₀ p₀ i₀ row p i = Produced (take colum
 abbrev μ-loop : tie.MeasureT-loop
 μ-loop d book at boats columns row₀ p₀ i₀ row p i = boats - i
 
--- src/lib.rt:152:5
 loop-holds : tie.Need-loop-holds Inv-loop μ-loop
 loop-holds c = produced-start refl
 
--- src/lib.rt:153:18
 narrow-inner-requires : tie.Need-narrow-inner-requires Inv-loop μ-loop
 narrow-inner-requires c κs = (row-span (c .before .loop .inv) (c .before .before .before .pre .0) (c .loop-test .taken), (c .before .before .before .pre .1 .0, row-range (c .before .loop .inv) (c .before .before .before .pre .0) (c .loop-test .taken) (c .before .before .before .pre .1 .1)))
 
--- src/lib.rt:153:9
 mul-row : tie.Need-mul-row Inv-loop μ-loop
 mul-row c = search needs
 
--- src/lib.rt:153:9
 array-set-from-row : tie.Need-array-set-from-row Inv-loop μ-loop
 array-set-from-row c = omega (arith, c .before .loop-test .taken, c .before .before .before .before .pre .0 .few-boats)
 
--- src/lib.rt:154:14
 mul-p : tie.Need-mul-p Inv-loop μ-loop
 mul-p c = search needs
 
--- src/lib.rt:154:9
 add-p : tie.Need-add-p Inv-loop μ-loop
 add-p c = omega (arith, row-span (c .before .before .loop .inv) (c .before .before .before .before .pre .0) (c .before .loop-test .taken))
 
--- src/lib.rt:155:9
 add-i : tie.Need-add-i Inv-loop μ-loop
 add-i c = search needs
 
--- src/lib.rt:152:5
 loop-less : tie.Need-loop-less Inv-loop μ-loop
 loop-less c = search needs
 
--- src/lib.rt:152:5
 loop-again : tie.Need-loop-again Inv-loop μ-loop
 loop-again c = produced-more (c .before .before .loop .inv) (c .before .before .before .before .pre .0) (c .before .loop-test .taken) (c .narrow-inner .ensures) (toZ-ofZ (sfits-of (c .narrow-inner .ok)))
 
--- src/lib.rt:143:1
 returns : tie.Need-returns Inv-loop μ-loop
 returns c = produced-end (c .before .loop .inv) (c .before .before .before .pre .0) (c .loop-test .left)
 

@@ -21,47 +21,36 @@ Inv-loop k products boats base first scores₀ best₀ least₀ i₀ scores best
 abbrev μ-loop : tie.MeasureT-loop
 μ-loop k products boats base first scores₀ best₀ least₀ i₀ scores best least i = boats - i
 
--- src/lib.rt:173:29
 slice-aggregate-moved-score : tie.Need-slice-aggregate-moved-score Inv-loop μ-loop
 slice-aggregate-moved-score c = search needs
 
--- src/lib.rt:173:9
 moved-score-requires : tie.Need-moved-score-requires Inv-loop μ-loop
 moved-score-requires c κs = c .before .pre .each 0 (c .before .pre .some-boats)
 
--- src/lib.rt:175:5
 array-set-from-scores : tie.Need-array-set-from-scores Inv-loop μ-loop
 array-set-from-scores c = search needs
 
--- src/lib.rt:179:5
 loop-holds : tie.Need-loop-holds Inv-loop μ-loop
 loop-holds c = scan-start (c .before .before .args .t1) (rw (moved-length (c .before .before .pre)) (c .before .before .pre .some-boats)) (search needs) (moved-at (c .before .before .pre) 0 (c .before .before .pre .some-boats) (c .moved-score .ensures)) (toZ-ofZ (sfits-of (c .moved-score .ok))) (toZ-ofZ (sfits-of (c .moved-score .ok)))
 
--- src/lib.rt:180:29
 slice-aggregate-moved-score-2 : tie.Need-slice-aggregate-moved-score-2 Inv-loop μ-loop
 slice-aggregate-moved-score-2 c = search needs
 
--- src/lib.rt:180:13
 moved-score-requires-2 : tie.Need-moved-score-requires-2 Inv-loop μ-loop
 moved-score-requires-2 c κs = c .before .before .before .before .before .pre .each _ (c .before .loop-test .taken)
 
--- src/lib.rt:181:9
 mul-scores : tie.Need-mul-scores Inv-loop μ-loop
 mul-scores c = search needs
 
--- src/lib.rt:181:9
 array-set-from-scores-2 : tie.Need-array-set-from-scores-2 Inv-loop μ-loop
 array-set-from-scores-2 c = search needs
 
--- src/lib.rt:186:9
 add-i : tie.Need-add-i Inv-loop μ-loop
 add-i c = search needs
 
--- src/lib.rt:179:5
 loop-less : tie.Need-loop-less Inv-loop μ-loop
 loop-less c = search needs
 
--- src/lib.rt:179:5
 loop-again : tie.Need-loop-again Inv-loop μ-loop
 loop-again c =
     let z = c .before .before .before .before .before .before .before .pre in
@@ -75,7 +64,6 @@ loop-again c =
     (λ w. rw (w .1, w .2) (scan-same d (omega (arith, n, z .few-boats)) (omega (arith, n)) e f (rw f at (w .0 .left))))
     (c .if1 .came)
 
--- src/lib.rt:169:1
 returns : tie.Need-returns Inv-loop μ-loop
 returns c =
     let z = c .before .before .before .before .pre in

@@ -20,55 +20,42 @@ Inv-loop r book at boats columns first scores₀ best₀ least₀ p₀ i₀ scor
 abbrev μ-loop : tie.MeasureT-loop
 μ-loop r book at boats columns first scores₀ best₀ least₀ p₀ i₀ scores best least p i = boats - i
 
--- src/lib.rt:90:9
 inner-at-requires : tie.Need-inner-at-requires Inv-loop μ-loop
 inner-at-requires c κs = (first-span (c .before .pre .0), c .before .pre .1)
 
--- src/lib.rt:92:5
 array-set-from-scores : tie.Need-array-set-from-scores Inv-loop μ-loop
 array-set-from-scores c = search needs
 
--- src/lib.rt:95:22
 mul-p : tie.Need-mul-p Inv-loop μ-loop
 mul-p c = search needs
 
--- src/lib.rt:95:17
 add-p : tie.Need-add-p Inv-loop μ-loop
 add-p c = omega (arith, first-span (c .before .before .pre .0))
 
--- src/lib.rt:97:5
 loop-holds : tie.Need-loop-holds Inv-loop μ-loop
 loop-holds c = pass-start (c .before .before .pre .0) (c .inner-at .ensures) (toZ-ofZ (sfits-of (c .inner-at .ok))) refl
 
--- src/lib.rt:98:13
 inner-at-requires-2 : tie.Need-inner-at-requires-2 Inv-loop μ-loop
 inner-at-requires-2 c κs = (next-span (c .before .before .before .before .pre .0) (c .before .loop .inv) (c .loop-test .taken), c .before .before .before .before .pre .1)
 
--- src/lib.rt:99:9
 mul-scores : tie.Need-mul-scores Inv-loop μ-loop
 mul-scores c = search needs
 
--- src/lib.rt:99:9
 array-set-from-scores-2 : tie.Need-array-set-from-scores-2 Inv-loop μ-loop
 array-set-from-scores-2 c = search needs
 
--- src/lib.rt:104:14
 mul-p-2 : tie.Need-mul-p-2 Inv-loop μ-loop
 mul-p-2 c = search needs
 
--- src/lib.rt:104:9
 add-p-2 : tie.Need-add-p-2 Inv-loop μ-loop
 add-p-2 c = omega (arith, next-span (c .before .before .before .before .before .before .pre .0) (c .before .before .before .loop .inv) (c .before .before .loop-test .taken))
 
--- src/lib.rt:105:9
 add-i : tie.Need-add-i Inv-loop μ-loop
 add-i c = search needs
 
--- src/lib.rt:97:5
 loop-less : tie.Need-loop-less Inv-loop μ-loop
 loop-less c = search needs
 
--- src/lib.rt:97:5
 loop-again : tie.Need-loop-again Inv-loop μ-loop
 loop-again c =
     let g = c .before .before .before .before .before .before .pre .0 in
@@ -81,7 +68,6 @@ loop-again c =
     (λ w. rw (w .1, w .2) (pass-same g d h e f (rw f at (w .0 .left))))
     (c .if1 .came)
 
--- src/lib.rt:85:1
 returns : tie.Need-returns Inv-loop μ-loop
 returns c = pass-end (c .before .before .before .before .pre .0) (c .before .loop .inv) (c .loop-test .left)
 

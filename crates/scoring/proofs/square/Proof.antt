@@ -5,19 +5,15 @@ use Rattle.scoring.proofs.square.Tie as tie
 use Rattle.scoring.proofs.square.Reads as reads
 use Rattle.scoring.proofs.square.Lts as lts
 
--- src/lib.rt:34:13
 cast-z : tie.Need-cast-z
 cast-z c = held-fits (c .args .x) (c .pre)
 
--- src/lib.rt:35:6
 mul-result : tie.Need-mul-result
 mul-result c = square-fits (c .args .x) (c .pre)
 
--- src/lib.rt:35:5
 cast-result : tie.Need-cast-result
 cast-result c = square-cast (c .args .x) (c .pre)
 
--- src/lib.rt:30:1
 returns : tie.Need-returns
 returns c = square-is (c .args .x) (c .pre)
 

@@ -15,39 +15,30 @@ Inv-loop r columns sum₀ i₀ sum i = Squared r columns i sum
 abbrev μ-loop : tie.MeasureT-loop
 μ-loop r columns sum₀ i₀ sum i = columns - i
 
--- src/lib.rt:46:5
 loop-holds : tie.Need-loop-holds Inv-loop μ-loop
 loop-holds c = squared-start
 
--- src/lib.rt:47:23
 mul-square : tie.Need-mul-square Inv-loop μ-loop
 mul-square c = search needs
 
--- src/lib.rt:47:23
 shared-slice-copy-out-square : tie.Need-shared-slice-copy-out-square Inv-loop μ-loop
 shared-slice-copy-out-square c = omega (arith, c .before .before .pre .1 .long)
 
--- src/lib.rt:47:16
 square-requires : tie.Need-square-requires Inv-loop μ-loop
 square-requires c κs = entry-size (c .before .before .before .pre .1) _ (c .before .loop-test .taken)
 
--- src/lib.rt:47:9
 add-sum : tie.Need-add-sum Inv-loop μ-loop
 add-sum c = squared-fits (c .before .before .before .loop .inv) (c .before .before .before .before .pre .0) (c .before .before .before .before .pre .1) (c .before .before .loop-test .taken) (c .square .ensures)
 
--- src/lib.rt:48:9
 add-i : tie.Need-add-i Inv-loop μ-loop
 add-i c = search needs
 
--- src/lib.rt:46:5
 loop-less : tie.Need-loop-less Inv-loop μ-loop
 loop-less c = search needs
 
--- src/lib.rt:46:5
 loop-again : tie.Need-loop-again Inv-loop μ-loop
 loop-again c = squared-more (c .before .before .before .loop .inv) (c .before .before .before .before .pre .0) (c .before .before .before .before .pre .1) (c .before .before .loop-test .taken) (c .square .ensures)
 
--- src/lib.rt:39:1
 returns : tie.Need-returns Inv-loop μ-loop
 returns c = squared-end (c .before .loop .inv) (c .loop-test .left)
 

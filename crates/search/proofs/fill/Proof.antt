@@ -16,45 +16,35 @@ Inv-loop count to₀ from i₀ to i = Filled count to₀ from i to
 abbrev μ-loop : tie.MeasureT-loop
 μ-loop count to₀ from i₀ to i = count - i
 
--- src/lib.rt:179:5
 loop-holds : tie.Need-loop-holds Inv-loop μ-loop
 loop-holds c = filled-start
 
--- src/lib.rt:180:17
 mul-to : tie.Need-mul-to Inv-loop μ-loop
 mul-to c = search needs
 
--- src/lib.rt:180:17
 array-read-to : tie.Need-array-read-to Inv-loop μ-loop
 array-read-to c = search needs
 
--- src/lib.rt:180:9
 mul-to-2 : tie.Need-mul-to-2 Inv-loop μ-loop
 mul-to-2 c = search needs
 
--- src/lib.rt:180:9
 slice-write-to : tie.Need-slice-write-to Inv-loop μ-loop
 slice-write-to c = search needs
 
--- src/lib.rt:181:9
 add-i : tie.Need-add-i Inv-loop μ-loop
 add-i c = search needs
 
--- src/lib.rt:179:5
 loop-less : tie.Need-loop-less Inv-loop μ-loop
 loop-less c = search needs
 
--- src/lib.rt:179:5
 loop-again : tie.Need-loop-again Inv-loop μ-loop
 loop-again c =
     let l : length (c .before .before .args .t1) ≡ 256 = search needs in
     filled-more (c .before .loop .inv) (omega arith) (omega arith) (c .loop-test .taken)
 
--- src/lib.rt:174:1
 same-length : tie.Need-same-length Inv-loop μ-loop
 same-length c = search needs
 
--- src/lib.rt:174:1
 returns : tie.Need-returns Inv-loop μ-loop
 returns c = filled-end (c .before .loop .inv) (c .loop-test .left)
 

@@ -11,23 +11,18 @@ use Rattle.files.proofs.book_body.Reads as book-body-reads
 use Rattle.files.proofs.columns.Reads as columns-reads
 use Rattle.files.proofs.sheet_body.Reads as sheet-body-reads
 
--- src/lib.rt:29:16
 boats-requires : tie.Need-boats-requires
 boats-requires c κs = book-fits _ _ (c .before .before .pre) .at-least
 
--- src/lib.rt:30:18
 columns-requires : tie.Need-columns-requires
 columns-requires c κs = book-fits _ _ (c .before .before .before .pre) .at-least
 
--- src/lib.rt:31:15
 book-body-requires : tie.Need-book-body-requires
 book-body-requires c κs = book-fits _ _ (c .before .before .before .before .pre) .whole
 
--- src/lib.rt:32:17
 sheet-body-requires : tie.Need-sheet-body-requires
 sheet-body-requires c κs = sheet-fits _ _ (c .before .before .before .before .before .pre) .whole
 
--- src/lib.rt:24:1
 returns : tie.Need-returns
 unfolding file-layout
 returns c = rw (c .before .before .before .boats .ensures, c .before .before .columns .ensures .0, c .before .book-body .ensures, c .sheet-body .ensures)

@@ -13,27 +13,21 @@ use Rattle.scoring.proofs.gap_of.Reads as gap-of-reads
 use Rattle.scoring.proofs.inner_at.Reads as inner-at-reads
 use Rattle.scoring.proofs.squared_norm.Reads as squared-norm-reads
 
--- src/lib.rt:118:9
 squared-norm-requires : tie.Need-squared-norm-requires
 squared-norm-requires c κs = search needs
 
--- src/lib.rt:119:9
 inner-at-requires : tie.Need-inner-at-requires
 inner-at-requires c κs = search needs
 
--- src/lib.rt:120:9
 gap-of-requires : tie.Need-gap-of-requires
 gap-of-requires c κs = gap-sized (c .before .before .before .pre) (c .before .squared-norm .ensures) (c .inner-at .ensures) (toZ-ofZ (sfits-of (c .inner-at .ok))) refl
 
--- src/lib.rt:121:33
 tolerance-requires : tie.Need-tolerance-requires
 tolerance-requires c κs = search needs
 
--- src/lib.rt:121:9
 judge-requires : tie.Need-judge-requires
 judge-requires c κs = judgeable (c .before .before .before .before .before .pre) (c .before .before .before .squared-norm .ensures) (c .before .before .inner-at .ensures) (toZ-ofZ (sfits-of (c .before .before .inner-at .ok))) refl (c .before .gap-of .ensures) (c .tolerance .ensures)
 
--- src/lib.rt:105:1
 returns : tie.Need-returns
 returns c = answer-is (c .before .before .before .before .before .before .pre) (c .before .before .before .before .squared-norm .ensures) (c .before .before .before .inner-at .ensures) (toZ-ofZ (sfits-of (c .before .before .before .inner-at .ok))) refl (c .before .before .gap-of .ensures) (c .before .tolerance .ensures) (c .before .before .before .before .before .before .args .steps) (c .judge .ensures)
 

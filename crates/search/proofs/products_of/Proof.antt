@@ -8,31 +8,24 @@ use Rattle.search.proofs.products_of.Lts as lts
 use Rattle.scoring.proofs.difference.Reads as difference-reads
 use Rattle.scoring.proofs.products.Reads as products-reads
 
--- src/lib.rt:57:27
 mul-row : tie.Need-mul-row
 mul-row c = cell-fits _ _ (c .before .before .pre .0) (c .before .before .pre .1 .0) (c .before .before .pre .1 .1) (search needs)
 
--- src/lib.rt:57:22
 mul-row-2 : tie.Need-mul-row-2
 mul-row-2 c = cells-fit _ _ (c .before .before .pre .0) (c .before .before .pre .1 .0) (c .before .before .pre .1 .1) (search needs)
 
--- src/lib.rt:57:15
 add-row : tie.Need-add-row
 add-row c = row-fits _ _ (c .before .before .pre .0) (c .before .before .pre .1 .0) (c .before .before .pre .1 .1) (search needs)
 
--- src/lib.rt:58:13
 difference-requires : tie.Need-difference-requires
 difference-requires c κs = difference-asks _ _ (c .before .before .pre .0) (c .before .before .pre .1 .0) (c .before .before .pre .1 .1)
 
--- src/lib.rt:59:23
 slice-aggregate-products : tie.Need-slice-aggregate-products
 slice-aggregate-products c = search needs
 
--- src/lib.rt:59:5
 products-requires : tie.Need-products-requires
 products-requires c κs = products-asks _ _ (c .before .before .before .before .pre .0) (c .before .before .before .before .pre .1 .0) (c .before .before .before .before .pre .1 .1) _ (c .before .difference .ensures) (search needs)
 
--- src/lib.rt:47:1
 returns : tie.Need-returns
 returns c = products-right _ _ (c .before .before .before .before .before .pre .0) (c .before .before .before .before .before .pre .1 .0) (c .before .before .before .before .before .pre .1 .1) (c .before .before .difference .result) (c .before .before .difference .ensures) (search needs) (c .products .ensures)
 

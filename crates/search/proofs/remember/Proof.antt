@@ -9,55 +9,42 @@ use Rattle.search.proofs.remember.Lts as lts
 use Rattle.search.proofs.products_of.Reads as products-of-reads
 use Rattle.search.proofs.store.Reads as store-reads
 
--- src/lib.rt:188:16
 add-tag : tie.Need-add-tag
 add-tag c = search needs
 
--- src/lib.rt:188:15
 cast-tag : tie.Need-cast-tag
 cast-tag c = tag-fits _ _ (c .before .before .before .pre .0) (c .before .before .before .pre .1 .1 .1) (c .before .before .before .pre .1 .1 .0)
 
--- src/lib.rt:189:8
 mul-if1 : tie.Need-mul-if1
 mul-if1 c = search needs
 
--- src/lib.rt:189:8
 slice-read-if1 : tie.Need-slice-read-if1
 slice-read-if1 c = search needs
 
--- src/lib.rt:190:13
 products-of-requires : tie.Need-products-of-requires
 products-of-requires c κs = search needs
 
--- src/lib.rt:191:42
 mul-store : tie.Need-mul-store
 mul-store c = slot-fits _ _ (c .before .before .before .before .before .before .before .before .pre .0) (c .before .before .before .before .before .before .before .before .pre .1 .1 .1) (c .before .before .before .before .before .before .before .before .pre .1 .1 .0) (c .before .before .before .before .before .before .before .before .pre .1 .0) (search needs)
 
--- src/lib.rt:191:9
 store-requires : tie.Need-store-requires
 store-requires c κs = store-asks _ _ (c .before .before .before .before .before .before .before .before .pre .0) (c .before .before .before .before .before .before .before .before .pre .1 .1 .1) (c .before .before .before .before .before .before .before .before .pre .1 .1 .0) (c .before .before .before .before .before .before .before .before .pre .1 .0)
 
--- src/lib.rt:192:9
 mul-tags : tie.Need-mul-tags
 mul-tags c = search needs
 
--- src/lib.rt:192:9
 slice-write-tags : tie.Need-slice-write-tags
 slice-write-tags c = search needs
 
--- src/lib.rt:179:1
 same-length : tie.Need-same-length
 same-length c = search needs
 
--- src/lib.rt:179:1
 same-length-2 : tie.Need-same-length-2
 same-length-2 c = search needs
 
--- src/lib.rt:179:1
 returns : tie.Need-returns
 returns c = learnt _ _ (c .before .before .before .before .before .before .before .before .before .before .pre .0) (c .before .before .before .before .before .before .before .before .before .before .pre .1 .1 .1) (c .before .before .before .before .before .before .before .before .before .before .pre .1 .1 .0) (c .before .before .before .before .before .before .before .before .before .before .pre .1 .0) (search needs) (c .before .before .before .before .products-of .ensures) (c .before .store .ensures)
 
--- src/lib.rt:179:1
 returns-2 : tie.Need-returns-2
 returns-2 c = kept _ _ (c .before .before .before .before .before .pre .0) (c .before .before .before .before .before .pre .1 .1 .1) (c .before .before .before .before .before .pre .1 .1 .0) (c .if1 .left)
 

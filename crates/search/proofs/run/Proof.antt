@@ -17,75 +17,57 @@ use Rattle.search.proofs.layout_of.Reads as layout-of-reads
 use Rattle.search.proofs.products_of.Reads as products-of-reads
 use Rattle.search.proofs.run_on.Reads as run-on-reads
 
--- src/lib.rt:228:9
 layout-of-requires : tie.Need-layout-of-requires
 layout-of-requires c κs = search needs
 
--- src/lib.rt:229:9
 fresh-requires : tie.Need-fresh-requires
 fresh-requires c κs = search needs
 
--- src/lib.rt:230:15
 products-of-requires : tie.Need-products-of-requires
 products-of-requires c κs = (c .before .before .before .before .pre, (c .before .layout-of .ensures, best-below _ _ (c .before .before .before .before .pre) (c .fresh .ensures)))
 
--- src/lib.rt:231:49
 slice-aggregate-next : tie.Need-slice-aggregate-next
 slice-aggregate-next c = search needs
 
--- src/lib.rt:231:9
 next-requires : tie.Need-next-requires
 next-requires c κs = (c .before .before .before .before .before .before .pre, (c .before .before .before .layout-of .ensures, ((going-start _ _ (c .before .before .before .before .before .before .pre) (c .before .before .fresh .ensures)) .held, (omega (arith, c .before .before .fresh .ensures .steps-are), c .before .products-of .ensures))))
 
--- src/lib.rt:232:9
 answer-requires : tie.Need-answer-requires
 answer-requires c κs = next-answerable _ _ (c .before .before .before .before .before .before .before .pre) (going-start _ _ (c .before .before .before .before .before .before .before .pre) (c .before .before .before .fresh .ensures)) (c .next .ensures) (c .before .before .before .before .layout-of .ensures) (search needs)
 
--- src/lib.rt:234:22
 steps-requires : tie.Need-steps-requires
 steps-requires c κs = sheet-fits _ _ (c .before .before .before .before .before .before .before .before .pre) .at-least
 
--- src/lib.rt:234:8
 stops-requires : tie.Need-stops-requires
 stops-requires c κs = search needs
 
--- src/lib.rt:236:9
 returns : tie.Need-returns
 returns c = going-done _ _ (c .before .before .before .before .before .before .before .before .before .before .before .before .pre) (going-start _ _ (c .before .before .before .before .before .before .before .before .before .before .before .before .pre) (c .before .before .before .before .before .before .before .before .fresh .ensures)) (c .before .before .before .before .before .next .ensures) (c .before .before .before .before .before .before .before .before .before .layout-of .ensures) (search (needs, c .before .before .before .before .before .next .ok)) (c .before .before .before .before .answer .ensures) (c .before .before .before .steps .ensures) (c .before .before .stops .ensures) (c .before .if1 .taken)
 
--- src/lib.rt:240:51
 slice-aggregate-run-on : tie.Need-slice-aggregate-run-on
 slice-aggregate-run-on c = search needs
 
--- src/lib.rt:240:9
 run-on-requires : tie.Need-run-on-requires
 run-on-requires c κs = (c .before .before .before .before .before .before .before .before .before .before .before .before .before .before .pre, (c .before .before .before .before .before .before .before .before .before .before .before .layout-of .ensures, (going-more _ _ (c .before .before .before .before .before .before .before .before .before .before .before .before .before .before .pre) (going-start _ _ (c .before .before .before .before .before .before .before .before .before .before .before .before .before .before .pre) (c .before .before .before .before .before .before .before .before .before .before .fresh .ensures)) (c .before .before .before .before .before .before .before .next .ensures) (c .before .before .before .before .before .before .before .before .before .before .before .layout-of .ensures) (search (needs, c .before .before .before .before .before .before .before .next .ok)) (c .before .before .before .before .before .before .answer .ensures) (c .before .before .before .before .before .steps .ensures) (c .before .before .before .before .stops .ensures) (c .before .before .before .if1 .left), room-for _ _ 16 (c .before .before .before .before .before .before .before .before .before .before .before .layout-of .ensures) (c .before .if2 .taken))))
 
--- src/lib.rt:240:9
 returns-2 : tie.Need-returns-2
 returns-2 c = search needs
 
--- src/lib.rt:244:51
 slice-aggregate-run-on-2 : tie.Need-slice-aggregate-run-on-2
 slice-aggregate-run-on-2 c = search needs
 
--- src/lib.rt:244:9
 run-on-requires-2 : tie.Need-run-on-requires-2
 run-on-requires-2 c κs = (c .before .before .before .before .before .before .before .before .before .before .before .before .before .before .before .before .pre, (c .before .before .before .before .before .before .before .before .before .before .before .before .before .layout-of .ensures, (going-more _ _ (c .before .before .before .before .before .before .before .before .before .before .before .before .before .before .before .before .pre) (going-start _ _ (c .before .before .before .before .before .before .before .before .before .before .before .before .before .before .before .before .pre) (c .before .before .before .before .before .before .before .before .before .before .before .before .fresh .ensures)) (c .before .before .before .before .before .before .before .before .before .next .ensures) (c .before .before .before .before .before .before .before .before .before .before .before .before .before .layout-of .ensures) (search (needs, c .before .before .before .before .before .before .before .before .before .next .ok)) (c .before .before .before .before .before .before .before .before .answer .ensures) (c .before .before .before .before .before .before .before .steps .ensures) (c .before .before .before .before .before .before .stops .ensures) (c .before .before .before .before .before .if1 .left), room-for _ _ 64 (c .before .before .before .before .before .before .before .before .before .before .before .before .before .layout-of .ensures) (c .before .if3 .taken))))
 
--- src/lib.rt:244:9
 returns-3 : tie.Need-returns-3
 returns-3 c = search needs
 
--- src/lib.rt:247:40
 slice-aggregate-run-on-3 : tie.Need-slice-aggregate-run-on-3
 slice-aggregate-run-on-3 c = search needs
 
--- src/lib.rt:247:5
 run-on-requires-3 : tie.Need-run-on-requires-3
 run-on-requires-3 c κs = (c .before .before .before .before .before .before .before .before .before .before .before .before .before .before .before .before .pre, (c .before .before .before .before .before .before .before .before .before .before .before .before .before .layout-of .ensures, (going-more _ _ (c .before .before .before .before .before .before .before .before .before .before .before .before .before .before .before .before .pre) (going-start _ _ (c .before .before .before .before .before .before .before .before .before .before .before .before .before .before .before .before .pre) (c .before .before .before .before .before .before .before .before .before .before .before .before .fresh .ensures)) (c .before .before .before .before .before .before .before .before .before .next .ensures) (c .before .before .before .before .before .before .before .before .before .before .before .before .before .layout-of .ensures) (search (needs, c .before .before .before .before .before .before .before .before .before .next .ok)) (c .before .before .before .before .before .before .before .before .answer .ensures) (c .before .before .before .before .before .before .before .steps .ensures) (c .before .before .before .before .before .before .stops .ensures) (c .before .before .before .before .before .if1 .left), room-always _ _ (c .before .before .before .before .before .before .before .before .before .before .before .before .before .before .before .before .pre))))
 
--- src/lib.rt:224:1
 returns-4 : tie.Need-returns-4
 returns-4 c = search needs
 

@@ -24,67 +24,51 @@ Inv-loop book sheet layout memory₀ steps boats tags₀ state₀ memory tags st
 abbrev μ-loop : tie.MeasureT-loop
 μ-loop book sheet layout memory₀ steps boats tags₀ state₀ memory tags state = steps - state .steps
 
--- src/lib.rt:204:9
 steps-requires : tie.Need-steps-requires Inv-loop μ-loop
 steps-requires c κs = sheet-fits _ _ (c .before .before .pre .0) .at-least
 
--- src/lib.rt:208:5
 loop-holds : tie.Need-loop-holds Inv-loop μ-loop
 loop-holds c = (c .before .before .before .pre .1 .1 .0, (remembers-nothing _ _ (c .before .before .before .pre .1 .1 .1), refl))
 
--- src/lib.rt:210:45
 slice-aggregate-remember : tie.Need-slice-aggregate-remember Inv-loop μ-loop
 slice-aggregate-remember c = sym (c .before .loop .inv .1 .0 .slots)
 
--- src/lib.rt:210:9
 remember-requires : tie.Need-remember-requires Inv-loop μ-loop
 remember-requires c κs = (c .before .before .before .before .before .before .pre .0, (c .before .before .before .before .before .before .pre .1 .0, (best-below _ _ (c .before .before .before .before .before .before .pre .0) (c .before .before .loop .inv .0 .held), c .before .before .loop .inv .1 .0)))
 
--- src/lib.rt:211:18
 mul-at : tie.Need-mul-at Inv-loop μ-loop
 mul-at c = slot-fits _ _ (c .before .before .before .before .before .before .before .before .before .pre .0) (c .before .before .before .before .before .loop .inv .1 .0) (best-below _ _ (c .before .before .before .before .before .before .before .before .before .pre .0) (c .before .before .before .before .before .loop .inv .0 .held)) (c .before .before .before .before .before .before .before .before .before .pre .1 .0) (search needs)
 
--- src/lib.rt:212:49
 mul-next : tie.Need-mul-next Inv-loop μ-loop
 mul-next c = slot-bytes-fit _ _ (c .before .before .before .before .before .before .before .before .before .pre .0) (c .before .before .remember .ensures .0) (best-below _ _ (c .before .before .before .before .before .before .before .before .before .pre .0) (c .before .before .before .before .before .loop .inv .0 .held)) (c .before .before .before .before .before .before .before .before .before .pre .1 .0)
 
--- src/lib.rt:212:49
 sub-next : tie.Need-sub-next Inv-loop μ-loop
 sub-next c = slot-starts _ _ (c .before .before .before .before .before .before .before .before .before .pre .0) (c .before .before .remember .ensures .0) (best-below _ _ (c .before .before .before .before .before .before .before .before .before .pre .0) (c .before .before .before .before .before .loop .inv .0 .held)) (c .before .before .before .before .before .before .before .before .before .pre .1 .0)
 
--- src/lib.rt:212:49
 part-next-start : tie.Need-part-next-start Inv-loop μ-loop
 part-next-start c = slot-starts _ _ (c .before .before .before .before .before .before .before .before .before .before .pre .0) (c .before .before .before .remember .ensures .0) (best-below _ _ (c .before .before .before .before .before .before .before .before .before .before .pre .0) (c .before .before .before .before .before .before .loop .inv .0 .held)) (c .before .before .before .before .before .before .before .before .before .before .pre .1 .0)
 
--- src/lib.rt:212:49
 part-next-end : tie.Need-part-next-end Inv-loop μ-loop
 part-next-end c = search needs
 
--- src/lib.rt:212:9
 next-requires : tie.Need-next-requires Inv-loop μ-loop
 next-requires c κs = (c .before .before .before .before .before .before .before .before .before .before .before .pre .0, (c .before .before .before .before .before .before .before .before .before .before .before .pre .1 .0, (c .before .before .before .before .before .before .before .loop .inv .0 .held, (omega (arith, c .before .before .before .before .before .before .before .loop .inv .0 .left, sheet-fits _ _ (c .before .before .before .before .before .before .before .before .before .before .before .pre .0) .most-steps), slot-part _ _ (c .before .before .before .before .before .before .before .before .before .before .before .pre .0) (c .before .before .before .before .remember .ensures .0) (best-below _ _ (c .before .before .before .before .before .before .before .before .before .before .before .pre .0) (c .before .before .before .before .before .before .before .loop .inv .0 .held)) (c .before .before .before .before .before .before .before .before .before .before .before .pre .1 .0) (c .before .before .before .before .remember .ensures .1)))))
 
--- src/lib.rt:213:13
 answer-requires : tie.Need-answer-requires Inv-loop μ-loop
 answer-requires c κs = next-answerable _ _ (c .before .before .before .before .before .before .before .before .before .before .before .before .pre .0) (c .before .before .before .before .before .before .before .before .loop .inv .0) (c .next .ensures) (c .before .before .before .before .before .before .before .before .before .before .before .before .pre .1 .0) (search needs)
 
--- src/lib.rt:215:12
 stops-requires : tie.Need-stops-requires Inv-loop μ-loop
 stops-requires c κs = search needs
 
--- src/lib.rt:217:13
 same-length : tie.Need-same-length Inv-loop μ-loop
 same-length c = search (needs, c .before .before .before .before .before .before .before .before .before .remember .ok, c .before .before .before .before .before .before .before .before .before .before .before .before .loop .inv .1 .1)
 
--- src/lib.rt:217:13
 returns : tie.Need-returns Inv-loop μ-loop
 returns c = going-done _ _ (c .before .before .before .before .before .before .before .before .before .before .before .before .before .before .before .before .pre .0) (c .before .before .before .before .before .before .before .before .before .before .before .before .loop .inv .0) (c .before .before .before .before .next .ensures) (c .before .before .before .before .before .before .before .before .before .before .before .before .before .before .before .before .pre .1 .0) (search (needs, c .before .before .before .before .next .ok)) (c .before .before .before .answer .ensures) (c .before .before .before .before .before .before .before .before .before .before .before .before .before .steps .ensures) (c .before .before .stops .ensures) (c .before .if1 .taken)
 
--- src/lib.rt:208:5
 loop-less : tie.Need-loop-less Inv-loop μ-loop
 loop-less c = omega (arith, c .before .before .before .next .ensures .steps-are, c .before .before .before .before .before .before .before .before .before .before .before .loop .inv .0 .left, c .before .before .before .before .before .before .before .before .before .before .before .before .steps .ensures)
 
--- src/lib.rt:208:5
 loop-again : tie.Need-loop-again Inv-loop μ-loop
 loop-again c = (going-more _ _ (c .before .before .before .before .before .before .before .before .before .before .before .before .before .before .before .pre .0) (c .before .before .before .before .before .before .before .before .before .before .before .loop .inv .0) (c .before .before .before .next .ensures) (c .before .before .before .before .before .before .before .before .before .before .before .before .before .before .before .pre .1 .0) (search (needs, c .before .before .before .next .ok)) (c .before .before .answer .ensures) (c .before .before .before .before .before .before .before .before .before .before .before .before .steps .ensures) (c .before .stops .ensures) (c .if1 .left), (c .before .before .before .before .before .before .before .before .remember .ensures .0, search (needs, c .before .before .before .before .before .before .before .before .remember .ok, c .before .before .before .before .before .before .before .before .before .before .before .loop .inv .1 .1)))
 

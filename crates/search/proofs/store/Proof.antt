@@ -17,49 +17,38 @@ Inv-loop count memory₀ at row i₀ memory i = Stored memory₀ row count at i 
 abbrev μ-loop : tie.MeasureT-loop
 μ-loop count memory₀ at row i₀ memory i = count - i
 
--- src/lib.rt:172:5
 loop-holds : tie.Need-loop-holds Inv-loop μ-loop
 loop-holds c = stored-start
 
--- src/lib.rt:173:26
 mul-memory : tie.Need-mul-memory Inv-loop μ-loop
 mul-memory c = search needs
 
--- src/lib.rt:173:26
 array-copy-out-memory : tie.Need-array-copy-out-memory Inv-loop μ-loop
 array-copy-out-memory c = search needs
 
--- src/lib.rt:173:16
 add-t12 : tie.Need-add-t12 Inv-loop μ-loop
 add-t12 c = search needs
 
--- src/lib.rt:173:9
 mul-t13 : tie.Need-mul-t13 Inv-loop μ-loop
 mul-t13 c = search needs
 
--- src/lib.rt:173:9
 slice-set-from-memory : tie.Need-slice-set-from-memory Inv-loop μ-loop
 slice-set-from-memory c = search needs
 
--- src/lib.rt:174:9
 add-i : tie.Need-add-i Inv-loop μ-loop
 add-i c = search needs
 
--- src/lib.rt:172:5
 loop-less : tie.Need-loop-less Inv-loop μ-loop
 loop-less c = search needs
 
--- src/lib.rt:172:5
 loop-again : tie.Need-loop-again Inv-loop μ-loop
 loop-again c =
     let l : length (c .before .before .before .args .t1) ≡ 256 = search needs in
     stored-more (c .before .before .loop .inv) (omega arith) (omega arith) (c .before .loop-test .taken) (toZ-ofZ (search needs))
 
--- src/lib.rt:167:1
 same-length : tie.Need-same-length Inv-loop μ-loop
 same-length c = search needs
 
--- src/lib.rt:167:1
 returns : tie.Need-returns Inv-loop μ-loop
 returns c = stored-end (c .before .loop .inv) (c .loop-test .left)
 

@@ -16,39 +16,30 @@ Inv-loop book sheet len filed₀ n i₀ filed i = (i ≤ n) × (length filed ≡
 abbrev μ-loop : tie.MeasureT-loop
 μ-loop book sheet len filed₀ n i₀ filed i = n - i
 
--- src/marked.rt:159:34
 slice-aggregate-written : tie.Need-slice-aggregate-written Inv-loop μ-loop
 slice-aggregate-written c = search needs
 
--- src/marked.rt:159:9
 written-requires : tie.Need-written-requires Inv-loop μ-loop
 written-requires c κs = search needs
 
--- src/marked.rt:161:5
 loop-holds : tie.Need-loop-holds Inv-loop μ-loop
 loop-holds c = search needs
 
--- src/marked.rt:162:31
 slice-aggregate-flip-one : tie.Need-slice-aggregate-flip-one Inv-loop μ-loop
 slice-aggregate-flip-one c = search needs
 
--- src/marked.rt:162:9
 flip-one-requires : tie.Need-flip-one-requires Inv-loop μ-loop
 flip-one-requires c κs = search needs
 
--- src/marked.rt:163:9
 add-i : tie.Need-add-i Inv-loop μ-loop
 add-i c = search needs
 
--- src/marked.rt:161:5
 loop-less : tie.Need-loop-less Inv-loop μ-loop
 loop-less c = search needs
 
--- src/marked.rt:161:5
 loop-again : tie.Need-loop-again Inv-loop μ-loop
 loop-again c = search needs
 
--- src/marked.rt:157:1
 returns : tie.Need-returns Inv-loop μ-loop
 returns c = search needs
 

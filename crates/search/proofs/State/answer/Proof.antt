@@ -9,27 +9,21 @@ use Rattle.search.proofs.State.answer.Lts as lts
 use Rattle.search.proofs.measured.Reads as measured-reads
 use Rattle.search.proofs.totals.total_after.Reads as total-after-reads
 
--- src/lib.rt:143:21
 total-after-requires : tie.Need-total-after-requires
 total-after-requires c κs = search needs
 
--- src/lib.rt:143:45
 slice-aggregate-measured : tie.Need-slice-aggregate-measured
 slice-aggregate-measured c = search needs
 
--- src/lib.rt:143:49
 mul-measured : tie.Need-mul-measured
 mul-measured c = search needs
 
--- src/lib.rt:143:49
 array-copy-out-measured : tie.Need-array-copy-out-measured
 array-copy-out-measured c = search needs
 
--- src/lib.rt:143:9
 measured-requires : tie.Need-measured-requires
 measured-requires c κs = rw (c .before .before .total-after .ensures, least-kept (c .before .before .before .before .before .before .pre .numbers)) (c .before .before .before .before .before .before .pre .numbers)
 
--- src/lib.rt:135:5
 returns : tie.Need-returns
 returns c = c .measured .ensures ∙ rw (c .before .before .before .total-after .ensures, least-kept (c .before .before .before .before .before .before .before .pre .numbers))
 

@@ -9,19 +9,15 @@ use Rattle.search.proofs.State.fresh.Lts as lts
 use Rattle.scoring.proofs.least_of.Reads as least-of-reads
 use Rattle.search.proofs.products_of.Reads as products-of-reads
 
--- src/lib.rt:82:19
 products-of-requires : tie.Need-products-of-requires
 products-of-requires c κs = (c .before .before .pre .0, (c .before .before .pre .1, book-fits _ _ (c .before .before .pre .0) .some-boats))
 
--- src/lib.rt:83:55
 slice-aggregate-least-of : tie.Need-slice-aggregate-least-of
 slice-aggregate-least-of c = search needs
 
--- src/lib.rt:83:13
 least-of-requires : tie.Need-least-of-requires
 least-of-requires c κs = fresh-asks _ _ (c .before .before .before .before .pre .0) (c .before .before .before .before .pre .1) (c .before .products-of .ensures)
 
--- src/lib.rt:76:5
 returns : tie.Need-returns
 returns c = fresh-result _ _ (c .before .before .before .before .before .pre .0) (c .before .before .before .before .before .pre .1) (c .before .before .products-of .ensures) (c .least-of .ensures)
 

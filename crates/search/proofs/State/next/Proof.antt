@@ -10,51 +10,39 @@ use Rattle.search.proofs.State.next.Lts as lts
 use Rattle.scoring.proofs.moved.Reads as moved-reads
 use Rattle.scoring.proofs.rescored.Reads as rescored-reads
 
--- src/lib.rt:107:17
 add-k : tie.Need-add-k
 add-k c = search needs
 
--- src/lib.rt:109:25
 cast-shares : tie.Need-cast-shares
 cast-shares c = search needs
 
--- src/lib.rt:109:9
 mul-shares : tie.Need-mul-shares
 mul-shares c = omega (arith, best-slot _ _ (c .before .before .before .before .pre .0) (c .before .before .before .before .pre .1 .0) (c .before .before .before .before .pre .1 .1 .0) (c .before .before .before .before .pre .1 .1 .1 .0))
 
--- src/lib.rt:109:9
 array-read-shares : tie.Need-array-read-shares
 array-read-shares c = best-slot _ _ (c .before .before .before .before .pre .0) (c .before .before .before .before .pre .1 .0) (c .before .before .before .before .pre .1 .1 .0) (c .before .before .before .before .pre .1 .1 .1 .0)
 
--- src/lib.rt:109:9
 add-shares : tie.Need-add-shares
 add-shares c = share-fits _ _ (c .before .before .before .before .pre .0) (c .before .before .before .before .pre .1 .0) (c .before .before .before .before .pre .1 .1 .0) (c .before .before .before .before .pre .1 .1 .1 .0)
 
--- src/lib.rt:109:9
 array-write-shares : tie.Need-array-write-shares
 array-write-shares c = best-slot _ _ (c .before .before .before .before .pre .0) (c .before .before .before .before .pre .1 .0) (c .before .before .before .before .pre .1 .1 .0) (c .before .before .before .before .pre .1 .1 .1 .0)
 
--- src/lib.rt:112:30
 mul-at : tie.Need-mul-at
 mul-at c = cell-fits _ _ (c .before .before .before .before .before .before .pre .0) (c .before .before .before .before .before .before .pre .1 .0) (best-below _ _ (c .before .before .before .before .before .before .pre .0) (c .before .before .before .before .before .before .pre .1 .1 .0)) (search needs)
 
--- src/lib.rt:112:25
 mul-at-2 : tie.Need-mul-at-2
 mul-at-2 c = cells-fit _ _ (c .before .before .before .before .before .before .pre .0) (c .before .before .before .before .before .before .pre .1 .0) (best-below _ _ (c .before .before .before .before .before .before .pre .0) (c .before .before .before .before .before .before .pre .1 .1 .0)) (search needs)
 
--- src/lib.rt:112:18
 add-at : tie.Need-add-at
 add-at c = row-fits _ _ (c .before .before .before .before .before .before .pre .0) (c .before .before .before .before .before .before .pre .1 .0) (best-below _ _ (c .before .before .before .before .before .before .pre .0) (c .before .before .before .before .before .before .pre .1 .1 .0)) (search needs)
 
--- src/lib.rt:113:13
 moved-requires : tie.Need-moved-requires
 moved-requires c κs = next-moved _ _ (c .before .before .before .before .before .before .pre .0) (c .before .before .before .before .before .before .pre .1 .0) (c .before .before .before .before .before .before .pre .1 .1 .0) (c .before .before .before .before .before .before .pre .1 .1 .1 .0)
 
--- src/lib.rt:114:13
 rescored-requires : tie.Need-rescored-requires
 rescored-requires c κs = next-rescorable _ _ (c .before .before .before .before .before .before .before .pre .0) (c .before .before .before .before .before .before .before .pre .1 .0) (c .before .before .before .before .before .before .before .pre .1 .1 .0) (c .before .before .before .before .before .before .before .pre .1 .1 .1 .0) (c .before .before .before .before .before .before .before .pre .1 .1 .1 .1) (search needs)
 
--- src/lib.rt:94:5
 returns : tie.Need-returns
 returns c = next-result _ _ (c .before .before .before .before .before .before .before .before .before .pre .0) (c .before .before .before .before .before .before .before .before .before .pre .1 .0) (c .before .before .before .before .before .before .before .before .before .pre .1 .1 .0) (c .before .before .before .before .before .before .before .before .before .pre .1 .1 .1 .0) (c .before .before .before .before .before .before .before .before .before .pre .1 .1 .1 .1) (search needs) (c .before .before .moved .result) (c .before .before .moved .ensures) (c .before .rescored .result) (c .before .rescored .ensures)
 

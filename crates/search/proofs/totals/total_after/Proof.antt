@@ -8,15 +8,12 @@ use Rattle.search.proofs.totals.total_after.Tie as tie
 use Rattle.search.proofs.totals.total_after.Reads as reads
 use Rattle.search.proofs.totals.total_after.Lts as lts
 
--- src/totals.rt:375:5
 mul-result : tie.Need-mul-result
 mul-result c = search needs
 
--- src/totals.rt:375:5
 array-read-result : tie.Need-array-read-result
 array-read-result c = search needs
 
--- src/totals.rt:371:1
 returns : tie.Need-returns
 unfolding weight
 returns c = entry weight 361 (c .args .t) (omega arith)
