@@ -1,70 +1,6 @@
 // The nine marked sheets that have a card.
+use buffers::between;
 use card::Written;
-use method::Searched;
-use samples::between;
-
-// ---- Files
-
-// The trailer of a fleet book after a body of `at` bytes.
-fn book_end(buffer: &mut [u8], at: usize, boats: u64, columns: u64) -> usize {
-    let p = samples::put_u32(buffer, at, at as u64);
-    let q = samples::put_u16(buffer, p, boats);
-    let r = samples::put_u16(buffer, q, columns);
-    samples::put_u32(buffer, r, 827015767)
-}
-
-// The trailer of a sheet after a body of `at` bytes.
-fn sheet_end(buffer: &mut [u8], at: usize, columns: u64, steps: u64, tolerance: u64) -> usize {
-    let p = samples::put_u32(buffer, at, at as u64);
-    let q = samples::put_u16(buffer, p, columns);
-    let r = samples::put_u16(buffer, q, steps);
-    let s = samples::put_u32(buffer, r, tolerance);
-    samples::put_u32(buffer, s, 826823511)
-}
-
-// Two values.
-fn two(buffer: &mut [u8], at: usize, x: u64, y: u64) -> usize {
-    let p = samples::put_u16(buffer, at, x);
-    samples::put_u16(buffer, p, y)
-}
-
-// Fleet P: (0,0), (4,0), (0,4).
-pub fn fleet_p(buffer: &mut [u8]) -> usize {
-    let p = two(buffer, 0, 0, 0);
-    let q = two(buffer, p, 4, 0);
-    let r = two(buffer, q, 0, 4);
-    book_end(buffer, r, 3, 2)
-}
-
-// (0,0), once or twice.
-fn fleet_zero(buffer: &mut [u8], boats: u64) -> usize {
-    let p = two(buffer, 0, 0, 0);
-    if boats == 2 {
-        let q = two(buffer, p, 0, 0);
-        return book_end(buffer, q, 2, 2);
-    }
-    book_end(buffer, p, 1, 2)
-}
-
-// (-2000), (2000).
-fn fleet_line(buffer: &mut [u8]) -> usize {
-    let p = two(buffer, 0, 63536, 2000);
-    book_end(buffer, p, 2, 1)
-}
-
-// A sheet of two columns.
-pub fn sheet_two(buffer: &mut [u8], x: u64, y: u64, steps: u64, tolerance: u64) -> usize {
-    let p = two(buffer, 0, x, y);
-    sheet_end(buffer, p, 2, steps, tolerance)
-}
-
-// A sheet of one column.
-fn sheet_one(buffer: &mut [u8], x: u64, steps: u64, tolerance: u64) -> usize {
-    let p = samples::put_u16(buffer, 0, x);
-    sheet_end(buffer, p, 1, steps, tolerance)
-}
-
-// ---- Outcomes
 
 // What the writer gives back; its length.
 fn print_written(written: Written) -> usize {
@@ -95,89 +31,21 @@ fn roomed(book: &[u8], sheet: &[u8], room: usize) {
     let mut buffer = [9u8; 80];
     printing::line(b"room", room as u64);
     let _len = written(book, sheet, &mut buffer, room);
-    printing::line(b"sum", samples::checksum(&buffer));
+    printing::line(b"sum", buffers::checksum(&buffer));
 }
 
 // Checks a card with a list of 4 slots that hold 7, and prints the list.
 pub fn checked(book: &[u8], sheet: &[u8], filed: &[u8]) {
     let mut slots = [7u16; 4];
-    let found = card::check_card(book, sheet, filed, &mut slots);
-    printing::outcome(found);
-    printing::word(b"slots");
+    printing::outcome(card::check_card(book, sheet, filed, &mut slots));
     printing::slots(&slots, 4);
-    printing::word(b"\n");
-}
-
-// The number that refuses a card, 0 where it is accepted.
-fn refusal(found: Searched) -> u64 {
-    match found {
-        Searched::Refused(n) => n as u64,
-        Searched::Answered(_) => 0,
-    }
-}
-
-// ---- A card damaged
-
-// Checks a card with one byte changed, and puts the byte back.
-fn flip(book: &[u8], sheet: &[u8], filed: &mut [u8], at: usize, mask: u8) {
-    if at < filed.len() {
-        let x = filed[at];
-        filed[at] = x ^ mask;
-        let mut slots = [7u16; 4];
-        printing::number(refusal(card::check_card(book, sheet, filed, &mut slots)));
-        filed[at] = x;
-    }
-}
-
-// The low 4 bits of one byte.
-fn flip_low(book: &[u8], sheet: &[u8], filed: &mut [u8], at: usize) {
-    flip(book, sheet, filed, at, 1);
-    flip(book, sheet, filed, at, 2);
-    flip(book, sheet, filed, at, 4);
-    flip(book, sheet, filed, at, 8);
-}
-
-// The high 4 bits of one byte.
-fn flip_high(book: &[u8], sheet: &[u8], filed: &mut [u8], at: usize) {
-    flip(book, sheet, filed, at, 16);
-    flip(book, sheet, filed, at, 32);
-    flip(book, sheet, filed, at, 64);
-    flip(book, sheet, filed, at, 128);
-}
-
-// The 8 bits of one byte, a line.
-fn flip_byte(book: &[u8], sheet: &[u8], filed: &mut [u8], at: usize) {
-    printing::word(b"flip");
-    flip_low(book, sheet, filed, at);
-    flip_high(book, sheet, filed, at);
-    printing::word(b"\n");
-}
-
-// Every byte of the card of two files.
-fn flips(book: &[u8], sheet: &[u8], len: usize) {
-    let mut filed = [0u8; 80];
-    let n = written(book, sheet, &mut filed, len);
-    let mut i = 0;
-    while i < n {
-        flip_one(book, sheet, &mut filed, len, i);
-        i += 1;
-    }
-}
-
-// One byte of a card of `len` bytes.
-fn flip_one(book: &[u8], sheet: &[u8], filed: &mut [u8], len: usize, at: usize) {
-    if filed.len() < len {
-        return;
-    }
-    let start = 0;
-    flip_byte(book, sheet, &mut filed[start..len], at);
 }
 
 // The card behind front text of 9s, in a file of `size` bytes.
 fn front(book: &[u8], sheet: &[u8], filed: &[u8], len: usize, size: usize) {
     let mut file = [9u8; 40001];
     printing::line(b"front up to", size as u64);
-    samples::put_part(&mut file, samples::less(size, len), filed, 0, len);
+    buffers::put_part(&mut file, buffers::less(size, len), filed, 0, len);
     checked(book, sheet, between(&file, 0, size));
 }
 
@@ -190,82 +58,76 @@ fn fronts(book: &[u8], sheet: &[u8], filed: &[u8], len: usize) {
 
 // In buffers of every fit.
 fn rooms(book: &[u8], sheet: &[u8], len: usize) {
-    roomed(book, sheet, samples::less(len, 1));
+    roomed(book, sheet, buffers::less(len, 1));
     roomed(book, sheet, len);
     roomed(book, sheet, 60);
     roomed(book, sheet, 0);
 }
 
 // One marked sheet.
-fn marked(name: &[u8], book: &[u8], sheet: &[u8]) {
-    printing::word(name);
-    printing::word(b"\n");
+fn marked(book: &[u8], sheet: &[u8]) {
     let mut filed = [9u8; 80];
     let len = written(book, sheet, &mut filed, 80);
-    printing::line(b"sum", samples::checksum(&filed));
+    printing::line(b"sum", buffers::checksum(&filed));
     checked(book, sheet, between(&filed, 0, len));
     rooms(book, sheet, len);
     fronts(book, sheet, &filed, len);
-    flips(book, sheet, len);
+    let again = written(book, sheet, &mut filed, len);
+    crate::flips::flips(book, sheet, &mut filed, again);
 }
 
-// Fleet P, with a target, steps and a tolerance.
-fn marked_p(name: &[u8], x: u64, y: u64, steps: u64, tolerance: u64) {
+// The marked sheet of a line.
+fn sheet(line: &[u8]) {
     let mut book = [0u8; 40];
     let mut sheet = [0u8; 40];
-    let n = fleet_p(&mut book);
-    let m = sheet_two(&mut sheet, x, y, steps, tolerance);
-    marked(name, between(&book, 0, n), between(&sheet, 0, m));
+    let n = crate::inputs::put_fleet(&mut book, line);
+    let m = crate::inputs::put_sheet(&mut sheet, line);
+    printing::title(tables::name(line));
+    marked(between(&book, 0, n), between(&sheet, 0, m));
 }
 
-fn marked_zero(name: &[u8], boats: u64, x: u64, y: u64, steps: u64, tolerance: u64) {
-    let mut book = [0u8; 40];
-    let mut sheet = [0u8; 40];
-    let n = fleet_zero(&mut book, boats);
-    let m = sheet_two(&mut sheet, x, y, steps, tolerance);
-    marked(name, between(&book, 0, n), between(&sheet, 0, m));
+// The marked sheet of each line.
+fn each_sheet(table: &[u8]) {
+    let mut at = 0;
+    while at < table.len() {
+        sheet(tables::line(table, at));
+        at = tables::next_line(table, at);
+    }
 }
 
-fn marked_line(name: &[u8], x: u64, steps: u64) {
-    let mut book = [0u8; 40];
-    let mut sheet = [0u8; 40];
-    let n = fleet_line(&mut book);
-    let m = sheet_one(&mut sheet, x, steps, 0);
-    marked(name, between(&book, 0, n), between(&sheet, 0, m));
+pub fn sheets() {
+    each_sheet(
+        b"a:
+b: M3
+c: M2
+d: X5 Y5
+e: F1 X3 Y4 M1 D25
+f: F1 X3 Y4 M1 D24
+g: F2 X0 Y0 M1 D0
+h: F3 H1 X2000 M1 D0
+i: F3 H1 X0 M2 D0
+",
+    );
 }
 
 // Fleet P with a sheet of no steps.
-fn refused_sheet() {
+pub fn refused_sheet() {
     let mut book = [0u8; 40];
     let mut sheet = [0u8; 40];
-    let n = fleet_p(&mut book);
-    let m = sheet_two(&mut sheet, 1, 1, 0, 1);
+    let n = crate::inputs::put_fleet(&mut book, b"");
+    let m = crate::inputs::put_sheet(&mut sheet, b"M0");
     roomed(between(&book, 0, n), between(&sheet, 0, m), 80);
     checked(between(&book, 0, n), between(&sheet, 0, m), b"");
 }
 
 // An empty card with a list of two slots, and of four.
-fn short_list() {
+pub fn short_list() {
     let mut book = [0u8; 40];
     let mut sheet = [0u8; 40];
     let mut slots = [7u16; 2];
-    let n = fleet_p(&mut book);
-    let m = sheet_two(&mut sheet, 1, 1, 9, 1);
+    let n = crate::inputs::put_fleet(&mut book, b"");
+    let m = crate::inputs::put_sheet(&mut sheet, b"");
     let found = card::check_card(between(&book, 0, n), between(&sheet, 0, m), b"", &mut slots);
     printing::outcome(found);
     checked(between(&book, 0, n), between(&sheet, 0, m), b"");
-}
-
-pub fn all() {
-    refused_sheet();
-    short_list();
-    marked_p(b"a", 1, 1, 9, 1);
-    marked_p(b"b", 1, 1, 3, 1);
-    marked_p(b"c", 1, 1, 2, 1);
-    marked_p(b"d", 5, 5, 9, 1);
-    marked_zero(b"e", 1, 3, 4, 1, 25);
-    marked_zero(b"f", 1, 3, 4, 1, 24);
-    marked_zero(b"g", 2, 0, 0, 1, 0);
-    marked_line(b"h", 2000, 1);
-    marked_line(b"i", 0, 2);
 }

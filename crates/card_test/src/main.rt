@@ -26,9 +26,7 @@ fn checked(book: &[u8], sheet: &[u8], filed: &[u8]) {
     let mut slots = [7u16; 10];
     let found = card::check_card(book, sheet, filed, &mut slots);
     printing::outcome(found);
-    printing::word(b"slots");
     printing::slots(&slots, 10);
-    printing::word(b"\n");
 }
 
 // Writes the card of two files to a buffer of `room` bytes, and gives back its length.
@@ -46,10 +44,10 @@ fn written(book: &[u8], sheet: &[u8], buffer: &mut [u8], room: usize) -> usize {
 fn run(book: &[u8], sheet: &[u8], room: usize, seed: &mut u64) {
     let mut buffer = [9u8; 80];
     let len = written(book, sheet, &mut buffer, room);
-    printing::line(b"sum", samples::checksum(&buffer));
-    checked(book, sheet, samples::between(&buffer, 0, len));
+    printing::line(b"sum", buffers::checksum(&buffer));
+    checked(book, sheet, buffers::between(&buffer, 0, len));
     let part = samples::damage(&mut buffer, len, seed);
-    checked(book, sheet, samples::between(&buffer, part.start, part.end));
+    checked(book, sheet, buffers::between(&buffer, part.start, part.end));
 }
 
 // One drawn case. One buffer in six may be too short.
@@ -66,8 +64,8 @@ fn one(seed: &mut u64, number: u64) {
     let short = samples::draw(seed, 6);
     let room = if short == 0 { 44 } else { 80 };
     run(
-        samples::between(&book, 0, end),
-        samples::between(&sheet, 0, m),
+        buffers::between(&book, 0, end),
+        buffers::between(&sheet, 0, m),
         room,
         seed,
     );

@@ -5,8 +5,8 @@ use samples::Part;
 // Lists the files in parts of two buffers.
 fn run(book: &[u8], a: Part, sheet: &[u8], b: Part) {
     file_io::print(listing::search_listing(
-        samples::between(book, a.start, a.end),
-        samples::between(sheet, b.start, b.end),
+        buffers::between(book, a.start, a.end),
+        buffers::between(sheet, b.start, b.end),
     ));
 }
 

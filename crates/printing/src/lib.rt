@@ -20,8 +20,14 @@ fn slot(x: u16) {
     number(x as u64);
 }
 
+// A line of a name.
+pub fn title(name: &[u8]) {
+    word(name);
+    word(b"\n");
+}
+
 // The first `count` slots of a share list.
-pub fn slots(list: &[u16], count: usize) {
+fn first_slots(list: &[u16], count: usize) {
     let mut i = 0;
     while i < count {
         if i < list.len() {
@@ -29,6 +35,13 @@ pub fn slots(list: &[u16], count: usize) {
         }
         i += 1;
     }
+}
+
+// A line of the first `count` slots of a share list.
+pub fn slots(list: &[u16], count: usize) {
+    word(b"slots");
+    first_slots(list, count);
+    word(b"\n");
 }
 
 // A line of a word and a number.

@@ -6,7 +6,7 @@ use samples::Plan;
 
 // The quotient x / (w * w) - 1, x / (w * w) or x / (w * w) + 1, in the range of a tolerance.
 fn beside(x: u64, w: u64, kind: u64) -> u64 {
-    let square = samples::times(w, w);
+    let square = buffers::times(w, w);
     if square == 0 {
         return 0;
     }
@@ -64,12 +64,12 @@ fn report(book: &[u8], sheet: &[u8]) {
 // Searches and lists the files in two buffers up to `n` and up to `m`, with a drawn tolerance.
 fn run(book: &[u8], n: usize, sheet: &mut [u8], m: usize, seed: &mut u64) {
     let tolerance = tolerance_for(
-        samples::between(book, 0, n),
-        samples::between(sheet, 0, m),
+        buffers::between(book, 0, n),
+        buffers::between(sheet, 0, m),
         seed,
     );
-    samples::put_u32(sheet, samples::less(m, 8), tolerance);
-    report(samples::between(book, 0, n), samples::between(sheet, 0, m));
+    buffers::put_number(sheet, buffers::less(m, 8), tolerance, 4);
+    report(buffers::between(book, 0, n), buffers::between(sheet, 0, m));
 }
 
 // One drawn case.

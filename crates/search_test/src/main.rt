@@ -1,6 +1,6 @@
 // The marked sheets and the limits of the files, through the search itself: the answer or the refusal, and the share list.
 // The files of data/ are made by tests/make_data.py, the expected output by tests/expected/search_test.py.
-use samples::between;
+use buffers::between;
 
 // Searches with the first `length` slots of a list.
 fn search_in(book: &[u8], sheet: &[u8], slots: &mut [u16], length: usize) {
@@ -15,84 +15,98 @@ fn search_in(book: &[u8], sheet: &[u8], slots: &mut [u16], length: usize) {
 fn searched(book: &[u8], sheet: &[u8], length: usize) {
     let mut slots = [7u16; 260];
     search_in(book, sheet, &mut slots, length);
-    printing::word(b"slots");
     printing::slots(&slots, 12);
-    printing::word(b"\n");
 }
 
-// The same of two files of the current folder.
-fn files(book_name: &[u8], sheet_name: &[u8], length: usize) {
+// The same of two files of the current folder, which are the name of the case. L is the length of the list, 12 where it is left out.
+fn files(line: &[u8]) {
     let mut book = [0u8; 40001];
     let mut sheet = [0u8; 40001];
-    printing::word(book_name);
-    printing::word(b" ");
-    printing::word(sheet_name);
-    printing::word(b"\n");
-    let n = file_io::read_file(book_name, &mut book);
-    let m = file_io::read_file(sheet_name, &mut sheet);
+    let names = tables::name(line);
+    let space = tables::find(names, 0, b' ');
+    printing::title(names);
+    let n = file_io::read_file(between(names, 0, space), &mut book);
+    let m = file_io::read_file(tables::word(names, b' '), &mut sheet);
+    let length = tables::field(line, b'L', 12) as usize;
     searched(&book[..n], &sheet[..m], length);
 }
 
-// The same with front text, zeros, that makes both files `size` bytes long.
+// The same of each line of a table.
+fn each(table: &[u8]) {
+    let mut at = 0;
+    while at < table.len() {
+        files(tables::line(table, at));
+        at = tables::next_line(table, at);
+    }
+}
+
+// The file in a buffer's first `n` bytes behind zeros, `size` bytes in all.
+fn long_file(bytes: &[u8], n: usize, size: usize) -> [u8; 40001] {
+    let mut file = [0u8; 40001];
+    buffers::put_part(&mut file, buffers::less(size, n), bytes, 0, n);
+    file
+}
+
+// The first marked sheet with front text that makes one of its files `size` bytes long.
 fn with_front(size: usize) {
     let mut book = [0u8; 256];
     let mut sheet = [0u8; 256];
     let n = file_io::read_file(b"p.wbk", &mut book);
     let m = file_io::read_file(b"a.wsh", &mut sheet);
-    let mut long_book = [0u8; 40001];
-    let mut long_sheet = [0u8; 40001];
+    let long_book = long_file(&book, n, size);
+    let long_sheet = long_file(&sheet, m, size);
     printing::line(b"front up to", size as u64);
-    samples::put_part(&mut long_book, samples::less(size, n), &book, 0, n);
-    samples::put_part(&mut long_sheet, samples::less(size, m), &sheet, 0, m);
     searched(between(&long_book, 0, size), between(&sheet, 0, m), 12);
     searched(between(&book, 0, n), between(&long_sheet, 0, size), 12);
 }
 
-fn marked() {
-    files(b"p.wbk", b"a.wsh", 12);
-    files(b"p.wbk", b"b.wsh", 12);
-    files(b"p.wbk", b"c.wsh", 12);
-    files(b"p.wbk", b"d.wsh", 12);
-    files(b"e.wbk", b"e.wsh", 12);
-    files(b"e.wbk", b"f.wsh", 12);
-    files(b"g.wbk", b"g.wsh", 12);
-    files(b"h.wbk", b"h.wsh", 12);
-    files(b"h.wbk", b"i.wsh", 12);
-    files(b"p.wbk", b"j.wsh", 12);
-}
-
-// Each limit, and one more than it.
-fn limits() {
-    files(b"boats256.wbk", b"columns1.wsh", 256);
-    files(b"boats257.wbk", b"columns1.wsh", 260);
-    files(b"columns64.wbk", b"columns64.wsh", 12);
-    files(b"columns65.wbk", b"columns64.wsh", 12);
-    files(b"h.wbk", b"steps360.wsh", 12);
-    files(b"h.wbk", b"steps361.wsh", 12);
-    files(b"h.wbk", b"h.wsh", 12);
-    files(b"value2001.wbk", b"h.wsh", 12);
-    files(b"low2001.wbk", b"h.wsh", 12);
-    files(b"h.wbk", b"value2001.wsh", 12);
-    files(b"h.wbk", b"tolerance.wsh", 12);
-    files(b"h.wbk", b"tolerance1.wsh", 12);
-    with_front(40000);
-    with_front(40001);
+// The marked sheets, then each limit and one more than it.
+fn marked_and_limits() {
+    each(
+        b"p.wbk a.wsh:
+p.wbk b.wsh:
+p.wbk c.wsh:
+p.wbk d.wsh:
+e.wbk e.wsh:
+e.wbk f.wsh:
+g.wbk g.wsh:
+h.wbk h.wsh:
+h.wbk i.wsh:
+p.wbk j.wsh:
+boats256.wbk columns1.wsh: L256
+boats257.wbk columns1.wsh: L260
+columns64.wbk columns64.wsh:
+columns65.wbk columns64.wsh:
+h.wbk steps360.wsh:
+h.wbk steps361.wsh:
+h.wbk h.wsh:
+value2001.wbk h.wsh:
+low2001.wbk h.wsh:
+h.wbk value2001.wsh:
+h.wbk tolerance.wsh:
+h.wbk tolerance1.wsh:
+",
+    );
 }
 
 // Share lists: as long as the boats, one slot shorter, none; files that are missing; both files refused.
 fn lists() {
-    files(b"p.wbk", b"a.wsh", 3);
-    files(b"p.wbk", b"a.wsh", 2);
-    files(b"p.wbk", b"a.wsh", 0);
-    files(b"boats256.wbk", b"columns1.wsh", 255);
-    files(b"none.wbk", b"a.wsh", 12);
-    files(b"p.wbk", b"none.wsh", 12);
-    files(b"value2001.wbk", b"j.wsh", 0);
-    files(b"p.wbk", b"columns1.wsh", 12);
+    each(
+        b"p.wbk a.wsh: L3
+p.wbk a.wsh: L2
+p.wbk a.wsh: L0
+boats256.wbk columns1.wsh: L255
+none.wbk a.wsh:
+p.wbk none.wsh:
+value2001.wbk j.wsh: L0
+p.wbk columns1.wsh:
+",
+    );
 }
 
 fn main() {
-    marked();
-    limits();
+    marked_and_limits();
+    with_front(40000);
+    with_front(40001);
     lists();
 }

@@ -1,8 +1,8 @@
--- `printing::slots` meets its contract.
+-- `printing::first_slots` meets its contract.
 use borrow.Author.Needs.{needs}
 use Prim.Native.Nat.{_-_}
-use Rattle.printing.proofs.slots.Statement.{statement}
-use Rattle.printing.proofs.slots.Tie as tie
+use Rattle.printing.proofs.first_slots.Statement.{statement}
+use Rattle.printing.proofs.first_slots.Tie as tie
 
 abbrev Inv-loop : tie.InvT-loop
 Inv-loop list count i₀ i = Prim.Unit {0}
@@ -10,7 +10,7 @@ Inv-loop list count i₀ i = Prim.Unit {0}
 abbrev μ-loop : tie.MeasureT-loop
 μ-loop list count i₀ i = count - i
 
-pub slots-spec : {M : Type 1} → statement M
-slots-spec =
+pub first-slots-spec : {M : Type 1} → statement M
+first-slots-spec =
     tie.close
     (tie.spec Inv-loop μ-loop (λ c. search needs) (λ c. search needs) (λ c. search needs) (λ c κs. search needs) (λ c. search needs) (λ c. search needs) (λ c. search needs) (λ c. search needs))

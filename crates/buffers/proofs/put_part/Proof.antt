@@ -1,10 +1,10 @@
--- `samples::put_part` meets its contract.
+-- `buffers::put_part` meets its contract.
 use borrow.Author.Needs.{needs}
 use mathlib.Core.Path.{_≡_}
 use Prim.Native.Nat.{_-_}
 use lib.ListN.{length}
-use Rattle.samples.proofs.put_part.Statement.{statement}
-use Rattle.samples.proofs.put_part.Tie as tie
+use Rattle.buffers.proofs.put_part.Statement.{statement}
+use Rattle.buffers.proofs.put_part.Tie as tie
 
 abbrev Inv-loop : tie.InvT-loop
 Inv-loop buffer₀ at from start count next₀ i₀ buffer next i = (length buffer ≡ length buffer₀)

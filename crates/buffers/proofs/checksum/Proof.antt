@@ -1,9 +1,9 @@
--- `samples::checksum` meets its contract.
+-- `buffers::checksum` meets its contract.
 use borrow.Author.Needs.{needs}
 use Prim.Native.Nat.{_-_}
 use lib.ListN.{length}
-use Rattle.samples.proofs.checksum.Statement.{statement}
-use Rattle.samples.proofs.checksum.Tie as tie
+use Rattle.buffers.proofs.checksum.Statement.{statement}
+use Rattle.buffers.proofs.checksum.Tie as tie
 
 abbrev Inv-loop : tie.InvT-loop
 Inv-loop bytes sum₀ i₀ sum i = Prim.Unit {0}

@@ -1,9 +1,9 @@
--- `samples::times` meets its contract: a product of two numbers below 2^16 is below 2^32.
+-- `buffers::times` meets its contract: a product of two numbers below 2^16 is below 2^32.
 use Prim.Native.Nat.{ℕ, _*_, _%_, _<_}
 use native.Mathlib.Nat.{mul-le-mul-left}
 use native.Mathlib.Omega.{arith}
-use Rattle.samples.proofs.times.Statement.{statement}
-use Rattle.samples.proofs.times.Tie as tie
+use Rattle.buffers.proofs.times.Statement.{statement}
+use Rattle.buffers.proofs.times.Tie as tie
 
 below : (a b : ℕ) → (a % 65536) * (b % 65536) < 4294967296
 below a b = omega (arith, mul-le-mul-left {m = b % 65536} {n = 65535} (a % 65536) (omega arith))

@@ -1,0 +1,125 @@
+// Helpers of the test programs: bytes, numbers and trailers put into a buffer, and parts of one.
+// Every function is safe on all arguments: what would fall outside a buffer is left out.
+ghost use Prim.Native.Nat.{_<_};
+
+// The letters that end a fleet book and a sheet, as numbers.
+const WBK1: u64 = 827015767;
+
+const WSH1: u64 = 826823511;
+
+// Puts a byte at `at`, and gives back the offset after it.
+pub fn put(buffer: &mut [u8], at: usize, x: u8) -> usize {
+    if at < buffer.len() {
+        buffer[at] = x;
+        return at + 1;
+    }
+    at
+}
+
+// The byte at `at`, 0 past the end.
+pub fn byte_at(buffer: &[u8], at: usize) -> u8 {
+    if at < buffer.len() { buffer[at] } else { 0 }
+}
+
+// The bytes from `start` to `end`, or all of them where there is no such part.
+pub fn between(buffer: &[u8], start: usize, end: usize) -> &[u8] {
+    if end < start {
+        return buffer;
+    }
+    if buffer.len() < end {
+        return buffer;
+    }
+    &buffer[start..end]
+}
+
+// A number that depends on every byte and its place.
+pub fn checksum(bytes: &[u8]) -> u64 {
+    let mut sum = 0;
+    let mut i = 0;
+    while i < bytes.len() {
+        sum = (sum % 1000003 * 257 + wide(bytes[i])) % 1000003;
+        i += 1;
+    }
+    sum
+}
+
+// A byte in a wider type.
+pub fn wide(x: u8) -> u64
+    ensures { λ r. ⌜ r < 256 ⌝ }
+{
+    x as u64
+}
+
+// The 2-byte number at `at`.
+pub fn u16_at(buffer: &[u8], at: usize) -> u64
+    ensures { λ r. ⌜ r < 65536 ⌝ }
+{
+    let next = at % 65536 + 1;
+    wide(byte_at(buffer, at)) + 256 * wide(byte_at(buffer, next))
+}
+
+// Puts a number of `count` bytes, the lowest first.
+pub fn put_number(buffer: &mut [u8], at: usize, x: u64, count: u64) -> usize {
+    let mut next = at;
+    let mut rest = x;
+    let mut i = 0;
+    while i < count {
+        next = put(buffer, next, (rest % 256) as u8);
+        rest /= 256;
+        i += 1;
+    }
+    next
+}
+
+// Puts the `count` bytes of `from` that start at `start`.
+pub fn put_part(buffer: &mut [u8], at: usize, from: &[u8], start: usize, count: usize) -> usize {
+    let mut next = at;
+    let mut i = 0;
+    while i < count {
+        let x = byte_at(from, start % 65536 + i % 65536);
+        next = put(buffer, next, x);
+        i += 1;
+    }
+    next
+}
+
+// Puts the trailer of a fleet book whose body has `back` bytes.
+pub fn put_book_trailer(
+    buffer: &mut [u8],
+    at: usize,
+    back: u64,
+    boats: u64,
+    columns: u64,
+) -> usize {
+    let a = put_number(buffer, at, back, 4);
+    let b = put_number(buffer, a, boats, 2);
+    let c = put_number(buffer, b, columns, 2);
+    put_number(buffer, c, WBK1, 4)
+}
+
+// Puts the trailer of a sheet.
+pub fn put_sheet_trailer(
+    buffer: &mut [u8],
+    at: usize,
+    columns: u64,
+    steps: u64,
+    tolerance: u64,
+) -> usize {
+    let a = put_number(buffer, at, 2 * (columns % 65536), 4);
+    let b = put_number(buffer, a, columns, 2);
+    let c = put_number(buffer, b, steps, 2);
+    let d = put_number(buffer, c, tolerance, 4);
+    put_number(buffer, d, WSH1, 4)
+}
+
+// The product of two numbers below 65,536.
+pub fn times(a: u64, b: u64) -> u64
+    ensures { λ r. ⌜ r < 4294967296 ⌝ }
+{
+    (a % 65536) * (b % 65536)
+}
+
+// `a` less `b`, 0 where `b` is more.
+pub fn less(a: usize, b: usize) -> usize {
+    if b <= a { a - b } else { 0 }
+}

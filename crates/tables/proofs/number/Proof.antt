@@ -1,0 +1,17 @@
+-- `tables::number` meets its contract.
+use borrow.Author.Needs.{needs}
+use Prim.Native.Nat.{_-_}
+use lib.ListN.{length}
+use Rattle.tables.proofs.number.Statement.{statement}
+use Rattle.tables.proofs.number.Tie as tie
+
+abbrev Inv-loop : tie.InvT-loop
+Inv-loop digits sum₀ i₀ sum i = Prim.Unit {0}
+
+abbrev μ-loop : tie.MeasureT-loop
+μ-loop digits sum₀ i₀ sum i = length digits - i
+
+pub number-spec : {M : Type 1} → statement M
+number-spec =
+    tie.close
+    (tie.spec Inv-loop μ-loop (λ c. search needs) (λ c. search needs) (λ c. search needs) (λ c κs. search needs) (λ c. search needs) (λ c. search needs) (λ c. search needs) (λ c. search needs) (λ c. search needs))
