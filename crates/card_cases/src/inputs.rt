@@ -1,5 +1,4 @@
-// The fleet book and the sheet of a case. Letters of a table: F the fleet, H its columns, X and Y the target, M the sheet's steps,
-// D its tolerance. Left out are those of fleet P, the target (1,1), 9 steps and the tolerance 1.
+// The fleet book and the sheet of a case.
 use tables::field;
 
 // Puts values of 2 bytes.

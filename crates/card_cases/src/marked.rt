@@ -1,4 +1,4 @@
-// The nine marked sheets that have a card.
+// A marked sheet, and calls that are refused before a card is looked at.
 use buffers::between;
 use card::Written;
 
@@ -65,8 +65,9 @@ fn rooms(book: &[u8], sheet: &[u8], len: usize) {
 }
 
 // One marked sheet.
-fn marked(book: &[u8], sheet: &[u8]) {
+pub fn marked(name: &[u8], book: &[u8], sheet: &[u8]) {
     let mut filed = [9u8; 80];
+    printing::title(name);
     let len = written(book, sheet, &mut filed, 80);
     printing::line(b"sum", buffers::checksum(&filed));
     checked(book, sheet, between(&filed, 0, len));
@@ -76,58 +77,15 @@ fn marked(book: &[u8], sheet: &[u8]) {
     crate::flips::flips(book, sheet, &mut filed, again);
 }
 
-// The marked sheet of a line.
-fn sheet(line: &[u8]) {
-    let mut book = [0u8; 40];
-    let mut sheet = [0u8; 40];
-    let n = crate::inputs::put_fleet(&mut book, line);
-    let m = crate::inputs::put_sheet(&mut sheet, line);
-    printing::title(tables::name(line));
-    marked(between(&book, 0, n), between(&sheet, 0, m));
-}
-
-// The marked sheet of each line.
-fn each_sheet(table: &[u8]) {
-    let mut at = 0;
-    while at < table.len() {
-        sheet(tables::line(table, at));
-        at = tables::next_line(table, at);
-    }
-}
-
-pub fn sheets() {
-    each_sheet(
-        b"a:
-b: M3
-c: M2
-d: X5 Y5
-e: F1 X3 Y4 M1 D25
-f: F1 X3 Y4 M1 D24
-g: F2 X0 Y0 M1 D0
-h: F3 H1 X2000 M1 D0
-i: F3 H1 X0 M2 D0
-",
-    );
-}
-
-// Fleet P with a sheet of no steps.
-pub fn refused_sheet() {
-    let mut book = [0u8; 40];
-    let mut sheet = [0u8; 40];
-    let n = crate::inputs::put_fleet(&mut book, b"");
-    let m = crate::inputs::put_sheet(&mut sheet, b"M0");
-    roomed(between(&book, 0, n), between(&sheet, 0, m), 80);
-    checked(between(&book, 0, n), between(&sheet, 0, m), b"");
+// A sheet that is refused: nothing is written, and no card is looked at.
+pub fn refused_sheet(book: &[u8], sheet: &[u8]) {
+    roomed(book, sheet, 80);
+    checked(book, sheet, b"");
 }
 
 // An empty card with a list of two slots, and of four.
-pub fn short_list() {
-    let mut book = [0u8; 40];
-    let mut sheet = [0u8; 40];
+pub fn short_list(book: &[u8], sheet: &[u8]) {
     let mut slots = [7u16; 2];
-    let n = crate::inputs::put_fleet(&mut book, b"");
-    let m = crate::inputs::put_sheet(&mut sheet, b"");
-    let found = card::check_card(between(&book, 0, n), between(&sheet, 0, m), b"", &mut slots);
-    printing::outcome(found);
-    checked(between(&book, 0, n), between(&sheet, 0, m), b"");
+    printing::outcome(card::check_card(book, sheet, b"", &mut slots));
+    checked(book, sheet, b"");
 }

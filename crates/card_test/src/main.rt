@@ -3,29 +3,25 @@
 use card::Written;
 use samples::Part;
 
-// What the writer gives back.
-fn print_written(written: Written) {
+// What the writer gives back; its length.
+fn print_written(written: Written) -> usize {
     match written {
-        Written::Refused(n) => printing::refused(n),
+        Written::Refused(n) => {
+            printing::refused(n);
+            0
+        }
         Written::Filed(a, len) => {
             printing::answer(a);
             printing::line(b"bytes", len as u64);
+            len
         }
-    }
-}
-
-fn length_of(written: Written) -> usize {
-    match written {
-        Written::Refused(_) => 0,
-        Written::Filed(_, len) => len,
     }
 }
 
 // Checks a card with a list of 10 slots that hold 7, and prints the list.
 fn checked(book: &[u8], sheet: &[u8], filed: &[u8]) {
     let mut slots = [7u16; 10];
-    let found = card::check_card(book, sheet, filed, &mut slots);
-    printing::outcome(found);
+    printing::outcome(card::check_card(book, sheet, filed, &mut slots));
     printing::slots(&slots, 10);
 }
 
@@ -35,9 +31,7 @@ fn written(book: &[u8], sheet: &[u8], buffer: &mut [u8], room: usize) -> usize {
         return 0;
     }
     let start = 0;
-    let filed = card::write_card(book, sheet, &mut buffer[start..room]);
-    print_written(filed);
-    length_of(filed)
+    print_written(card::write_card(book, sheet, &mut buffer[start..room]))
 }
 
 // The card of two files in a buffer of `room` bytes, written, checked, damaged and checked.

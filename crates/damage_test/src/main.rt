@@ -10,6 +10,14 @@ fn run(book: &[u8], a: Part, sheet: &[u8], b: Part) {
     ));
 }
 
+// Damages a file that ends at `end`, where it is the one to damage.
+fn damaged(buffer: &mut [u8], end: usize, seed: &mut u64, chosen: bool) -> Part {
+    if chosen {
+        return samples::damage(buffer, end, seed);
+    }
+    Part { start: 0, end }
+}
+
 // One drawn case.
 fn one(seed: &mut u64, number: u64) {
     let mut book = [0u8; 256];
@@ -21,13 +29,10 @@ fn one(seed: &mut u64, number: u64) {
     let end = placed.end;
     let tolerance = samples::draw(seed, 1000);
     let m = samples::put_sheet(&mut sheet, seed, plan, &book, rows, tolerance);
-    if samples::draw(seed, 2) == 0 {
-        let part = samples::damage(&mut book, end, seed);
-        run(&book, part, &sheet, Part { start: 0, end: m });
-    } else {
-        let part = samples::damage(&mut sheet, m, seed);
-        run(&book, Part { start: 0, end }, &sheet, part);
-    }
+    let kind = samples::draw(seed, 2);
+    let a = damaged(&mut book, end, seed, kind == 0);
+    let b = damaged(&mut sheet, m, seed, kind != 0);
+    run(&book, a, &sheet, b);
 }
 
 fn main() {

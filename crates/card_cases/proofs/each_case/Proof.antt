@@ -1,9 +1,9 @@
--- `card_cases::marked::each_sheet` meets its contract.
+-- `card_cases::each_case` meets its contract.
 use borrow.Author.Needs.{needs}
 use Prim.Native.Nat.{_≤_, _-_}
 use lib.ListN.{length}
-use Rattle.card_cases.proofs.marked.each_sheet.Statement.{statement}
-use Rattle.card_cases.proofs.marked.each_sheet.Tie as tie
+use Rattle.card_cases.proofs.each_case.Statement.{statement}
+use Rattle.card_cases.proofs.each_case.Tie as tie
 
 abbrev Inv-loop : tie.InvT-loop
 Inv-loop table at₀ at = (at ≤ length table)
@@ -11,7 +11,7 @@ Inv-loop table at₀ at = (at ≤ length table)
 abbrev μ-loop : tie.MeasureT-loop
 μ-loop table at₀ at = length table - at
 
-pub each-sheet-spec : {M : Type 1} → statement M
-each-sheet-spec =
+pub each-case-spec : {M : Type 1} → statement M
+each-case-spec =
     tie.close
     (tie.spec Inv-loop μ-loop (λ c. search needs) (λ c κs. search needs) (λ c κs. search needs) (λ c κs. search needs) (λ c. search needs) (λ c. search needs) (λ c. search needs))
