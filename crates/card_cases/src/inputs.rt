@@ -1,30 +1,28 @@
 // The fleet book and the sheet of a case.
 use tables::field;
 
-// Puts values of 2 bytes.
-fn put_values(buffer: &mut [u8], values: &[u64]) -> usize {
-    let mut next = 0;
-    let mut i = 0;
-    while i < values.len() {
-        next = buffers::put_number(buffer, next, values[i], 2);
-        i += 1;
-    }
-    next
+// Puts a file of these fields.
+fn put_file(buffer: &mut [u8], letters: &[u8], sizes: &[u8], fields: &[u8]) -> usize {
+    tables::put_fields(buffer, 0, fields, letters, sizes, fields)
 }
 
-// Puts a fleet book.
-fn put_book(buffer: &mut [u8], values: &[u64], boats: u64, columns: u64) -> usize {
-    let at = put_values(buffer, values);
-    buffers::put_book_trailer(buffer, at, at as u64, boats, columns)
-}
-
-// Puts fleet P, which has the boats (0,0), (4,0) and (0,4); or (0,0) once; or (0,0) twice; or -2000 and 2000.
+// Puts fleet P, which has the boats (0,0), (4,0) and (0,4); or (0,0) once; or (0,0) twice; or -2000 and 2000. Then the trailer.
 pub fn put_fleet(buffer: &mut [u8], line: &[u8]) -> usize {
     match field(line, b'F', 0) {
-        0 => put_book(buffer, &[0, 0, 4, 0, 0, 4], 3, 2),
-        1 => put_book(buffer, &[0, 0], 1, 2),
-        2 => put_book(buffer, &[0, 0, 0, 0], 2, 2),
-        _ => put_book(buffer, &[63536, 2000], 2, 1),
+        0 => put_file(
+            buffer,
+            b"OOAOOAKNCW",
+            b"2222224224",
+            b"O0 A4 K12 N3 C2 W827015767",
+        ),
+        1 => put_file(buffer, b"OOKNCW", b"224224", b"O0 K4 N1 C2 W827015767"),
+        2 => put_file(buffer, b"OOOOKNCW", b"22224224", b"O0 K8 N2 C2 W827015767"),
+        _ => put_file(
+            buffer,
+            b"ABKNCW",
+            b"224224",
+            b"A63536 B2000 K4 N2 C1 W827015767",
+        ),
     }
 }
 

@@ -1,7 +1,5 @@
-// Cards of the marked sheets: written and read back, in buffers of every fit, behind front text, and with each bit flipped;
-// then cards made by hand. The expected output is made by tests/expected/card_cases.py.
-mod cards;
-mod cases;
+// Cards of the marked sheets: written and read back, in buffers of every fit, behind front text, and with each bit flipped.
+// The expected output is made by tests/expected/card_cases.py.
 mod flips;
 mod inputs;
 mod marked;
@@ -12,9 +10,8 @@ use tables::field;
 // A case for the fleet book and the sheet of its line, of the kind behind J.
 fn case_for(line: &[u8], book: &[u8], sheet: &[u8]) {
     match field(line, b'J', 0) {
-        0 => cards::check(line, book, sheet),
-        1 => marked::marked(tables::name(line), book, sheet),
-        2 => marked::refused_sheet(book, sheet),
+        0 => marked::marked(tables::name(line), book, sheet),
+        1 => marked::refused_sheet(book, sheet),
         _ => marked::short_list(book, sheet),
     }
 }
@@ -28,7 +25,7 @@ fn case(line: &[u8]) {
 }
 
 // Each line of a table.
-pub fn each_case(table: &[u8]) {
+fn each_case(table: &[u8]) {
     let mut at = 0;
     while at < table.len() {
         case(tables::line(table, at));
@@ -36,7 +33,22 @@ pub fn each_case(table: &[u8]) {
     }
 }
 
+// Two calls that are refused, and the nine marked sheets that have a card.
+// Letters: J the kind of case, F the fleet, H its columns, X and Y the target, M the sheet's steps, D its tolerance. Left out are
+// those of fleet P, the target (1,1), 9 steps and the tolerance 1.
 fn main() {
-    cases::sheets();
-    cases::cards();
+    each_case(
+        b"sheet of no steps: J1 M0
+list of two slots: J2
+a:
+b: M3
+c: M2
+d: X5 Y5
+e: F1 X3 Y4 M1 D25
+f: F1 X3 Y4 M1 D24
+g: F2 X0 Y0 M1 D0
+h: F3 H1 X2000 M1 D0
+i: F3 H1 X0 M2 D0
+",
+    );
 }

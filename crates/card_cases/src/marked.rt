@@ -35,7 +35,7 @@ fn roomed(book: &[u8], sheet: &[u8], room: usize) {
 }
 
 // Checks a card with a list of 4 slots that hold 7, and prints the list.
-pub fn checked(book: &[u8], sheet: &[u8], filed: &[u8]) {
+fn checked(book: &[u8], sheet: &[u8], filed: &[u8]) {
     let mut slots = [7u16; 4];
     printing::outcome(card::check_card(book, sheet, filed, &mut slots));
     printing::slots(&slots, 4);

@@ -1,10 +1,10 @@
--- `card_cases::cards::put_pairs` meets its contract.
+-- `hand_cards::put_pairs` meets its contract.
 use borrow.Author.Needs.{needs}
 use mathlib.Core.Path.{_≡_}
 use Prim.Native.Nat.{_-_}
 use lib.ListN.{length}
-use Rattle.card_cases.proofs.cards.put_pairs.Statement.{statement}
-use Rattle.card_cases.proofs.cards.put_pairs.Tie as tie
+use Rattle.hand_cards.proofs.put_pairs.Statement.{statement}
+use Rattle.hand_cards.proofs.put_pairs.Tie as tie
 
 abbrev Inv-loop : tie.InvT-loop
 Inv-loop file₀ pairs next₀ i₀ file next i = (length file ≡ length file₀)
