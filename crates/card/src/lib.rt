@@ -34,7 +34,7 @@ pub fn write_card(book: &[u8], sheet: &[u8], output: &mut [u8]) -> Written
     ensures { λ _. ⌜ now (output .exit) ≡ slots-after (write-refusal (now (book .entry)) (now (sheet .entry)) (length (now (output .entry)))) (run-card (now (book .entry)) (now (sheet .entry))) (now (output .entry)) ⌝ }
     ensures { λ r. ⌜ Filing-right (now (book .entry)) (now (sheet .entry)) r (now (output .exit)) ⌝ }
 {
-    let refusal = files::files_refusal(book, sheet);
+    let refusal = validation::files_refusal(book, sheet);
     if refusal != 0 {
         return Written::Refused(refusal);
     }
@@ -157,7 +157,7 @@ pub fn check_card(book: &[u8], sheet: &[u8], card: &[u8], shares: &mut [u16]) ->
     ensures { λ _. ⌜ now (shares .exit) ≡ slots-after (check-refusal (now (book .entry)) (now (sheet .entry)) (now (card .entry)) (length (now (shares .entry)))) (card-shares (boats (now (book .entry))) (now (card .entry))) (now (shares .entry)) ⌝ }
     ensures { λ r. ⌜ Check-right (now (book .entry)) (now (sheet .entry)) (now (card .entry)) r (now (shares .exit)) ⌝ }
 {
-    let refusal = files::files_refusal(book, sheet);
+    let refusal = validation::files_refusal(book, sheet);
     if refusal != 0 {
         return Searched::Refused(refusal);
     }

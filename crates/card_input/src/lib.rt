@@ -5,23 +5,13 @@ ghost use Prim.Native.Nat.{_+_, _*_, _-_, _≤_, _<_};
 ghost use lib.Dec.{ltb, leb};
 ghost use lib.ListN.{length, take, drop, replicate};
 ghost use Rattle.frank_wolfe.specs.Vectors.{sum};
-ghost use Rattle.files.specs.Bytes.{same, between, length-in-range, trailer};
+ghost use Rattle.files.specs.Bytes.{same, trailer};
 ghost use Rattle.card_format.specs.Format.{WCD1, card-fields, pair-count, shares-into};
 ghost use Rattle.card_format.specs.Checks.{back-fits, pairs-in-order};
 ghost use Rattle.card_input.specs.Forms.{counts-agree, steps-fit, form-refusal};
 
 // The letters WCD1 as a number.
 const LETTERS: u32 = 826557271;
-
-// Whether `x` is from `least` to `most`.
-fn is_between(least: usize, most: usize, x: usize) -> bool
-    ensures { λ r. ⌜ r ≡ between least most x ⌝ }
-{
-    if x < least {
-        return false;
-    }
-    x <= most
-}
 
 // Whether a card ends with its letters.
 fn is_lettered(card: &[u8]) -> bool
@@ -56,10 +46,10 @@ fn steps_fit(card: &[u8], steps: u32) -> bool
     requires { ⌜ 36 ≤ length (now card) ⌝ }
     ensures { λ r. ⌜ r ≡ steps-fit steps (now (card .entry)) ⌝ }
 {
-    if !is_between(1, 3, files::u16_at(card, card.len() - 32) as usize) {
+    if !file_parts::is_between(1, 3, files::u16_at(card, card.len() - 32) as usize) {
         return false;
     }
-    is_between(1, steps as usize, steps_used(card) as usize)
+    file_parts::is_between(1, steps as usize, steps_used(card) as usize)
 }
 
 // Whether a card's back count is above zero, a multiple of 4, at most 4 × boats, and starts inside the file.
@@ -127,7 +117,7 @@ pub fn form_refusal(card: &[u8], boats: usize, columns: usize, steps: u32) -> u3
     requires { ⌜ boats ≤ 256 ⌝ }
     ensures { λ r. ⌜ r ≡ form-refusal boats columns steps (now (card .entry)) ⌝ }
 {
-    if !is_between(36, 40000, card.len()) {
+    if !file_parts::is_between(36, 40000, card.len()) {
         return 31;
     }
     if !is_lettered(card) {

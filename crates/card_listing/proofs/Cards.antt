@@ -13,8 +13,8 @@ use Rattle.method.specs.Answers.{outcome, search-refusal, slots-after}
 use Rattle.card_format.specs.Format.{shares-into, card-shares, card-answer}
 use Rattle.card_format.specs.Checks.{card-refusal, check-refusal}
 use Rattle.listing.specs.Lines.{outcome-listing, Listable}
-use Rattle.listing.specs.Texts.{Holds}
-use Rattle.listing.specs.declared.Text.{Text}
+use Rattle.text.specs.Texts.{Holds}
+use Rattle.text.specs.declared.Text.{Text}
 use Rattle.listing.proofs.Outcomes.{listable, same-listing, same-refusal}
 use Rattle.card_listing.specs.Cards.{card-listing}
 

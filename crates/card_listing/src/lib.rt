@@ -1,9 +1,9 @@
 // The listing of a card that is checked against a fleet book and a sheet.
 //
 // Entry, which asks nothing of its caller: card_text.
-ghost use Rattle.listing.specs.Texts.{Holds};
+ghost use Rattle.text.specs.Texts.{Holds};
 ghost use Rattle.card_listing.specs.Cards.{card-listing};
-use listing::Text;
+use text::Text;
 
 // ENTRY. The listing of a card's answer and shares, or of the number that refuses the files or the card.
 // The check vouches for the gap of the mixture, and not for the bound that a run of so many steps has.

@@ -4,7 +4,7 @@ use samples::Part;
 
 // Lists the files in parts of two buffers.
 fn run(book: &[u8], a: Part, sheet: &[u8], b: Part) {
-    file_io::print(listing::search_listing(
+    file_io::print(search_listing::search_listing(
         buffers::between(book, a.start, a.end),
         buffers::between(sheet, b.start, b.end),
     ));

@@ -1,2 +1,3 @@
-pub mod Replying
+-- The laws behind the proofs of this crate.
+pub mod Promises
 pub mod Putting

@@ -6,9 +6,9 @@ use Prim.Native.Nat.{ℕ, _≤_, _<_}
 use borrow.Author.Tests.{lt-ltb, le-ltb}
 use lib.Dec.{ltb}
 use lib.ListN.{length, take, drop}
-use Rattle.listing.specs.declared.Text.{Text}
-use Rattle.listing.specs.Texts.{Holds}
-use Rattle.exports.specs.Replies.{bytes-after}
+use Rattle.text.specs.declared.Text.{Text}
+use Rattle.text.specs.Texts.{Holds}
+use Rattle.exports.specs.Buffers.{bytes-after}
 
 module _ {l : List ℕ} {t : Text} (h : Holds l t) (old : List ℕ) where
   -- what a listing's length and the buffer's bytes afterwards must be

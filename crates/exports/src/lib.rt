@@ -8,105 +8,18 @@ ghost use mathlib.Core.Path.{_≡_};
 ghost use mathlib.Core.List.{_++_};
 ghost use Prim.Native.Nat.{_≤_};
 ghost use lib.ListN.{length, take, drop};
-ghost use Rattle.method.specs.Answers.{verdict-number, outcome, search-refusal, slots-after, run-answer, run-iterate};
+ghost use Rattle.method.specs.Answers.{outcome, search-refusal, slots-after, run-answer, run-iterate};
 ghost use Rattle.files.specs.Book.{boats};
 ghost use Rattle.card_format.specs.Format.{card-shares, card-answer, run-card};
 ghost use Rattle.card_format.specs.Checks.{write-refusal, check-refusal};
 ghost use Rattle.card.specs.Filing.{filing, Filing-right};
 ghost use Rattle.card.specs.Checking.{Check-right};
 ghost use Rattle.method.specs.Promise.{Outcome-right};
-ghost use Rattle.listing.specs.Lines.{search-listing};
-ghost use Rattle.exports.specs.Replies.{floor-of, shortfall-of, reply-of, card-reply-of, bytes-after};
-use card::Written;
-use method::Answer;
-use method::Searched;
-use method::Verdict;
-
-// The answer of a call as plain numbers. A refused call has its number in `refusal` and 0 in every other field;
-// an answered one has 0 in `refusal`.
-#[repr(C)]
-pub struct Reply {
-    // the number that refuses the call
-    pub refusal: u32,
-    // 1 Within, 2 Beyond, 3 Spent
-    pub verdict: u32,
-    // t, the steps used
-    pub steps: u32,
-    // W = t (t + 1) / 2
-    pub weight: u32,
-    // E, the squared distance times W²
-    pub distance: u64,
-    // G, the gap times W²
-    pub gap: u64,
-    // E - 2 G of Beyond, else 0
-    pub floor: i64,
-    // E - tolerance × W² of Spent, else 0
-    pub shortfall: u64,
-}
-
-// The number of a verdict.
-fn verdict_number(v: Verdict) -> u32
-    ensures { λ r. ⌜ r ≡ verdict-number v ⌝ }
-{
-    match v {
-        Verdict::Within => 1,
-        Verdict::Beyond(_) => 2,
-        Verdict::Spent(_) => 3,
-    }
-}
-
-// What Beyond carries, 0 for the others.
-fn floor_of(v: Verdict) -> i64
-    ensures { λ r. ⌜ r ≡ floor-of v ⌝ }
-{
-    match v {
-        Verdict::Within => 0,
-        Verdict::Beyond(floor) => floor,
-        Verdict::Spent(_) => 0,
-    }
-}
-
-// What Spent carries, 0 for the others.
-fn shortfall_of(v: Verdict) -> u64
-    ensures { λ r. ⌜ r ≡ shortfall-of v ⌝ }
-{
-    match v {
-        Verdict::Within => 0,
-        Verdict::Beyond(_) => 0,
-        Verdict::Spent(shortfall) => shortfall,
-    }
-}
-
-// A refusal or an answer as plain numbers.
-pub fn reply_of(found: Searched) -> Reply
-    ensures { λ r. ⌜ r ≡ reply-of found ⌝ }
-{
-    match found {
-        Searched::Refused(n) => Reply {
-            refusal: n,
-            verdict: 0,
-            steps: 0,
-            weight: 0,
-            distance: 0,
-            gap: 0,
-            floor: 0,
-            shortfall: 0,
-        },
-        Searched::Answered(a) => {
-            let v = a.verdict;
-            Reply {
-                refusal: 0,
-                verdict: verdict_number(v),
-                steps: a.steps,
-                weight: a.weight,
-                distance: a.distance,
-                gap: a.gap,
-                floor: floor_of(v),
-                shortfall: shortfall_of(v),
-            }
-        }
-    }
-}
+ghost use Rattle.search_listing.specs.Searches.{search-listing};
+ghost use Rattle.replies.specs.Replies.{reply-of, card-reply-of};
+ghost use Rattle.exports.specs.Buffers.{bytes-after};
+use replies::CardReply;
+use replies::Reply;
 
 // ENTRY. The search for other languages: the reply of `search` for these files and this share list, and its slots afterwards.
 #[no_mangle]
@@ -116,7 +29,7 @@ pub extern "C" fn dofitrano_search(book: &[u8], sheet: &[u8], shares: &mut [u16]
     ensures { λ _. ⌜ Outcome-right (now (book .entry)) (now (sheet .entry)) (outcome (search-refusal (now (book .entry)) (now (sheet .entry)) (length (now (shares .entry)))) (run-answer (now (book .entry)) (now (sheet .entry)))) (now (shares .exit)) ⌝ }
 {
     let found = search::search(book, sheet, &mut *shares);
-    reply_of(found)
+    replies::reply_of(found)
 }
 
 // ENTRY. The card check for other languages: the reply of `check_card` for these files and this share list, and its slots afterwards.
@@ -132,32 +45,7 @@ pub extern "C" fn dofitrano_check_card(
     ensures { λ _. ⌜ Check-right (now (book .entry)) (now (sheet .entry)) (now (card .entry)) (outcome (check-refusal (now (book .entry)) (now (sheet .entry)) (now (card .entry)) (length (now (shares .entry)))) (card-answer (now (book .entry)) (now (sheet .entry)) (now (card .entry)))) (now (shares .exit)) ⌝ }
 {
     let found = card::check_card(book, sheet, card, &mut *shares);
-    reply_of(found)
-}
-
-// The reply of the card writer. A refused call has 0 in `bytes`: nothing was written.
-#[repr(C)]
-pub struct CardReply {
-    // the run's answer, or the number that refuses the call
-    pub reply: Reply,
-    // the bytes of the card that was written
-    pub bytes: usize,
-}
-
-// What the card writer gives back as plain numbers.
-pub fn card_reply_of(written: Written) -> CardReply
-    ensures { λ r. ⌜ r ≡ card-reply-of written ⌝ }
-{
-    match written {
-        Written::Refused(n) => {
-            let reply = reply_of(Searched::Refused(n));
-            CardReply { reply, bytes: 0 }
-        }
-        Written::Filed(a, size) => {
-            let reply = reply_of(Searched::Answered(a));
-            CardReply { reply, bytes: size }
-        }
-    }
+    replies::reply_of(found)
 }
 
 // ENTRY. The card writer for other languages: the reply of `write_card` for these files and this buffer, and its bytes afterwards.
@@ -168,7 +56,7 @@ pub extern "C" fn dofitrano_write_card(book: &[u8], sheet: &[u8], output: &mut [
     ensures { λ _. ⌜ Filing-right (now (book .entry)) (now (sheet .entry)) (filing (write-refusal (now (book .entry)) (now (sheet .entry)) (length (now (output .entry)))) (run-answer (now (book .entry)) (now (sheet .entry))) (length (run-card (now (book .entry)) (now (sheet .entry))))) (now (output .exit)) ⌝ }
 {
     let written = card::write_card(book, sheet, &mut *output);
-    card_reply_of(written)
+    replies::card_reply_of(written)
 }
 
 // The first `count` bytes of `to` as those of `from`; later bytes as they were.
@@ -190,7 +78,7 @@ pub extern "C" fn dofitrano_listing(book: &[u8], sheet: &[u8], output: &mut [u8]
     ensures { λ r. ⌜ (r ≡ length (search-listing (now (book .entry)) (now (sheet .entry)))) × (r ≤ 4096) ⌝ }
     ensures { λ _. ⌜ now (output .exit) ≡ bytes-after (search-listing (now (book .entry)) (now (sheet .entry))) (now (output .entry)) ⌝ }
 {
-    let text = listing::search_listing(book, sheet);
+    let text = search_listing::search_listing(book, sheet);
     let count = text.len;
     if output.len() < count {
         return count;

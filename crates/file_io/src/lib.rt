@@ -6,7 +6,7 @@ ghost use lib.ListN.{take};
 ghost use Rattle.io.specs.Counts.{Counts};
 use libc::STDERR_FILENO;
 use libc::STDOUT_FILENO;
-use listing::Text;
+use text::Text;
 
 // Writes a file's name and what is wrong with it on standard error.
 pub fn tell(path: &[u8], fault: &[u8]) {

@@ -1,8 +1,7 @@
--- The laws behind the proofs of this crate, and those that other crates use: Access, Accepted, Front.
+-- The laws behind the proofs of this crate, and those that other crates use of numbers, rows, refusals and accepted files.
 pub mod Numbers
 pub mod Values
 pub mod Rows
-pub mod Letters
 pub mod Fields
 pub mod Refusal
 pub mod Access

@@ -1,4 +1,4 @@
--- What refuses a file, test by test. Each law's premises are the facts as the code has them at one of its returns.
+-- What refuses a file, test by test. Each law has as premises the facts that `file_parts` or `validation` has at one of its returns.
 use mathlib.Core.Path.{_≡_, refl, sym, _∙_}
 use mathlib.Core.Bool.{Bool, true, false, _&&_, not}
 use mathlib.Core.List.{List}

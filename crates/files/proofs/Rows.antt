@@ -1,15 +1,14 @@
--- Values and rows read at an offset of the file, and the scan that tests values one by one.
-use mathlib.Core.Path.{_≡_, refl, sym, ap, _∙_}
-use mathlib.Core.Bool.{Bool, true, false, _&&_, not}
+-- Values and rows read at an offset of the file.
+use mathlib.Core.Path.{_≡_, refl, ap}
+use mathlib.Core.Bool.{Bool, true, false, _&&_}
 use mathlib.Core.List.{List, [], _∷_, _++_}
-use Prim.Native.Nat.{ℕ, zero, suc, _+_, _*_, _-_, _≤_, _<_}
+use Prim.Native.Nat.{ℕ, zero, suc, _+_, _*_, _<_}
 use native.Mathlib.Nat.{zero-mul, suc-mul, zero-add, suc-add}
 use native.Mathlib.Omega.{arith}
-use borrow.Author.Tests.{not-true, not-false}
 use lib.IntN.{ℤ, pos}
 use lib.ListN.{length, getD, take, drop}
 use lib.Seq.{drop-drop, take-nil, take-take}
-use Rattle.files.specs.Bytes.{number, value, values, in-range, all-in-range}
+use Rattle.files.specs.Bytes.{number, value, values, all-in-range}
 use Rattle.files.specs.Book.{rows-from, all-rows-in-range}
 
 -- ---- lengths
@@ -92,39 +91,3 @@ rows-flat zero c bs = rw zero-mul
 rows-flat (suc n) c bs =
     let e : suc n * c ≡ c + n * c = omega (arith, suc-mul n c) in
     rw (e, values-add c (n * c) bs, all-in-range-append, rows-flat n c (drop (2 * c) bs))
-
--- ---- the scan
--- after i values in range, the rest decides
-pub record Scanned (bs : List ℕ) (at count i : ℕ) : Type 0 where
-  pub within : i ≤ count
-  pub decides : all-in-range (values count (drop at bs)) ≡ all-in-range (values (count - i) (drop (at + 2 * i) bs))
-
-module _ {bs : List ℕ} {at count : ℕ} where
-  pub scanned-start : Scanned bs at count 0
-  scanned-start =
-      let e : count - 0 ≡ count = omega arith in
-      let p : at + 2 * 0 ≡ at = omega arith in
-      record { within = omega arith; decides = rw (e, p) }
-
-  module _ {i : ℕ} (s : Scanned bs at count i) where
-    next : i < count → all-in-range (values count (drop at bs)) ≡ in-range (value (number (at + 2 * i) 2 bs)) && all-in-range (values (count - (i + 1)) (drop (at + 2 * (i + 1)) bs))
-    unfolding all-in-range
-    next h =
-        let e : count - i ≡ suc (count - (i + 1)) = omega arith in
-        let p : at + 2 * (i + 1) ≡ at + 2 * i + 2 = omega arith in
-        s .decides ∙ rw (e, p, values-suc)
-
-    module _ (v : ℕ) (g : Bool) (h : i < count) (ev : v ≡ number (at + 2 * i) 2 bs) (eg : g ≡ in-range (value v)) where
-      pub scanned-more : not g ≡ false → Scanned bs at count (i + 1)
-      scanned-more t =
-          let e : in-range (value v) ≡ true = sym eg ∙ not-false g t in
-          record { within = omega arith; decides = next h ∙ simp (← ev, e) }
-
-      pub scanned-out : not g ≡ true → false ≡ all-in-range (values count (drop at bs))
-      scanned-out t =
-          let e : in-range (value v) ≡ false = sym eg ∙ not-true g t in
-          sym (next h ∙ simp (← ev, e))
-
-    pub scanned-end : count ≤ i → true ≡ all-in-range (values count (drop at bs))
-    unfolding values all-in-range
-    scanned-end h = let e : count - i ≡ 0 = omega arith in sym (s .decides ∙ rw e)

@@ -1,10 +1,10 @@
--- The value of 16 bits as the code computes it, its bound, and its range test.
-use mathlib.Core.Path.{_≡_, refl, sym}
+-- The value of 16 bits as the code computes it, and the bound of a value in range.
+use mathlib.Core.Path.{_≡_, refl}
 use mathlib.Core.Bool.{Bool, true, false, cond}
 use Prim.Native.Nat.{ℕ, suc, _+_, _-_, _%_, _≤_, _<_}
 use native.Mathlib.Omega.{arith}
-use borrow.Author.Tests.{lt-ltb, le-ltb, le-leb, lt-leb, ltb-true, ltb-false, leb-true, leb-false}
-use lib.Dec.{ltb, leb}
+use borrow.Author.Tests.{lt-ltb, le-ltb, ltb-true, ltb-false, leb-true}
+use lib.Dec.{ltb}
 use lib.IntN.{ℤ, pos, negsuc, natAbs, _-ℤ_}
 use mir.Syntax.{w32}
 use mir.Val.{toZ, SFits}
@@ -37,17 +37,6 @@ value-bound v = abs-by (ltb v 32768) v refl
 
 pub value-fits : (v : ℕ) → SFits w32 (value v)
 value-fits v = fits w32 32768 (value-bound v) tt
-
-range-by : (t r : Bool) (v : ℕ) → ltb v 32768 ≡ t → leb ((v + 2000) % 65536) 4000 ≡ r → v < 65536 → in-range (cond t (pos v) (negsuc (65535 - v))) ≡ r
-unfolding in-range
-range-by true true v e f k = le-leb v 2000 (omega (arith, ltb-true v 32768 e, leb-true ((v + 2000) % 65536) 4000 f))
-range-by true false v e f k = lt-leb v 2000 (omega (arith, ltb-true v 32768 e, leb-false ((v + 2000) % 65536) 4000 f))
-range-by false true v e f k = lt-ltb (65535 - v) 2000 (omega (arith, ltb-false v 32768 e, leb-true ((v + 2000) % 65536) 4000 f))
-range-by false false v e f k = le-ltb (65535 - v) 2000 (omega (arith, ltb-false v 32768 e, leb-false ((v + 2000) % 65536) 4000 f))
-
-pub in-range-shifted : (v : ℕ) → v < 65536 → leb ((v + 2000) % 65536) 4000 ≡ in-range (value v)
-unfolding value
-in-range-shifted v k = sym (range-by (ltb v 32768) (leb ((v + 2000) % 65536) 4000) v refl refl k)
 
 pub in-range-bound : (z : ℤ) → in-range z ≡ true → natAbs z ≤ 2000
 unfolding in-range

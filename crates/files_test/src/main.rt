@@ -37,14 +37,14 @@ fn put_sheet(file: &mut [u8], line: &[u8], value: u64) -> usize {
 fn book_refusal(line: &[u8], value: u64) -> u32 {
     let mut file = [0u8; 40001];
     let start = put_book(&mut file, line, value);
-    files::book_refusal(between(&file, start, 40001))
+    validation::book_refusal(between(&file, start, 40001))
 }
 
 fn sheet_refusal(line: &[u8], value: u64) -> u32 {
     let mut file = [0u8; 40001];
     let start = put_sheet(&mut file, line, value);
     let columns = (field(line, b'Q', 3) % 4294967296) as u32;
-    files::sheet_refusal(between(&file, start, 40001), columns)
+    validation::sheet_refusal(between(&file, start, 40001), columns)
 }
 
 fn files_refusal(book_line: &[u8], sheet_line: &[u8]) -> u32 {
@@ -52,7 +52,7 @@ fn files_refusal(book_line: &[u8], sheet_line: &[u8]) -> u32 {
     let mut sheet = [0u8; 40001];
     let i = put_book(&mut book, book_line, field(book_line, b'V', 0));
     let j = put_sheet(&mut sheet, sheet_line, field(sheet_line, b'V', 0));
-    files::files_refusal(between(&book, i, 40001), between(&sheet, j, 40001))
+    validation::files_refusal(between(&book, i, 40001), between(&sheet, j, 40001))
 }
 
 // The refusal of a line's file or files.

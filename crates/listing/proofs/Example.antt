@@ -4,8 +4,9 @@ use mathlib.Core.List.{List, [], _∷_}
 use Prim.Native.Nat.{ℕ}
 use Rattle.method.specs.declared.Verdict.the-variants.{Within}
 use Rattle.method.specs.declared.Answer.{Answer}
-use Rattle.listing.specs.Decimal.{leading, decimal}
-use Rattle.listing.specs.Lines.{number-line, pair-line, verdict-word, boat-line, boat-lines, head-lines, listing-of}
+use Rattle.text.specs.Decimal.{leading, decimal}
+use Rattle.text.specs.Lines.{number-line, pair-line}
+use Rattle.listing.specs.Lines.{verdict-word, boat-line, boat-lines, head-lines, listing-of}
 
 abbrev answer : Answer
 answer = record { steps = 3; weight = 6; distance = 8; gap = 56; verdict = Within }

@@ -9,11 +9,12 @@ use lib.ListN.{length, getD, take, length-append}
 use lib.Seq.{take-suc, length-take-le}
 use Rattle.method.specs.declared.Verdict.{Verdict}
 use Rattle.method.specs.declared.Answer.{Answer}
-use Rattle.listing.specs.Lines.{fleet-word, sheet-word, distance-word, gap-word, boat-word, number-line, pair-line, verdict-word, boat-line, boat-lines, head-lines}
-use Rattle.listing.specs.Texts.{Holds, Adds}
-use Rattle.listing.specs.declared.Text.{Text}
-use Rattle.listing.proofs.Decimals.{figures-at-most}
-use Rattle.listing.proofs.Texts.{adds-both, adds-to-empty}
+use Rattle.listing.specs.Lines.{fleet-word, sheet-word, distance-word, gap-word, boat-word, verdict-word, boat-line, boat-lines, head-lines}
+use Rattle.text.specs.Lines.{number-line, pair-line}
+use Rattle.text.specs.Texts.{Holds, Adds}
+use Rattle.text.specs.declared.Text.{Text}
+use Rattle.text.proofs.Decimals.{figures-at-most}
+use Rattle.text.proofs.Texts.{adds-both, adds-to-empty}
 
 pub verdict-added : {t u : Text} {word : List ℕ} (v : Verdict) (m n : ℕ) → verdict-word v ≡ word → length word ≤ 7 → Adds t (pair-line word m n) u × (u .len ≤ t .len + length word + 42) →
     Adds t (pair-line (verdict-word v) m n) u × (u .len ≤ t .len + 49)

@@ -1,5 +1,5 @@
--- The listing of an outcome and of a search. Assumes nothing.
-use mathlib.Core.Path.{_≡_, refl, sym, ap, _∙_}
+-- The listing of an outcome of a search or of a card check. Assumes nothing.
+use mathlib.Core.Path.{_≡_, refl, sym}
 use mathlib.Core.Bool.{false}
 use mathlib.Core.List.{List, []}
 use Prim.Native.Nat.{ℕ, zero, suc, _≤_}
@@ -14,12 +14,11 @@ use Rattle.files.proofs.Accepted.{files-accepted}
 use Rattle.method.specs.declared.Answer.{Answer}
 use Rattle.method.specs.declared.Searched.{Searched}
 use Rattle.method.specs.declared.Searched.the-variants.{Refused, Answered}
-use Rattle.method.specs.Answers.{outcome, search-refusal, slots-after, run-answer, run-iterate}
-use Rattle.method.proofs.Accepted.{share-count}
-use Rattle.listing.specs.Lines.{refused-line, boat-lines, head-lines, listing-of, outcome-listing, search-listing, Listable}
-use Rattle.listing.specs.Texts.{Holds, Adds}
-use Rattle.listing.specs.declared.Text.{Text}
-use Rattle.listing.proofs.Texts.{adds-to-empty, holds-more}
+use Rattle.method.specs.Answers.{outcome, search-refusal, slots-after}
+use Rattle.listing.specs.Lines.{refused-line, boat-lines, head-lines, listing-of, outcome-listing, Listable}
+use Rattle.text.specs.Texts.{Holds, Adds}
+use Rattle.text.specs.declared.Text.{Text}
+use Rattle.text.proofs.Texts.{adds-to-empty, holds-more}
 
 module _ (b s : List ℕ) (ok : files-refusal b s ≡ 0) where
   pub book-length : 12 ≤ length b
@@ -62,7 +61,7 @@ unfolding outcome slots-after outcome-listing
 same-listing b s slots qs a zero h = rw (take-at qs (drop (length qs) slots) (boats b) (h refl), take-all (boats b) qs (omega (arith, h refl)))
 same-listing b s slots qs a (suc n) h = refl
 
--- ---- A search with a share list of 256 slots, which is long enough
+-- ---- The refusal of a share list of 256 slots, which is long enough
 
 refusal-is : (b s : List ℕ) (n : ℕ) → n ≡ files-refusal b s → search-refusal b s 256 ≡ n
 unfolding search-refusal
@@ -71,21 +70,3 @@ refusal-is b s (suc n) e = rw (← e, eqb·suc-zero n)
 
 pub same-refusal : (b s : List ℕ) → search-refusal b s 256 ≡ files-refusal b s
 same-refusal b s = refusal-is b s (files-refusal b s) refl
-
-shares-length : (b s : List ℕ) → files-refusal b s ≡ 0 → length (run-iterate b s .shares) ≡ boats b
-unfolding run-iterate
-shares-length b s ok = share-count b s ok _
-
-module _ (b s slots : List ℕ) {r : Searched} (e : r ≡ outcome (search-refusal b s 256) (run-answer b s)) where
-  found : r ≡ outcome (files-refusal b s) (run-answer b s)
-  found = e ∙ ap (λ (n : ℕ). outcome n (run-answer b s)) (same-refusal b s)
-
-  pub search-listable : Listable b s r
-  search-listable = rw found (listable b s (files-refusal b s) (run-answer b s) (λ h. h))
-
-  pub search-listed : {now : List ℕ} {t : Text} → now ≡ slots-after (search-refusal b s 256) (run-iterate b s .shares) slots → Holds (outcome-listing b s r now) t → Holds (search-listing b s) t
-  unfolding search-listing
-  search-listed {now} {t} f h =
-      let g : now ≡ slots-after (files-refusal b s) (run-iterate b s .shares) slots = f ∙ ap (λ (n : ℕ). slots-after n (run-iterate b s .shares) slots) (same-refusal b s) in
-      let k : outcome-listing b s r now ≡ search-listing b s = rw (found, g) (same-listing b s slots (run-iterate b s .shares) (run-answer b s) (files-refusal b s) (shares-length b s)) in
-      rw k at h

@@ -1,3 +1,2 @@
-pub mod Decimal
+-- The definitions of this crate.
 pub mod Lines
-pub mod Texts

@@ -10,8 +10,7 @@ use Rattle.method.specs.declared.Verdict.the-variants.{Within, Beyond, Spent}
 use Rattle.method.specs.declared.Answer.{Answer}
 use Rattle.method.specs.declared.Searched.{Searched}
 use Rattle.method.specs.declared.Searched.the-variants.{Refused, Answered}
-use Rattle.method.specs.Answers.{outcome, run-answer, run-iterate}
-use Rattle.listing.specs.Decimal.{decimal}
+use Rattle.text.specs.Lines.{number-line, pair-line}
 
 -- ---- The words, each with the space after it
 
@@ -51,13 +50,7 @@ boat-word = 98 ∷ 111 ∷ 97 ∷ 116 ∷ 32 ∷ []
 abbrev pub refused-word : List ℕ
 refused-word = 114 ∷ 101 ∷ 102 ∷ 117 ∷ 115 ∷ 101 ∷ 100 ∷ 32 ∷ []
 
--- ---- Lines: a word, one number or two with a space between, a newline
-
-unfoldable pub number-line : (word : List ℕ) → (a : ℕ) → List ℕ
-number-line word a = word ++ (decimal a ++ (10 ∷ []))
-
-unfoldable pub pair-line : (word : List ℕ) → (a b : ℕ) → List ℕ
-pair-line word a b = word ++ (decimal a ++ ((32 ∷ []) ++ (decimal b ++ (10 ∷ []))))
+-- ---- Lines
 
 unfoldable pub verdict-word : Verdict → List ℕ
 verdict-word Within = within-word
@@ -91,10 +84,6 @@ refused-line n = number-line refused-word n
 unfoldable pub outcome-listing : (book sheet : List ℕ) → Searched → (slots : List ℕ) → List ℕ
 outcome-listing b s (Refused n) slots = refused-line n
 outcome-listing b s (Answered a) slots = listing-of (boats b) (columns b) (sheet s .tolerance) (sheet s .steps) a (take (boats b) slots)
-
--- of the search of a fleet book and a sheet
-unfoldable pub search-listing : (book sheet : List ℕ) → List ℕ
-search-listing b s = outcome-listing b s (outcome (files-refusal b s) (run-answer b s)) (run-iterate b s .shares)
 
 -- that an answer is of files that are not refused
 unfoldable pub Listable : (book sheet : List ℕ) → Searched → Type 0

@@ -31,6 +31,6 @@ fn main() {
     let n = file_io::read_file(b"fleet.wbk", &mut book);
     let m = file_io::read_file(b"sheet.wsh", &mut sheet);
     if write(&book[..n], &sheet[..m]) {
-        file_io::print(listing::search_listing(&book[..n], &sheet[..m]));
+        file_io::print(search_listing::search_listing(&book[..n], &sheet[..m]));
     }
 }

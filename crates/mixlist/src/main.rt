@@ -5,5 +5,5 @@ fn main() {
     let mut sheet = [0u8; 40001];
     let n = file_io::read_file(b"fleet.wbk", &mut book);
     let m = file_io::read_file(b"sheet.wsh", &mut sheet);
-    file_io::print(listing::search_listing(&book[..n], &sheet[..m]));
+    file_io::print(search_listing::search_listing(&book[..n], &sheet[..m]));
 }

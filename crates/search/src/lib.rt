@@ -274,7 +274,7 @@ pub fn search(book: &[u8], sheet: &[u8], shares: &mut [u16]) -> Searched
     ensures { λ _. ⌜ now (shares .exit) ≡ slots-after (search-refusal (now (book .entry)) (now (sheet .entry)) (length (now (shares .entry)))) (run-iterate (now (book .entry)) (now (sheet .entry)) .shares) (now (shares .entry)) ⌝ }
     ensures { λ r. ⌜ Outcome-right (now (book .entry)) (now (sheet .entry)) r (now (shares .exit)) ⌝ }
 {
-    let refusal = files::files_refusal(book, sheet);
+    let refusal = validation::files_refusal(book, sheet);
     if refusal != 0 {
         return Searched::Refused(refusal);
     }

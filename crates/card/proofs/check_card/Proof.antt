@@ -14,7 +14,7 @@ use Rattle.card.proofs.judged.Reads as judged-reads
 use Rattle.card_input.proofs.form_refusal.Reads as form-refusal-reads
 use Rattle.card_input.proofs.pair_count.Reads as pair-count-reads
 use Rattle.card_input.proofs.shares_of.Reads as shares-of-reads
-use Rattle.files.proofs.files_refusal.Reads as files-refusal-reads
+use Rattle.validation.proofs.files_refusal.Reads as files-refusal-reads
 use Rattle.files.proofs.steps.Reads as steps-reads
 use Rattle.search.proofs.fill.Reads as fill-reads
 use Rattle.search.proofs.layout_of.Reads as layout-of-reads

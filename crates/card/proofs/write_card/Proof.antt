@@ -13,7 +13,7 @@ use Rattle.card_output.proofs.put_pairs.Reads as put-pairs-reads
 use Rattle.card_output.proofs.put_trailer.Reads as put-trailer-reads
 use Rattle.files.proofs.boats.Reads as boats-reads
 use Rattle.files.proofs.columns.Reads as columns-reads
-use Rattle.files.proofs.files_refusal.Reads as files-refusal-reads
+use Rattle.validation.proofs.files_refusal.Reads as files-refusal-reads
 use Rattle.files.proofs.tolerance.Reads as tolerance-reads
 use Rattle.search.proofs.run.Reads as run-reads
 

@@ -10,7 +10,7 @@ use Rattle.card_input.proofs.form_refusal.Reads as reads
 use Rattle.card_input.proofs.form_refusal.Lts as lts
 use Rattle.card_input.proofs.back_fits.Reads as back-fits-reads
 use Rattle.card_input.proofs.counts_agree.Reads as counts-agree-reads
-use Rattle.card_input.proofs.is_between.Reads as is-between-reads
+use Rattle.file_parts.proofs.is_between.Reads as is-between-reads
 use Rattle.card_input.proofs.is_lettered.Reads as is-lettered-reads
 use Rattle.card_input.proofs.pair_count.Reads as pair-count-reads
 use Rattle.card_input.proofs.pairs_in_order.Reads as pairs-in-order-reads

@@ -5,7 +5,7 @@ use Rattle.card_input.proofs.steps_fit.Statement.{statement}
 use Rattle.card_input.proofs.steps_fit.Tie as tie
 use Rattle.card_input.proofs.steps_fit.Reads as reads
 use Rattle.card_input.proofs.steps_fit.Lts as lts
-use Rattle.card_input.proofs.is_between.Reads as is-between-reads
+use Rattle.file_parts.proofs.is_between.Reads as is-between-reads
 use Rattle.card_input.proofs.steps_used.Reads as steps-used-reads
 use Rattle.files.proofs.u16_at.Reads as u16-at-reads
 

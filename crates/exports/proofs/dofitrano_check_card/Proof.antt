@@ -1,7 +1,7 @@
 -- `exports::dofitrano_check_card` meets its contract.
 use mathlib.Core.Path.{ap, _∙_}
-use Rattle.exports.specs.Replies.{reply-of}
-use Rattle.exports.proofs.Replying.{checked-right}
+use Rattle.replies.specs.Replies.{reply-of}
+use Rattle.exports.proofs.Promises.{checked-right}
 use borrow.Author.Needs.{needs}
 use Rattle.exports.proofs.dofitrano_check_card.Statement.{statement}
 use Rattle.exports.proofs.dofitrano_check_card.Tie as tie

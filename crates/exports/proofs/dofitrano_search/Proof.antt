@@ -1,7 +1,7 @@
 -- `exports::dofitrano_search` meets its contract.
 use mathlib.Core.Path.{ap, _∙_}
-use Rattle.exports.specs.Replies.{reply-of}
-use Rattle.exports.proofs.Replying.{searched-right}
+use Rattle.replies.specs.Replies.{reply-of}
+use Rattle.exports.proofs.Promises.{searched-right}
 use borrow.Author.Needs.{needs}
 use Rattle.exports.proofs.dofitrano_search.Statement.{statement}
 use Rattle.exports.proofs.dofitrano_search.Tie as tie

@@ -1,7 +1,7 @@
 -- `exports::dofitrano_write_card` meets its contract.
 use mathlib.Core.Path.{ap, _∙_}
-use Rattle.exports.specs.Replies.{card-reply-of}
-use Rattle.exports.proofs.Replying.{filed-right}
+use Rattle.replies.specs.Replies.{card-reply-of}
+use Rattle.exports.proofs.Promises.{filed-right}
 use borrow.Author.Needs.{needs}
 use Rattle.exports.proofs.dofitrano_write_card.Statement.{statement}
 use Rattle.exports.proofs.dofitrano_write_card.Tie as tie

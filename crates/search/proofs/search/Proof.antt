@@ -9,7 +9,7 @@ use Rattle.search.proofs.search.Tie as tie
 use Rattle.search.proofs.search.Reads as reads
 use Rattle.search.proofs.search.Lts as lts
 use Rattle.files.proofs.boats.Reads as boats-reads
-use Rattle.files.proofs.files_refusal.Reads as files-refusal-reads
+use Rattle.validation.proofs.files_refusal.Reads as files-refusal-reads
 use Rattle.search.proofs.fill.Reads as fill-reads
 use Rattle.search.proofs.run.Reads as run-reads
 

@@ -1,0 +1,33 @@
+-- The listing of a search with a share list of 256 slots. Assumes nothing.
+use mathlib.Core.Path.{_≡_, ap, _∙_}
+use mathlib.Core.List.{List}
+use Prim.Native.Nat.{ℕ}
+use lib.ListN.{length}
+use Rattle.files.specs.Book.{boats}
+use Rattle.files.specs.Sheet.{files-refusal}
+use Rattle.method.specs.declared.Searched.{Searched}
+use Rattle.method.specs.Answers.{outcome, search-refusal, slots-after, run-answer, run-iterate}
+use Rattle.method.proofs.Accepted.{share-count}
+use Rattle.text.specs.Texts.{Holds}
+use Rattle.text.specs.declared.Text.{Text}
+use Rattle.listing.specs.Lines.{outcome-listing, Listable}
+use Rattle.listing.proofs.Outcomes.{listable, same-listing, same-refusal}
+use Rattle.search_listing.specs.Searches.{search-listing}
+
+shares-length : (b s : List ℕ) → files-refusal b s ≡ 0 → length (run-iterate b s .shares) ≡ boats b
+unfolding run-iterate
+shares-length b s ok = share-count b s ok _
+
+module _ (b s slots : List ℕ) {r : Searched} (e : r ≡ outcome (search-refusal b s 256) (run-answer b s)) where
+  found : r ≡ outcome (files-refusal b s) (run-answer b s)
+  found = e ∙ ap (λ (n : ℕ). outcome n (run-answer b s)) (same-refusal b s)
+
+  pub search-listable : Listable b s r
+  search-listable = rw found (listable b s (files-refusal b s) (run-answer b s) (λ h. h))
+
+  pub search-listed : {now : List ℕ} {t : Text} → now ≡ slots-after (search-refusal b s 256) (run-iterate b s .shares) slots → Holds (outcome-listing b s r now) t → Holds (search-listing b s) t
+  unfolding search-listing
+  search-listed {now} {t} f h =
+      let g : now ≡ slots-after (files-refusal b s) (run-iterate b s .shares) slots = f ∙ ap (λ (n : ℕ). slots-after n (run-iterate b s .shares) slots) (same-refusal b s) in
+      let k : outcome-listing b s r now ≡ search-listing b s = rw (found, g) (same-listing b s slots (run-iterate b s .shares) (run-answer b s) (files-refusal b s) (shares-length b s)) in
+      rw k at h

@@ -1,0 +1,30 @@
+-- What a text holds, and a text with bytes added. Definitions only. Assumes nothing.
+use mathlib.Core.Path.{_≡_}
+use mathlib.Core.List.{List, _++_}
+use Prim.Native.Nat.{ℕ, _+_, _≤_}
+use lib.ListN.{length, take, drop}
+use Rattle.text.specs.Decimal.{decimal}
+use Rattle.text.specs.declared.Figures.{Figures}
+use Rattle.text.specs.declared.Text.{Text}
+
+-- the bytes that a text holds
+abbrev pub bytes-of : Text → List ℕ
+bytes-of t = take (t .len) (t .bytes)
+
+-- a text of these bytes
+pub record Holds (l : List ℕ) (t : Text) : Type 0 where
+  pub fits : t .len ≤ 4096
+  pub length-is : t .len ≡ length l
+  pub bytes-are : bytes-of t ≡ l
+
+-- the text u is t followed by these bytes
+pub record Adds (t : Text) (l : List ℕ) (u : Text) : Type 0 where
+  pub fits : u .len ≤ 4096
+  pub length-is : u .len ≡ t .len + length l
+  pub bytes-are : bytes-of u ≡ bytes-of t ++ l
+
+-- the figures of n stand at the end of a buffer
+pub record Figures-of (n : ℕ) (x : Figures) : Type 0 where
+  pub starts : x .at ≤ 20
+  pub long : length (x .bytes) ≡ 20
+  pub figures-are : drop (x .at) (x .bytes) ≡ decimal n

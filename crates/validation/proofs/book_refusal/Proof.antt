@@ -1,0 +1,41 @@
+-- `validation::book_refusal` meets its contract: a law of `Refusal` for each return. The passed tests bound what the calls require.
+use native.Mathlib.Omega.{arith}
+use borrow.Author.Needs.{needs}
+use Rattle.files.proofs.Refusal.{at-least, few-values, book-length-out, book-letters-differ, boats-out, columns-out, book-body}
+use Rattle.validation.proofs.book_refusal.Statement.{statement}
+use Rattle.validation.proofs.book_refusal.Tie as tie
+
+returns : tie.Need-returns
+returns c = search (needs, book-length-out)
+
+ends-with-requires : tie.Need-ends-with-requires
+ends-with-requires c κs = omega (arith, at-least _ _ _ _ (c .before .before .is-between .ensures) (c .before .if1 .left))
+
+returns-2 : tie.Need-returns-2
+returns-2 c = search (needs, book-letters-differ)
+
+boats-requires : tie.Need-boats-requires
+boats-requires c κs = search (needs, at-least)
+
+returns-3 : tie.Need-returns-3
+returns-3 c = search (needs, boats-out)
+
+columns-requires : tie.Need-columns-requires
+columns-requires c κs = search (needs, at-least)
+
+returns-4 : tie.Need-returns-4
+returns-4 c = search (needs, columns-out)
+
+mul-body-refusal : tie.Need-mul-body-refusal
+mul-body-refusal c = omega (arith, few-values _ _ _ _ (c .before .before .before .before .is-between2 .ensures) (c .before .before .before .if3 .left) (c .before .is-between3 .ensures) (c .if4 .left))
+
+body-refusal-requires : tie.Need-body-refusal-requires
+body-refusal-requires c κs = (search needs, search (needs, at-least), omega (arith, few-values _ _ _ _ (c .before .before .before .before .is-between2 .ensures) (c .before .before .before .if3 .left) (c .before .is-between3 .ensures) (c .if4 .left)))
+
+returns-5 : tie.Need-returns-5
+returns-5 c = search (needs, book-body)
+
+pub book-refusal-spec : {M : Type 1} → statement M
+book-refusal-spec =
+    tie.close
+    (tie.spec (λ c κs. search needs) returns (λ c. search needs) ends-with-requires returns-2 boats-requires (λ c κs. search needs) returns-3 columns-requires (λ c κs. search needs) returns-4 mul-body-refusal body-refusal-requires returns-5)

@@ -1,0 +1,63 @@
+// The number that refuses a fleet book or a sheet, or 0. docs/formats.md has the numbers.
+//
+// Entries, which ask nothing of their caller: book_refusal, sheet_refusal, files_refusal.
+ghost use mathlib.Core.Path.{_≡_};
+ghost use Rattle.files.specs.Book.{book-refusal};
+ghost use Rattle.files.specs.Sheet.{sheet-refusal, files-refusal};
+
+// The most bytes a file may have.
+const MOST_BYTES: usize = 40000;
+
+// The number that refuses a fleet book, or 0.
+pub fn book_refusal(book: &[u8]) -> u32
+    ensures { λ r. ⌜ r ≡ book-refusal (now (book .entry)) ⌝ }
+{
+    if !file_parts::is_between(12, MOST_BYTES, book.len()) {
+        return 1;
+    }
+    if !file_parts::ends_with(book, b"WBK1") {
+        return 2;
+    }
+    let n = files::boats(book);
+    if !file_parts::is_between(1, 256, n) {
+        return 3;
+    }
+    let c = files::columns(book);
+    if !file_parts::is_between(1, 64, c) {
+        return 4;
+    }
+    file_parts::body_refusal(book, 12, n * c, 5, 6)
+}
+
+// The number that refuses a sheet for a fleet book of so many columns, or 0.
+pub fn sheet_refusal(sheet: &[u8], columns: u32) -> u32
+    ensures { λ r. ⌜ r ≡ sheet-refusal columns (now (sheet .entry)) ⌝ }
+{
+    if !file_parts::is_between(16, MOST_BYTES, sheet.len()) {
+        return 11;
+    }
+    if !file_parts::ends_with(sheet, b"WSH1") {
+        return 12;
+    }
+    if files::sheet_columns(sheet) != columns {
+        return 13;
+    }
+    if !file_parts::is_between(1, 360, files::steps(sheet) as usize) {
+        return 14;
+    }
+    if files::tolerance(sheet) > 1024000000 {
+        return 15;
+    }
+    file_parts::body_refusal(sheet, 16, columns as usize, 16, 17)
+}
+
+// The number that refuses a fleet book or else a sheet for it, or 0.
+pub fn files_refusal(book: &[u8], sheet: &[u8]) -> u32
+    ensures { λ r. ⌜ r ≡ files-refusal (now (book .entry)) (now (sheet .entry)) ⌝ }
+{
+    let refusal = book_refusal(book);
+    if refusal != 0 {
+        return refusal;
+    }
+    sheet_refusal(sheet, files::columns(book) as u32)
+}
