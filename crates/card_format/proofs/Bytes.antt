@@ -9,18 +9,17 @@ use borrow.Author.Tests.{ltb-true, lt-ltb}
 use lib.Dec.{ltb}
 use lib.ListN.{length, take, drop, length-append, length-drop}
 use lib.Seq.{drop-drop}
-use Rattle.files.specs.Bytes.{all-bytes, little-endian, number}
+use Rattle.files.specs.Bytes.{number-bytes, all-bytes, little-endian, number}
 use Rattle.files.proofs.Refusal.{and-true}
-use Rattle.card_format.specs.Format.{bytes}
 
-pub length-bytes : (w n : ℕ) → length (bytes w n) ≡ w
-unfolding bytes
+pub length-bytes : (w n : ℕ) → length (number-bytes w n) ≡ w
+unfolding number-bytes
 length-bytes zero n = refl
 length-bytes (suc w) n = ap suc (length-bytes w (n / 256))
 
 -- written and read back
-pub read-bytes : (w n : ℕ) → n < 256 ^ w → little-endian (bytes w n) ≡ n
-unfolding bytes little-endian
+pub read-bytes : (w n : ℕ) → n < 256 ^ w → little-endian (number-bytes w n) ≡ n
+unfolding number-bytes little-endian
 read-bytes zero n h = omega arith
 read-bytes (suc w) n h =
     let k : n < 256 * 256 ^ w = rw pow-succ' at h in
@@ -33,8 +32,8 @@ drop-bytes (suc k) [] h = h
 drop-bytes (suc k) (x ∷ xs) h = drop-bytes k xs (and-true (ltb x 256) (all-bytes xs) h .1)
 
 -- read and written again
-write-read : (w : ℕ) (xs : List ℕ) → all-bytes xs ≡ true → w ≤ length xs → bytes w (little-endian (take w xs)) ++ drop w xs ≡ xs
-unfolding bytes little-endian all-bytes
+write-read : (w : ℕ) (xs : List ℕ) → all-bytes xs ≡ true → w ≤ length xs → number-bytes w (little-endian (take w xs)) ++ drop w xs ≡ xs
+unfolding number-bytes little-endian all-bytes
 write-read zero xs h k = refl
 write-read (suc w) [] h k = absurd (omega arith)
 write-read (suc w) (x ∷ xs) h k =
@@ -46,6 +45,6 @@ write-read (suc w) (x ∷ xs) h k =
     rw (m, d) (ap (λ l. x ∷ l) (write-read w xs (p .1) (omega arith)))
 
 -- the number at an offset, written again before what follows it
-pub field : (a w : ℕ) (xs : List ℕ) → all-bytes xs ≡ true → a + w ≤ length xs → bytes w (number a w xs) ++ drop (a + w) xs ≡ drop a xs
+pub field : (a w : ℕ) (xs : List ℕ) → all-bytes xs ≡ true → a + w ≤ length xs → number-bytes w (number a w xs) ++ drop (a + w) xs ≡ drop a xs
 unfolding number
 field a w xs h k = rw (← drop-drop w a xs) (write-read w (drop a xs) (drop-bytes a xs h) (rw length-drop (omega arith)))

@@ -10,16 +10,16 @@ use borrow.Author.Tests.{eqb-true, eqb-false, ne-eqb, leb-true, le-leb, ltb-true
 use lib.Dec.{eqb, leb, ltb}
 use lib.ListN.{length, getD, drop, set, replicate, length-append, length-drop}
 use lib.Seq.{append-snoc, set-at}
-use Rattle.files.specs.Bytes.{all-bytes, number, little-endian}
+use Rattle.files.specs.Bytes.{number-bytes, all-bytes, number, little-endian}
 use Rattle.files.proofs.Refusal.{and-true}
 use Rattle.method.specs.Iterates.{support}
-use Rattle.card_format.specs.Format.{bytes, pair, pairs, shares-into}
+use Rattle.card_format.specs.Format.{pair, pairs, shares-into}
 use Rattle.card_format.specs.Checks.{pairs-in-order}
 use Rattle.card_format.proofs.Bytes.{length-bytes, read-bytes, drop-bytes, field}
 
 -- ---- One pair
 
-pub pair-some : (i q : ℕ) → 0 < q → pair i q ≡ bytes 2 i ++ bytes 2 q
+pub pair-some : (i q : ℕ) → 0 < q → pair i q ≡ number-bytes 2 i ++ number-bytes 2 q
 unfolding pair
 pair-some i q h = rw (ne-eqb q 0 (λ e. omega arith))
 
@@ -130,23 +130,23 @@ pub record Readable (i n k : ℕ) (bs qs : List ℕ) : Type 0 where
   pub sized : length bs ≡ 4 * k
   pub read : (zs : List ℕ) → length zs ≡ i → shares-into k bs (zs ++ replicate (length qs) 0) ≡ zs ++ qs
 
-front-boat : (i q : ℕ) (rest : List ℕ) → i < 65536 → number 0 2 ((bytes 2 i ++ bytes 2 q) ++ rest) ≡ i
-unfolding number bytes
-front-boat i q rest h = unfold bytes in read-bytes 2 i h
+front-boat : (i q : ℕ) (rest : List ℕ) → i < 65536 → number 0 2 ((number-bytes 2 i ++ number-bytes 2 q) ++ rest) ≡ i
+unfolding number number-bytes
+front-boat i q rest h = unfold number-bytes in read-bytes 2 i h
 
-front-share : (i q : ℕ) (rest : List ℕ) → q < 65536 → number 2 2 ((bytes 2 i ++ bytes 2 q) ++ rest) ≡ q
-unfolding number bytes
-front-share i q rest h = unfold bytes in read-bytes 2 q h
+front-share : (i q : ℕ) (rest : List ℕ) → q < 65536 → number 2 2 ((number-bytes 2 i ++ number-bytes 2 q) ++ rest) ≡ q
+unfolding number number-bytes
+front-share i q rest h = unfold number-bytes in read-bytes 2 q h
 
-front-drop : (i q : ℕ) (rest : List ℕ) → drop 4 ((bytes 2 i ++ bytes 2 q) ++ rest) ≡ rest
-unfolding bytes
+front-drop : (i q : ℕ) (rest : List ℕ) → drop 4 ((number-bytes 2 i ++ number-bytes 2 q) ++ rest) ≡ rest
+unfolding number-bytes
 front-drop i q rest = refl
 
 into-suc : (k : ℕ) (bs qs : List ℕ) → shares-into (suc k) bs qs ≡ shares-into k (drop 4 bs) (set qs (number 0 2 bs) (number 2 2 bs))
 unfolding shares-into
 into-suc k bs qs = refl
 
-pairs-some : (i q : ℕ) (qs : List ℕ) → 0 < q → pairs i (q ∷ qs) ≡ (bytes 2 i ++ bytes 2 q) ++ pairs (suc i) qs
+pairs-some : (i q : ℕ) (qs : List ℕ) → 0 < q → pairs i (q ∷ qs) ≡ (number-bytes 2 i ++ number-bytes 2 q) ++ pairs (suc i) qs
 unfolding pairs
 pairs-some i q qs h = rw (pair-some i q h)
 
@@ -159,7 +159,7 @@ readable-some q qs i n k l h r =
     rw (support-some q qs k, pairs-some i q qs k)
     (record {
       ordered = in-order {k = support qs} (record { from = omega (arith, boat); below = omega (arith, boat); some = omega (arith, share); later = rw (boat, front-drop) (r .ordered) });
-      sized = length-append (bytes 2 i ++ bytes 2 q) rest ∙ (omega (arith, length-append (bytes 2 i) (bytes 2 q), length-bytes 2 i, length-bytes 2 q, r .sized));
+      sized = length-append (number-bytes 2 i ++ number-bytes 2 q) rest ∙ (omega (arith, length-append (number-bytes 2 i) (number-bytes 2 q), length-bytes 2 i, length-bytes 2 q, r .sized));
       read = λ zs z.
           rw (into-suc, boat, share, front-drop, set-at zs 0 (replicate (length qs) 0) q i z, ← append-snoc zs q (replicate (length qs) 0), ← append-snoc zs q qs)
           (r .read (zs ++ (q ∷ [])) (length-append zs (q ∷ []) ∙ (omega arith)));

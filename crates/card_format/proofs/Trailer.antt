@@ -8,9 +8,9 @@ use borrow.Author.Tests.{eqb-true, eq-eqb}
 use lib.Dec.{eqb, ltb}
 use lib.ListN.{length, take, drop, length-append, take-append-drop}
 use lib.Seq.{drop-drop, drop-at, take-at}
-use Rattle.files.specs.Bytes.{all-bytes, little-endian, number, same, trailer, body}
+use Rattle.files.specs.Bytes.{number-bytes, all-bytes, little-endian, number, same, trailer, body}
 use Rattle.files.proofs.Refusal.{and-true}
-use Rattle.card_format.specs.Format.{bytes, Fields, WCD1, trailer-bytes, fields}
+use Rattle.card_format.specs.Format.{Fields, WCD1, trailer-bytes, fields}
 use Rattle.card_format.proofs.Bytes.{length-bytes, read-bytes, field}
 
 -- ---- The same bytes
@@ -38,45 +38,45 @@ pub record Fields-fit (f : Fields) : Type 0 where
   pub columns : f .columns < 65536
 
 pub length-trailer : (f : Fields) → length (trailer-bytes f) ≡ 36
-unfolding trailer-bytes bytes
+unfolding trailer-bytes number-bytes
 length-trailer f = refl
 
 pub letters-written : (f : Fields) → drop 32 (trailer-bytes f) ≡ WCD1
-unfolding trailer-bytes bytes
+unfolding trailer-bytes number-bytes
 letters-written f = refl
 
 -- the number at each offset is the one written there
 module _ (f : Fields) where
-  back-at : number 0 4 (trailer-bytes f) ≡ little-endian (bytes 4 (f .back))
-  unfolding number trailer-bytes bytes
+  back-at : number 0 4 (trailer-bytes f) ≡ little-endian (number-bytes 4 (f .back))
+  unfolding number trailer-bytes number-bytes
   back-at = refl
 
-  verdict-at : number 4 2 (trailer-bytes f) ≡ little-endian (bytes 2 (f .verdict))
-  unfolding number trailer-bytes bytes
+  verdict-at : number 4 2 (trailer-bytes f) ≡ little-endian (number-bytes 2 (f .verdict))
+  unfolding number trailer-bytes number-bytes
   verdict-at = refl
 
-  steps-at : number 6 2 (trailer-bytes f) ≡ little-endian (bytes 2 (f .steps))
-  unfolding number trailer-bytes bytes
+  steps-at : number 6 2 (trailer-bytes f) ≡ little-endian (number-bytes 2 (f .steps))
+  unfolding number trailer-bytes number-bytes
   steps-at = refl
 
-  tolerance-at : number 8 4 (trailer-bytes f) ≡ little-endian (bytes 4 (f .tolerance))
-  unfolding number trailer-bytes bytes
+  tolerance-at : number 8 4 (trailer-bytes f) ≡ little-endian (number-bytes 4 (f .tolerance))
+  unfolding number trailer-bytes number-bytes
   tolerance-at = refl
 
-  distance-at : number 12 8 (trailer-bytes f) ≡ little-endian (bytes 8 (f .distance))
-  unfolding number trailer-bytes bytes
+  distance-at : number 12 8 (trailer-bytes f) ≡ little-endian (number-bytes 8 (f .distance))
+  unfolding number trailer-bytes number-bytes
   distance-at = refl
 
-  gap-at : number 20 8 (trailer-bytes f) ≡ little-endian (bytes 8 (f .gap))
-  unfolding number trailer-bytes bytes
+  gap-at : number 20 8 (trailer-bytes f) ≡ little-endian (number-bytes 8 (f .gap))
+  unfolding number trailer-bytes number-bytes
   gap-at = refl
 
-  boats-at : number 28 2 (trailer-bytes f) ≡ little-endian (bytes 2 (f .boats))
-  unfolding number trailer-bytes bytes
+  boats-at : number 28 2 (trailer-bytes f) ≡ little-endian (number-bytes 2 (f .boats))
+  unfolding number trailer-bytes number-bytes
   boats-at = refl
 
-  columns-at : number 30 2 (trailer-bytes f) ≡ little-endian (bytes 2 (f .columns))
-  unfolding number trailer-bytes bytes
+  columns-at : number 30 2 (trailer-bytes f) ≡ little-endian (number-bytes 2 (f .columns))
+  unfolding number trailer-bytes number-bytes
   columns-at = refl
 
 -- a trailer written reads back

@@ -3,10 +3,10 @@
 -- Trailer, 36 bytes: back count (4), verdict (2), steps used (2), tolerance (4), E (8), G (8), boats (2) and columns (2) of the book, the letters WCD1.
 use mathlib.Core.Bool.{cond}
 use mathlib.Core.List.{List, [], _∷_, _++_}
-use Prim.Native.Nat.{ℕ, zero, suc, _+_, _*_, _/_, _%_}
+use Prim.Native.Nat.{ℕ, zero, suc, _+_, _*_, _/_}
 use lib.Dec.{eqb}
 use lib.ListN.{length, drop, set, replicate}
-use Rattle.files.specs.Bytes.{number, trailer, body}
+use Rattle.files.specs.Bytes.{number-bytes, number, trailer, body}
 use Rattle.files.specs.Book.{boats, columns, rows}
 use Rattle.files.specs.Sheet.{sheet}
 use Rattle.method.specs.declared.Answer.{Answer}
@@ -15,14 +15,9 @@ use Rattle.method.specs.Bounds.{mixture-iterate}
 
 -- ---- Writing
 
--- a number in so many bytes, the lowest first
-unfoldable pub bytes : (width : ℕ) → ℕ → List ℕ
-bytes zero n = []
-bytes (suc w) n = (n % 256) ∷ bytes w (n / 256)
-
 -- a boat and its share; nothing for a share of 0
 unfoldable pub pair : (boat share : ℕ) → List ℕ
-pair i q = cond (eqb q 0) [] (bytes 2 i ++ bytes 2 q)
+pair i q = cond (eqb q 0) [] (number-bytes 2 i ++ number-bytes 2 q)
 
 -- the shares of a list from this boat on
 unfoldable pub pairs : (boat : ℕ) → (shares : List ℕ) → List ℕ
@@ -45,8 +40,8 @@ WCD1 = 87 ∷ 67 ∷ 68 ∷ 49 ∷ []
 
 unfoldable pub trailer-bytes : Fields → List ℕ
 trailer-bytes f =
-    bytes 4 (f .back) ++ (bytes 2 (f .verdict) ++ (bytes 2 (f .steps) ++ (bytes 4 (f .tolerance)
-    ++ (bytes 8 (f .distance) ++ (bytes 8 (f .gap) ++ (bytes 2 (f .boats) ++ (bytes 2 (f .columns) ++ WCD1)))))))
+    number-bytes 4 (f .back) ++ (number-bytes 2 (f .verdict) ++ (number-bytes 2 (f .steps) ++ (number-bytes 4 (f .tolerance)
+    ++ (number-bytes 8 (f .distance) ++ (number-bytes 8 (f .gap) ++ (number-bytes 2 (f .boats) ++ (number-bytes 2 (f .columns) ++ WCD1)))))))
 
 -- an answer's numbers, after a body of so many bytes
 unfoldable pub answer-fields : Answer → (back tolerance boats columns : ℕ) → Fields

@@ -12,10 +12,10 @@ use lib.Seq.{drop-drop, drop-cons, drop-nil, take-nil, getD-take, length-take-le
 use mir.Syntax.{w8}
 use mir.Val.{Fits}
 use Rattle.frank_wolfe.specs.Vectors.{sum}
-use Rattle.files.specs.Bytes.{all-bytes, little-endian, number, same, between, length-in-range, trailer, body, body-offset, reaches}
+use Rattle.files.specs.Bytes.{number-bytes, all-bytes, little-endian, number, same, between, length-in-range, trailer, body, body-offset, reaches}
 use Rattle.files.proofs.Numbers.{number-2, number-in-trailer, drop-trailer}
 use Rattle.files.proofs.Refusal.{and-true, between-true}
-use Rattle.card_format.specs.Format.{bytes, WCD1, fields, card-fields, card-body, pair-count, shares-into}
+use Rattle.card_format.specs.Format.{WCD1, fields, card-fields, card-body, pair-count, shares-into}
 use Rattle.card_format.specs.Checks.{back-fits, pairs-in-order}
 use Rattle.card_format.proofs.Bytes.{field}
 use Rattle.card_format.proofs.Trailer.{same-eq}
@@ -64,14 +64,14 @@ module _ (w : List ℕ) (h : 36 ≤ length w) where
   columns-at = number-in-trailer 36 30 2 (length w - 6) w (omega arith)
 
   -- the letters, by their number
-  letters-are : all-bytes w ≡ true → bytes 4 (number (length w - 4) 4 w) ≡ drop (length w - 4) w
+  letters-are : all-bytes w ≡ true → number-bytes 4 (number (length w - 4) 4 w) ≡ drop (length w - 4) w
   letters-are all =
       let a = length w - 4 in
-      sym (append-nil (bytes 4 (number a 4 w))) ∙ ap (λ l. bytes 4 (number a 4 w) ++ l) (sym (drop-of-length-le w {i = a + 4} (omega arith)))
+      sym (append-nil (number-bytes 4 (number a 4 w))) ∙ ap (λ l. number-bytes 4 (number a 4 w) ++ l) (sym (drop-of-length-le w {i = a + 4} (omega arith)))
       ∙ field a 4 w all (omega arith)
 
   letters-same : all-bytes w ≡ true → number (length w - 4) 4 w ≡ 826557271 → same (drop (length w - 4) w) WCD1 ≡ true
-  letters-same all q = rw (← letters-are all, q) (unfold same bytes in refl)
+  letters-same all q = rw (← letters-are all, q) (unfold same number-bytes in refl)
 
   letters-number : drop (length w - 4) w ≡ WCD1 → number (length w - 4) 4 w ≡ 826557271
   unfolding number little-endian

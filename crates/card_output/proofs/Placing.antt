@@ -10,10 +10,11 @@ use borrow.Author.Tests.{eqb-true, eqb-false, ne-eqb}
 use lib.Dec.{eqb}
 use lib.ListN.{length, take, drop, set, getD, length-append, length-take, length-drop, length-set, take-append-drop, drop-of-length-le}
 use lib.Seq.{drop-drop, drop-append-add, drop-cons, getD-take, take-at, set-split, length-take-le}
+use Rattle.files.specs.Bytes.{number-bytes}
 use Rattle.method.specs.declared.Answer.{Answer}
 use Rattle.method.specs.Answers.{verdict-number}
 use Rattle.method.specs.Iterates.{support}
-use Rattle.card_format.specs.Format.{bytes, pair, pairs, WCD1, trailer-bytes, answer-fields}
+use Rattle.card_format.specs.Format.{pair, pairs, WCD1, trailer-bytes, answer-fields}
 use Rattle.card_format.proofs.Bytes.{length-bytes}
 use Rattle.card_format.proofs.Pairs.{pair-some}
 use Rattle.card_output.specs.Output.{placed}
@@ -51,18 +52,18 @@ placed-next out at xs ys after e f p h = f ∙ rw (e, p) (placed-then out at xs 
 
 -- ---- A number, byte by byte
 
-bytes-none : (n : ℕ) → bytes 0 n ≡ []
-unfolding bytes
+bytes-none : (n : ℕ) → number-bytes 0 n ≡ []
+unfolding number-bytes
 bytes-none n = refl
 
-bytes-more : (w n : ℕ) → bytes (suc w) n ≡ (n % 256) ∷ bytes w (n / 256)
-unfolding bytes
+bytes-more : (w n : ℕ) → number-bytes (suc w) n ≡ (n % 256) ∷ number-bytes w (n / 256)
+unfolding number-bytes
 bytes-more w n = refl
 
 pub record Putting (out : List ℕ) (at width number i rest : ℕ) (now : List ℕ) : Type 0 where
   pub within : i ≤ width
   pub long : length now ≡ length out
-  pub later : placed now (at + i) (bytes (width - i) rest) ≡ placed out at (bytes width number)
+  pub later : placed now (at + i) (number-bytes (width - i) rest) ≡ placed out at (number-bytes width number)
 
 pub put-start : {out : List ℕ} {at width number : ℕ} → Putting out at width number 0 number out
 put-start {out} {at} {width} =
@@ -80,10 +81,10 @@ module _ {out : List ℕ} {at width number i rest : ℕ} {now : List ℕ} (d : P
         long = length-set now (at + i) (rest % 256) ∙ d .long;
         later =
             rw (placed-set now (at + i) (rest % 256) (omega (arith, d .long)), p)
-            (placed-then now (at + i) (rest % 256 ∷ []) (bytes (width - (i + 1)) (rest / 256)) (omega (arith, d .long)) ∙ (rw (e, bytes-more) at (d .later)));
+            (placed-then now (at + i) (rest % 256 ∷ []) (number-bytes (width - (i + 1)) (rest / 256)) (omega (arith, d .long)) ∙ (rw (e, bytes-more) at (d .later)));
       }
 
-  pub put-end : width ≤ i → now ≡ placed out at (bytes width number)
+  pub put-end : width ≤ i → now ≡ placed out at (number-bytes width number)
   put-end h =
       let e : width - i ≡ 0 = omega arith in
       sym (placed-nil now (at + i)) ∙ (rw (e, bytes-none) at (d .later))
@@ -91,33 +92,33 @@ module _ {out : List ℕ} {at width number i rest : ℕ} {now : List ℕ} (d : P
 -- ---- The trailer
 
 -- what is left of a run of numbers, one after the other
-module _ (out : List ℕ) {o₁ o₂ o₃ o₄ : List ℕ} (at a b c d : ℕ) (h : at + 12 ≤ length out) (e₁ : o₁ ≡ placed out at (bytes 4 a)) (e₂ : o₂ ≡ placed o₁ (at + 4) (bytes 2 b))
-    (e₃ : o₃ ≡ placed o₂ (at + 6) (bytes 2 c)) (e₄ : o₄ ≡ placed o₃ (at + 8) (bytes 4 d)) where
-  pub head-placed : o₄ ≡ placed out at (bytes 4 a ++ (bytes 2 b ++ (bytes 2 c ++ bytes 4 d)))
-  unfolding bytes
+module _ (out : List ℕ) {o₁ o₂ o₃ o₄ : List ℕ} (at a b c d : ℕ) (h : at + 12 ≤ length out) (e₁ : o₁ ≡ placed out at (number-bytes 4 a)) (e₂ : o₂ ≡ placed o₁ (at + 4) (number-bytes 2 b))
+    (e₃ : o₃ ≡ placed o₂ (at + 6) (number-bytes 2 c)) (e₄ : o₄ ≡ placed o₃ (at + 8) (number-bytes 4 d)) where
+  pub head-placed : o₄ ≡ placed out at (number-bytes 4 a ++ (number-bytes 2 b ++ (number-bytes 2 c ++ number-bytes 4 d)))
+  unfolding number-bytes
   head-placed =
-      let p₂ = placed-next out at (bytes 4 a) (bytes 2 b) (at + 4) e₁ e₂ refl (omega arith) in
-      let p₃ = placed-next out at (bytes 4 a ++ bytes 2 b) (bytes 2 c) (at + 6) p₂ e₃ refl (omega arith) in
-      placed-next out at ((bytes 4 a ++ bytes 2 b) ++ bytes 2 c) (bytes 4 d) (at + 8) p₃ e₄ refl (omega arith)
+      let p₂ = placed-next out at (number-bytes 4 a) (number-bytes 2 b) (at + 4) e₁ e₂ refl (omega arith) in
+      let p₃ = placed-next out at (number-bytes 4 a ++ number-bytes 2 b) (number-bytes 2 c) (at + 6) p₂ e₃ refl (omega arith) in
+      placed-next out at ((number-bytes 4 a ++ number-bytes 2 b) ++ number-bytes 2 c) (number-bytes 4 d) (at + 8) p₃ e₄ refl (omega arith)
 
-module _ (out : List ℕ) {o₁ o₂ o₃ o₄ o₅ : List ℕ} (at a b c d : ℕ) (h : at + 24 ≤ length out) (e₁ : o₁ ≡ placed out at (bytes 8 a)) (e₂ : o₂ ≡ placed o₁ (at + 8) (bytes 8 b))
-    (e₃ : o₃ ≡ placed o₂ (at + 16) (bytes 2 c)) (e₄ : o₄ ≡ placed o₃ (at + 18) (bytes 2 d)) (e₅ : o₅ ≡ placed o₄ (at + 20) (bytes 4 826557271)) where
-  pub rest-placed : o₅ ≡ placed out at (bytes 8 a ++ (bytes 8 b ++ (bytes 2 c ++ (bytes 2 d ++ WCD1))))
-  unfolding bytes
+module _ (out : List ℕ) {o₁ o₂ o₃ o₄ o₅ : List ℕ} (at a b c d : ℕ) (h : at + 24 ≤ length out) (e₁ : o₁ ≡ placed out at (number-bytes 8 a)) (e₂ : o₂ ≡ placed o₁ (at + 8) (number-bytes 8 b))
+    (e₃ : o₃ ≡ placed o₂ (at + 16) (number-bytes 2 c)) (e₄ : o₄ ≡ placed o₃ (at + 18) (number-bytes 2 d)) (e₅ : o₅ ≡ placed o₄ (at + 20) (number-bytes 4 826557271)) where
+  pub rest-placed : o₅ ≡ placed out at (number-bytes 8 a ++ (number-bytes 8 b ++ (number-bytes 2 c ++ (number-bytes 2 d ++ WCD1))))
+  unfolding number-bytes
   rest-placed =
-      let p₂ = placed-next out at (bytes 8 a) (bytes 8 b) (at + 8) e₁ e₂ refl (omega arith) in
-      let p₃ = placed-next out at (bytes 8 a ++ bytes 8 b) (bytes 2 c) (at + 16) p₂ e₃ refl (omega arith) in
-      let p₄ = placed-next out at ((bytes 8 a ++ bytes 8 b) ++ bytes 2 c) (bytes 2 d) (at + 18) p₃ e₄ refl (omega arith) in
-      placed-next out at (((bytes 8 a ++ bytes 8 b) ++ bytes 2 c) ++ bytes 2 d) (bytes 4 826557271) (at + 20) p₄ e₅ refl (omega arith)
+      let p₂ = placed-next out at (number-bytes 8 a) (number-bytes 8 b) (at + 8) e₁ e₂ refl (omega arith) in
+      let p₃ = placed-next out at (number-bytes 8 a ++ number-bytes 8 b) (number-bytes 2 c) (at + 16) p₂ e₃ refl (omega arith) in
+      let p₄ = placed-next out at ((number-bytes 8 a ++ number-bytes 8 b) ++ number-bytes 2 c) (number-bytes 2 d) (at + 18) p₃ e₄ refl (omega arith) in
+      placed-next out at (((number-bytes 8 a ++ number-bytes 8 b) ++ number-bytes 2 c) ++ number-bytes 2 d) (number-bytes 4 826557271) (at + 20) p₄ e₅ refl (omega arith)
 
 pub trailer-placed : (out : List ℕ) {now new : List ℕ} (at tolerance n c v : ℕ) (a : Answer) → at + 36 ≤ length out → v ≡ verdict-number (a .verdict) →
-    now ≡ placed out at (bytes 4 at ++ (bytes 2 v ++ (bytes 2 (a .steps) ++ bytes 4 tolerance))) →
-    new ≡ placed now (at + 12) (bytes 8 (a .distance) ++ (bytes 8 (a .gap) ++ (bytes 2 n ++ (bytes 2 c ++ WCD1)))) →
+    now ≡ placed out at (number-bytes 4 at ++ (number-bytes 2 v ++ (number-bytes 2 (a .steps) ++ number-bytes 4 tolerance))) →
+    new ≡ placed now (at + 12) (number-bytes 8 (a .distance) ++ (number-bytes 8 (a .gap) ++ (number-bytes 2 n ++ (number-bytes 2 c ++ WCD1)))) →
     new ≡ placed out at (trailer-bytes (answer-fields a at tolerance n c))
-unfolding trailer-bytes answer-fields bytes
+unfolding trailer-bytes answer-fields number-bytes
 trailer-placed out at tolerance n c v a h ev e f =
-    placed-next out at (bytes 4 at ++ (bytes 2 (verdict-number (a .verdict)) ++ (bytes 2 (a .steps) ++ bytes 4 tolerance)))
-    (bytes 8 (a .distance) ++ (bytes 8 (a .gap) ++ (bytes 2 n ++ (bytes 2 c ++ WCD1)))) (at + 12) (rw ev at e) f refl (omega arith)
+    placed-next out at (number-bytes 4 at ++ (number-bytes 2 (verdict-number (a .verdict)) ++ (number-bytes 2 (a .steps) ++ number-bytes 4 tolerance)))
+    (number-bytes 8 (a .distance) ++ (number-bytes 8 (a .gap) ++ (number-bytes 2 n ++ (number-bytes 2 c ++ WCD1)))) (at + 12) (rw ev at e) f refl (omega arith)
 
 pub pair-none : (boat q : ℕ) → q ≡ 0 → pair boat q ≡ []
 unfolding pair
@@ -128,20 +129,20 @@ positive {q = zero} n = absurd (n refl)
 positive {q = suc q} n = omega arith
 
 -- a share above zero
-pub pair-placed : (out : List ℕ) {now new : List ℕ} (at boat q : ℕ) → (q ≡ 0 → ⊥) → at + length (pair boat q) ≤ length out → now ≡ placed out at (bytes 2 boat) → new ≡ placed now (at + 2) (bytes 2 q) →
+pub pair-placed : (out : List ℕ) {now new : List ℕ} (at boat q : ℕ) → (q ≡ 0 → ⊥) → at + length (pair boat q) ≤ length out → now ≡ placed out at (number-bytes 2 boat) → new ≡ placed now (at + 2) (number-bytes 2 q) →
     (at + 4 ≡ at + length (pair boat q)) × (new ≡ placed out at (pair boat q))
 pair-placed out at boat q n h e f =
     let p = pair-some boat q (positive n) in
-    let l = length-append (bytes 2 boat) (bytes 2 q) in
+    let l = length-append (number-bytes 2 boat) (number-bytes 2 q) in
     let k : length (pair boat q) ≡ 4 = ap length p ∙ (omega (arith, l, length-bytes 2 boat, length-bytes 2 q)) in
-    (omega arith, rw p (placed-next out at (bytes 2 boat) (bytes 2 q) (at + 2) e f (omega (arith, length-bytes 2 boat)) (omega (arith, length-bytes 2 boat))))
+    (omega arith, rw p (placed-next out at (number-bytes 2 boat) (number-bytes 2 q) (at + 2) e f (omega (arith, length-bytes 2 boat)) (omega (arith, length-bytes 2 boat))))
 
 -- a share of 0
 pub pair-skipped : (out : List ℕ) (at boat q : ℕ) → q ≡ 0 → (at ≡ at + length (pair boat q)) × (out ≡ placed out at (pair boat q))
 pair-skipped out at boat q e = rw (pair-none boat q e) (omega arith, sym (placed-nil out at))
 
 pub pair-long : (boat q : ℕ) → (q ≡ 0 → ⊥) → length (pair boat q) ≡ 4
-pair-long boat q n = ap length (pair-some boat q (positive n)) ∙ (omega (arith, length-append (bytes 2 boat) (bytes 2 q), length-bytes 2 boat, length-bytes 2 q))
+pair-long boat q n = ap length (pair-some boat q (positive n)) ∙ (omega (arith, length-append (number-bytes 2 boat) (number-bytes 2 q), length-bytes 2 boat, length-bytes 2 q))
 
 -- ---- The pairs of a share list
 

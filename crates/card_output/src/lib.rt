@@ -3,9 +3,10 @@ ghost use mathlib.Core.Path.{_≡_};
 ghost use mathlib.Core.List.{[], _∷_, _++_};
 ghost use Prim.Native.Nat.{_+_, _≤_};
 ghost use lib.ListN.{length, take};
+ghost use Rattle.files.specs.Bytes.{number-bytes};
 ghost use Rattle.method.specs.Answers.{verdict-number};
 ghost use Rattle.method.specs.Iterates.{support};
-ghost use Rattle.card_format.specs.Format.{bytes, pair, pairs, WCD1, trailer-bytes, answer-fields};
+ghost use Rattle.card_format.specs.Format.{pair, pairs, WCD1, trailer-bytes, answer-fields};
 ghost use Rattle.card_output.specs.Output.{placed};
 use method::Answer;
 use method::Verdict;
@@ -16,7 +17,7 @@ const LETTERS: u64 = 826557271;
 // The `width` bytes of a number from `at` on, the lowest first.
 pub fn put(output: &mut [u8], at: usize, width: usize, number: u64)
     requires { ⌜ at + width ≤ length (now output) ⌝ }
-    ensures { λ _. ⌜ now (output .exit) ≡ placed (now (output .entry)) at (bytes width number) ⌝ }
+    ensures { λ _. ⌜ now (output .exit) ≡ placed (now (output .entry)) at (number-bytes width number) ⌝ }
 {
     let mut rest = number;
     let mut i = 0;
@@ -92,7 +93,7 @@ pub fn verdict_number(v: Verdict) -> u64
 // The first 12 bytes of a trailer.
 fn put_head(output: &mut [u8], at: usize, back: u64, verdict: u64, steps: u64, tolerance: u64)
     requires { ⌜ at + 12 ≤ length (now output) ⌝ }
-    ensures { λ _. ⌜ now (output .exit) ≡ placed (now (output .entry)) at (bytes 4 back ++ (bytes 2 verdict ++ (bytes 2 steps ++ bytes 4 tolerance))) ⌝ }
+    ensures { λ _. ⌜ now (output .exit) ≡ placed (now (output .entry)) at (number-bytes 4 back ++ (number-bytes 2 verdict ++ (number-bytes 2 steps ++ number-bytes 4 tolerance))) ⌝ }
 {
     put(output, at, 4, back);
     put(output, at + 4, 2, verdict);
@@ -103,7 +104,7 @@ fn put_head(output: &mut [u8], at: usize, back: u64, verdict: u64, steps: u64, t
 // The 24 bytes of a trailer after those.
 fn put_rest(output: &mut [u8], at: usize, distance: u64, gap: u64, boats: u64, columns: u64)
     requires { ⌜ at + 24 ≤ length (now output) ⌝ }
-    ensures { λ _. ⌜ now (output .exit) ≡ placed (now (output .entry)) at (bytes 8 distance ++ (bytes 8 gap ++ (bytes 2 boats ++ (bytes 2 columns ++ WCD1)))) ⌝ }
+    ensures { λ _. ⌜ now (output .exit) ≡ placed (now (output .entry)) at (number-bytes 8 distance ++ (number-bytes 8 gap ++ (number-bytes 2 boats ++ (number-bytes 2 columns ++ WCD1)))) ⌝ }
 {
     put(output, at, 8, distance);
     put(output, at + 8, 8, gap);

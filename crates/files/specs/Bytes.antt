@@ -3,7 +3,7 @@
 -- The trailer begins with the back count, the number of bytes in the body; it ends with four letters.
 use mathlib.Core.Bool.{Bool, true, false, _&&_, not, cond}
 use mathlib.Core.List.{List, [], _∷_}
-use Prim.Native.Nat.{ℕ, zero, suc, _+_, _*_, _-_}
+use Prim.Native.Nat.{ℕ, zero, suc, _+_, _*_, _-_, _/_, _%_}
 use lib.Dec.{ltb, leb, eqb}
 use lib.ListN.{length, take, drop}
 use lib.IntN.{ℤ, pos, negsuc}
@@ -24,6 +24,11 @@ same (x ∷ xs) (y ∷ ys) = eqb x y && same xs ys
 unfoldable pub little-endian : List ℕ → ℕ
 little-endian [] = 0
 little-endian (b ∷ bs) = b + 256 * little-endian bs
+
+-- a number in so many bytes, the lowest first
+unfoldable pub number-bytes : (width : ℕ) → ℕ → List ℕ
+number-bytes zero v = []
+number-bytes (suc n) v = (v % 256) ∷ number-bytes n (v / 256)
 
 -- the number in the `width` bytes from offset `at`
 unfoldable pub number : (at width : ℕ) → List ℕ → ℕ

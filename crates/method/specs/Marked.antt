@@ -1,22 +1,18 @@
 -- The ten marked sheets: one table, from the bytes of the files to the whole outcome of a search, and one claim about it. Definitions only.
 use mathlib.Core.Path.{_≡_}
 use mathlib.Core.List.{List, [], _∷_, _++_, List·Memᴰ}
-use Prim.Native.Nat.{ℕ, zero, suc, _+_, _*_, _-_, _/_, _%_}
+use Prim.Native.Nat.{ℕ, zero, suc, _+_, _*_, _-_}
 use lib.ListN.{length, replicate}
 use lib.IntN.{ℤ, pos, negsuc}
 use Rattle.files.specs.Book.{WBK1}
 use Rattle.files.specs.Sheet.{WSH1}
 use Rattle.method.specs.declared.Verdict.the-variants.{Within, Beyond, Spent}
+use Rattle.files.specs.Bytes.{number-bytes}
 use Rattle.method.specs.declared.Searched.{Searched}
 use Rattle.method.specs.declared.Searched.the-variants.{Refused, Answered}
 use Rattle.method.specs.Answers.{outcome, run-iterate, run-answer, search-refusal, slots-after}
 
 -- ---- Files
-
--- a number in so many bytes, the lowest first
-unfoldable pub number-bytes : (width : ℕ) → ℕ → List ℕ
-number-bytes zero v = []
-number-bytes (suc n) v = (v % 256) ∷ number-bytes n (v / 256)
 
 -- 2 bytes, in two's complement
 unfoldable pub value-bytes : ℤ → List ℕ
