@@ -24,38 +24,47 @@ pub in-range-shifted : (v : ℕ) → v < 65536 → leb ((v + 2000) % 65536) 4000
 unfolding value
 in-range-shifted v k = sym (range-by (ltb v 32768) (leb ((v + 2000) % 65536) 4000) v refl refl k)
 
+and-false : (b : Bool) → b && false ≡ false
+and-false true = refl
+and-false false = refl
+
+and-true : (b : Bool) → b && true ≡ b
+and-true true = refl
+and-true false = refl
+
 -- ---- the scan
--- after i values in range, the rest decides
-pub record Scanned (bs : List ℕ) (at count i : ℕ) : Type 0 where
+-- after i values the test so far and the rest decide
+pub record Scanned (bs : List ℕ) (at count : ℕ) (good : Bool) (i : ℕ) : Type 0 where
   pub within : i ≤ count
-  pub decides : all-in-range (values count (drop at bs)) ≡ all-in-range (values (count - i) (drop (at + 2 * i) bs))
+  pub decides : all-in-range (values count (drop at bs)) ≡ good && all-in-range (values (count - i) (drop (at + 2 * i) bs))
 
 module _ {bs : List ℕ} {at count : ℕ} where
-  pub scanned-start : Scanned bs at count 0
+  pub scanned-start : Scanned bs at count true 0
   scanned-start =
       let e : count - 0 ≡ count = omega arith in
       let p : at + 2 * 0 ≡ at = omega arith in
       record { within = omega arith; decides = rw (e, p) }
 
-  module _ {i : ℕ} (s : Scanned bs at count i) where
-    next : i < count → all-in-range (values count (drop at bs)) ≡ in-range (value (number (at + 2 * i) 2 bs)) && all-in-range (values (count - (i + 1)) (drop (at + 2 * (i + 1)) bs))
+  module _ {good : Bool} {i : ℕ} (s : Scanned bs at count good i) where
+    next : i < count →
+        all-in-range (values count (drop at bs)) ≡ good && (in-range (value (number (at + 2 * i) 2 bs)) && all-in-range (values (count - (i + 1)) (drop (at + 2 * (i + 1)) bs)))
     unfolding all-in-range
     next h =
         let e : count - i ≡ suc (count - (i + 1)) = omega arith in
         let p : at + 2 * (i + 1) ≡ at + 2 * i + 2 = omega arith in
         s .decides ∙ rw (e, p, values-suc)
 
-    module _ (v : ℕ) (g : Bool) (h : i < count) (ev : v ≡ number (at + 2 * i) 2 bs) (eg : g ≡ in-range (value v)) where
-      pub scanned-more : not g ≡ false → Scanned bs at count (i + 1)
-      scanned-more t =
+    module _ {v : ℕ} {g : Bool} (h : i < count) (ev : v ≡ number (at + 2 * i) 2 bs) (eg : g ≡ in-range (value v)) where
+      pub scanned-in : not g ≡ false → Scanned bs at count good (i + 1)
+      scanned-in t =
           let e : in-range (value v) ≡ true = sym eg ∙ not-false g t in
           record { within = omega arith; decides = next h ∙ simp (← ev, e) }
 
-      pub scanned-out : not g ≡ true → false ≡ all-in-range (values count (drop at bs))
+      pub scanned-out : not g ≡ true → Scanned bs at count false (i + 1)
       scanned-out t =
           let e : in-range (value v) ≡ false = sym eg ∙ not-true g t in
-          sym (next h ∙ simp (← ev, e))
+          record { within = omega arith; decides = next h ∙ (simp (← ev, e) (and-false good)) }
 
-    pub scanned-end : count ≤ i → true ≡ all-in-range (values count (drop at bs))
+    pub scanned-end : count ≤ i → good ≡ all-in-range (values count (drop at bs))
     unfolding values all-in-range
-    scanned-end h = let e : count - i ≡ 0 = omega arith in sym (s .decides ∙ rw e)
+    scanned-end h = let e : count - i ≡ 0 = omega arith in sym (s .decides ∙ rw e (and-true good))

@@ -14,19 +14,20 @@ fn value_in_range(v: u32) -> bool
     (v + 2000) % 65536 <= 4000
 }
 
-// Whether the `count` values from `at` are all in range.
+// Whether the `count` values from `at` are all in range. It looks at every value, so that it can look at several at once.
 fn values_in_range(b: &[u8], at: usize, count: usize) -> bool
     requires { ⌜ at + 2 * count ≤ length (now b) ⌝ }
     ensures { λ r. ⌜ r ≡ all-in-range (values count (drop at (now (b .entry)))) ⌝ }
 {
+    let mut good = true;
     let mut i = 0;
     while i < count {
         if !value_in_range(files::u16_at(b, at + 2 * i)) {
-            return false;
+            good = false;
         }
         i += 1;
     }
-    true
+    good
 }
 
 // Whether a file ends with these letters.
