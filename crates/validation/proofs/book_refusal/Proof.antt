@@ -6,25 +6,32 @@ use Rattle.validation.proofs.book_refusal.Statement.{statement}
 use Rattle.validation.proofs.book_refusal.Tie as tie
 
 returns : tie.Need-returns
-returns c = search (needs, book-length-out)
+returns c = book-length-out _ _ (c .before .is-between .ensures) (c .if1 .taken)
 
 ends-with-requires : tie.Need-ends-with-requires
 ends-with-requires c κs = omega (arith, at-least _ _ _ _ (c .before .before .is-between .ensures) (c .before .if1 .left))
 
 returns-2 : tie.Need-returns-2
-returns-2 c = search (needs, book-letters-differ)
+returns-2 c = book-letters-differ _ _ (c .before .before .before .before .is-between .ensures) (c .before .before .before .if1 .left) _ (c .before .ends-with .ensures) (c .if2 .taken)
 
 boats-requires : tie.Need-boats-requires
 boats-requires c κs = search (needs, at-least)
 
 returns-3 : tie.Need-returns-3
-returns-3 c = search (needs, boats-out)
+returns-3 c =
+    let at-if2 = c .before .before .before in
+    let at-if1 = at-if2 .before .before .before in
+    boats-out _ _ (at-if1 .before .is-between .ensures) (at-if1 .if1 .left) _ (at-if2 .before .ends-with .ensures) (at-if2 .if2 .left) _ (c .before .before .boats .ensures) _ (c .before .is-between2 .ensures) (c .if3 .taken)
 
 columns-requires : tie.Need-columns-requires
 columns-requires c κs = search (needs, at-least)
 
 returns-4 : tie.Need-returns-4
-returns-4 c = search (needs, columns-out)
+returns-4 c =
+    let at-if3 = c .before .before .before in
+    let at-if2 = at-if3 .before .before .before in
+    let at-if1 = at-if2 .before .before .before in
+    columns-out _ _ (at-if1 .before .is-between .ensures) (at-if1 .if1 .left) _ (at-if2 .before .ends-with .ensures) (at-if2 .if2 .left) _ (at-if3 .before .before .boats .ensures) _ (at-if3 .before .is-between2 .ensures) (at-if3 .if3 .left) _ (c .before .before .columns .ensures .0) _ (c .before .is-between3 .ensures) (c .if4 .taken)
 
 mul-body-refusal : tie.Need-mul-body-refusal
 mul-body-refusal c = omega (arith, few-values _ _ _ _ (c .before .before .before .before .is-between2 .ensures) (c .before .before .before .if3 .left) (c .before .is-between3 .ensures) (c .if4 .left))
@@ -33,7 +40,12 @@ body-refusal-requires : tie.Need-body-refusal-requires
 body-refusal-requires c κs = (search needs, search (needs, at-least), omega (arith, few-values _ _ _ _ (c .before .before .before .before .is-between2 .ensures) (c .before .before .before .if3 .left) (c .before .is-between3 .ensures) (c .if4 .left)))
 
 returns-5 : tie.Need-returns-5
-returns-5 c = search (needs, book-body)
+returns-5 c =
+    let at-if4 = c .before in
+    let at-if3 = at-if4 .before .before .before in
+    let at-if2 = at-if3 .before .before .before in
+    let at-if1 = at-if2 .before .before .before in
+    book-body _ _ (at-if1 .before .is-between .ensures) (at-if1 .if1 .left) _ (at-if2 .before .ends-with .ensures) (at-if2 .if2 .left) _ (at-if3 .before .before .boats .ensures) _ (at-if3 .before .is-between2 .ensures) (at-if3 .if3 .left) _ (at-if4 .before .before .columns .ensures .0) _ (at-if4 .before .is-between3 .ensures) (at-if4 .if4 .left) _ (c .body-refusal .ensures)
 
 pub book-refusal-spec : {M : Type 1} → statement M
 book-refusal-spec =
