@@ -5,8 +5,8 @@ use Prim.Native.Nat.{ℕ, _+_, _*_, _/_, _≤_, _<_}
 use native.Mathlib.Nat.{le-refl, lt-of-le-of-lt}
 use native.Mathlib.Omega.{arith}
 use lib.IntN.{ℤ, pos, natAbs, _+ℤ_, _-ℤ_, _*ℤ_}
-use lib.ListN.{length, getD, take, drop}
-use lib.Seq.{getD-take, length-take-le}
+use lib.ListN.{length, take, drop}
+use lib.Seq.{length-take-le}
 use lib.Signed.{_≤ℤ_}
 use mir.Syntax.{w64}
 use mir.Val.{toZ, ofZ}
@@ -28,13 +28,13 @@ use Rattle.method.proofs.Argmin.{argmin-at, argmin-below, among-row, least-scor
 use Rattle.method.proofs.Shares.{Mixed, shares-mixed, mixed-length}
 use Rattle.method.proofs.Mixtures.{gap-by-distance, gap-is, score-most, distance-most, gap-most, residual-bounded}
 use Rattle.method.proofs.Accepted.{problem, in-range}
-use Rattle.scoring.specs.declared.Scored.{Scored}
+use Rattle.scoring.specs.declared.Least.{Least}
 use Rattle.scoring.specs.Operands.{Bounded, Grid, Gap-sized}
-use Rattle.scoring.specs.Scores.{Scores-of}
-use Rattle.search.specs.declared.Layout.{Layout}
-use Rattle.search.specs.States.{file-layout}
-use Rattle.search.specs.Measures.{gap-by, measure, Measurable}
-use Rattle.search.proofs.States.{book-fits, sheet-fits, target-span, target-is, grid, bounded-front}
+use Rattle.scoring.specs.Scores.{least-of}
+use Rattle.iteration.specs.declared.Layout.{Layout}
+use Rattle.iteration.specs.States.{file-layout}
+use Rattle.iteration.specs.Measures.{gap-by, measure, Measurable}
+use Rattle.iteration.proofs.States.{book-fits, sheet-fits, target-span, target-is, grid, bounded-front}
 use Rattle.card_format.specs.Truth.{answer-of}
 
 zero-≤ : (n : ℕ) → 0 ≤ n
@@ -82,21 +82,14 @@ module _ (b s : List ℕ) (ok : files-refusal b s ≡ 0) {l : Layout} (e : l ≡
       unfolding file-layout
       entries = rw e (bounded-front b s ok (4000 * w) now r n residual-is (residual-bounded (in-range b s ok) mixed .each) (omega (arith, weight-most few)))
 
-      module _ {sc : Scored} (h : Scores-of (take (l .columns) now) (rows-from (l .boats) (l .columns) (drop (l .rows) b)) sc) where
-        scored : Scores-of r (rows b) sc
+      module _ {lo : Least} (h : lo ≡ least-of (M.scores (take (l .columns) now) (rows-from (l .boats) (l .columns) (drop (l .rows) b)))) where
+        scored : lo ≡ least-of (M.scores r (rows b))
         unfolding file-layout
         scored = rw (e, residual-is, ← rows-at b) at h
 
-        best-below : sc .best < boats b
-        best-below = omega (arith, scored .best-is, book-fits b s ok .row-count, argmin-below r (rows b) (problem b s ok .some-row))
-
-        pub best-slot : sc .best < 256
-        best-slot = omega (arith, best-below, book-fits b s ok .most-boats)
-
-        least-is : getD (sc .scores) (sc .best) (pos 0) ≡ minimum (M.scores r (rows b))
-        least-is =
-            sym (getD-take (length (rows b)) (sc .scores) (sc .best) (pos 0) (rw (book-fits b s ok .row-count) best-below))
-            ∙ rw (scored .scores-are, scored .best-is) (argmin-at (M.scores r (rows b)))
+        least-is : lo .score ≡ minimum (M.scores r (rows b))
+        unfolding least-of
+        least-is = ap (λ (x : Least). x .score) scored ∙ argmin-at (M.scores r (rows b))
 
         least-size : natAbs (minimum (M.scores r (rows b))) ≤ 512000000 * w
         least-size =
@@ -105,7 +98,7 @@ module _ (b s : List ℕ) (ok : files-refusal b s ≡ 0) {l : Layout} (e : l ≡
             (in-range b s ok .rows-bounded _ (among-row (rows b) (argmin (M.scores r (rows b))) (argmin-below r (rows b) (problem b s ok .some-row)))))
 
         -- the least score as the machine has it
-        least-read : toZ w64 (ofZ w64 (getD (sc .scores) (sc .best) (pos 0))) ≡ minimum (M.scores r (rows b))
+        least-read : toZ w64 (ofZ w64 (lo .score)) ≡ minimum (M.scores r (rows b))
         least-read = rw least-is (read w64 33269760000000 (omega (arith, least-size, weight-most few)) tt)
 
         gap-integer : gap-by w r u (minimum (M.scores r (rows b))) ≡ pos (gap (rows b) u t x)
@@ -116,7 +109,7 @@ module _ (b s : List ℕ) (ok : files-refusal b s ≡ 0) {l : Layout} (e : l ≡
         unfolding distance
         square = lt-of-le-of-lt (distance-most (problem b s ok) (in-range b s ok) mixed) (weight-fits few (le-refl 1024000000))
 
-        pub measurable : Measurable now (t * (t + 1) / 2) (toZ w64 (ofZ w64 (getD (sc .scores) (sc .best) (pos 0)))) s l
+        pub measurable : Measurable now (t * (t + 1) / 2) (toZ w64 (ofZ w64 (lo .score))) s l
         unfolding file-layout natural weight
         measurable =
             rw (e, least-read)
@@ -141,7 +134,7 @@ module _ (b s : List ℕ) (ok : files-refusal b s ≡ 0) {l : Layout} (e : l ≡
             })
 
         pub answered : {a : Answer} →
-            a ≡ measure t (t * (t + 1) / 2) (sheet s .tolerance) (take (l .columns) now) (values (l .columns) (drop (l .target) s)) (toZ w64 (ofZ w64 (getD (sc .scores) (sc .best) (pos 0)))) →
+            a ≡ measure t (t * (t + 1) / 2) (sheet s .tolerance) (take (l .columns) now) (values (l .columns) (drop (l .target) s)) (toZ w64 (ofZ w64 (lo .score))) →
             a ≡ answer-of b s (take (boats b) shares) t
         unfolding file-layout measure answer-at distance natural weight
         answered f = f ∙ rw (e, least-read, residual-is, target-is b s ok, gap-integer)

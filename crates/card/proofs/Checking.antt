@@ -16,9 +16,9 @@ use Rattle.method.specs.declared.Answer.{Answer}
 use Rattle.method.specs.declared.Searched.{Searched}
 use Rattle.method.specs.declared.Searched.the-variants.{Refused, Answered}
 use Rattle.method.specs.Answers.{outcome, search-refusal, slots-after}
-use Rattle.search.specs.declared.Layout.{Layout}
-use Rattle.search.specs.States.{file-layout}
-use Rattle.search.proofs.States.{book-fits}
+use Rattle.iteration.specs.declared.Layout.{Layout}
+use Rattle.iteration.specs.States.{file-layout}
+use Rattle.iteration.proofs.States.{book-fits}
 use Rattle.card_format.specs.Format.{WCD1, card-fields, card-body, pair-count, shares-into, card-shares, card-answer}
 use Rattle.card_format.specs.Checks.{back-fits, pairs-in-order, card-refusal, check-refusal}
 use Rattle.card_format.specs.Truth.{Card-vouches, Accepted-vouches}

@@ -15,8 +15,7 @@ use Rattle.method.specs.declared.Answer.{Answer}
 use Rattle.method.specs.Iterates.{support}
 use Rattle.method.specs.Answers.{slots-after, run-answer, run-iterate}
 use Rattle.method.proofs.Promise.{run-right}
-use Rattle.search.specs.declared.Ran.{Ran}
-use Rattle.search.specs.States.{Run-of}
+use Rattle.method.proofs.Accepted.{share-count}
 use Rattle.card_format.specs.Format.{pairs, trailer-bytes, answer-fields, card-bytes, card-shares, run-card}
 use Rattle.card_format.specs.Checks.{write-refusal, card-refusal}
 use Rattle.card_format.specs.Truth.{Written-accepted, Written-short}
@@ -42,14 +41,16 @@ module _ (b s out : List ℕ) where
   refused-by-files zero e h = absurd (h refl)
   refused-by-files (suc n) e h = rw (← e, eqb·suc-zero n) (refused (suc n) h)
 
-  module _ (ok : files-refusal b s ≡ 0) {n : ℕ} (en : n ≡ boats b) {r : Ran} (R : Run-of b s r) (k : ℕ) (ek : k ≡ support (take n (r .shares))) where
-    shares-are : take n (r .shares) ≡ run-iterate b s .shares
-    shares-are = rw en (R .shares-are)
+  module _ (ok : files-refusal b s ≡ 0) {n : ℕ} (en : n ≡ boats b) {a : Answer} (ea : a ≡ run-answer b s) (z : List ℕ) {qs : List ℕ} (eq : qs ≡ run-iterate b s .shares ++ z) (k : ℕ)
+      (ek : k ≡ support (take n qs)) where
+    shares-are : take n qs ≡ run-iterate b s .shares
+    unfolding run-iterate
+    shares-are = rw en (ap (take (boats b)) eq ∙ take-at (run-iterate b s .shares) z (boats b) (share-count b s ok _))
 
     size-is : length (run-card b s) ≡ 4 * k + 36
     size-is = run-card-length b s ok ∙ rw (ek, shares-are)
 
-    pairs-size : length (pairs 0 (take n (r .shares))) ≡ 4 * k
+    pairs-size : length (pairs 0 (take n qs)) ≡ 4 * k
     pairs-size = rw (ek, shares-are) (run-pairs-length b s ok)
 
     pub refused-short : length out < 4 * k + 36 → Gives (write-refusal b s (length out)) (Refused 22) out
@@ -57,30 +58,30 @@ module _ (b s out : List ℕ) where
     refused-short h = let q : ltb (length out) (length (run-card b s)) ≡ true = lt-ltb (length out) (length (run-card b s)) (rw size-is h) in rw (ok, q) (refl, (refl, omega arith))
 
     module _ (room : 4 * k + 36 ≤ length out) where
-      pub pairs-fit : length (pairs 0 (take n (r .shares))) ≤ length out
+      pub pairs-fit : length (pairs 0 (take n qs)) ≤ length out
       pairs-fit = omega (arith, pairs-size)
 
-      module _ (now₁ now₂ : List ℕ) (e₁ : now₁ ≡ placed out 0 (pairs 0 (take n (r .shares)))) (τ c : ℕ) (eτ : τ ≡ sheet s .tolerance) (ec : c ≡ columns b)
-          (e₂ : now₂ ≡ placed now₁ (4 * k) (trailer-bytes (answer-fields (r .answer) (4 * k) τ n c))) where
-        card-is : pairs 0 (take n (r .shares)) ++ trailer-bytes (answer-fields (r .answer) (4 * k) τ n c) ≡ run-card b s
+      module _ (now₁ now₂ : List ℕ) (e₁ : now₁ ≡ placed out 0 (pairs 0 (take n qs))) (τ c : ℕ) (eτ : τ ≡ sheet s .tolerance) (ec : c ≡ columns b)
+          (e₂ : now₂ ≡ placed now₁ (4 * k) (trailer-bytes (answer-fields a (4 * k) τ n c))) where
+        card-is : pairs 0 (take n qs) ++ trailer-bytes (answer-fields a (4 * k) τ n c) ≡ run-card b s
         unfolding run-card card-bytes
-        card-is = rw (← pairs-size, eτ, ec, R .answer-is, shares-are, en)
+        card-is = rw (← pairs-size, eτ, ec, ea, shares-are, en)
 
         buffer-is : now₂ ≡ run-card b s ++ drop (length (run-card b s)) out
         unfolding placed
         buffer-is =
-            (unfold placed in placed-next out 0 (pairs 0 (take n (r .shares))) (trailer-bytes (answer-fields (r .answer) (4 * k) τ n c)) (4 * k) e₁ e₂ (omega (arith, pairs-size)) (omega (arith, pairs-size)))
+            (unfold placed in placed-next out 0 (pairs 0 (take n qs)) (trailer-bytes (answer-fields a (4 * k) τ n c)) (4 * k) e₁ e₂ (omega (arith, pairs-size)) (omega (arith, pairs-size)))
             ∙ rw (card-is, zero-add (length (run-card b s)))
 
-        filed-right : Filed-right b s (r .answer) (take (4 * k + 36) now₂)
+        filed-right : Filed-right b s a (take (4 * k + 36) now₂)
         unfolding Written-accepted Written-short
         filed-right =
             let e : take (4 * k + 36) now₂ ≡ run-card b s = ap (take (4 * k + 36)) buffer-is ∙ take-at (run-card b s) (drop (length (run-card b s)) out) (4 * k + 36) size-is in
             let w = written-accepted b s [] ok (omega (arith, written-short b s ok)) in
-            record { card-is = e; accepted = rw e (w .0); right = rw (e, w .2, R .answer-is) (run-right b s ok) }
+            record { card-is = e; accepted = rw e (w .0); right = rw (e, w .2, ea) (run-right b s ok) }
 
-        pub filed : Gives (write-refusal b s (length out)) (Filed (r .answer) (4 * k + 36)) now₂
+        pub filed : Gives (write-refusal b s (length out)) (Filed a (4 * k + 36)) now₂
         unfolding write-refusal filing slots-after Filing-right
         filed =
             let q : ltb (length out) (length (run-card b s)) ≡ false = le-ltb (length out) (length (run-card b s)) (rw size-is room) in
-            rw (ok, q) (rw (R .answer-is, size-is), (buffer-is, filed-right))
+            rw (ok, q) (rw (ea, size-is), (buffer-is, filed-right))

@@ -18,9 +18,9 @@ use Rattle.method.specs.declared.Searched.{Searched}
 use Rattle.method.specs.declared.Searched.the-variants.{Refused, Answered}
 use Rattle.method.specs.Iterates.{weight}
 use Rattle.method.specs.Answers.{outcome, answer-at}
-use Rattle.search.specs.declared.Layout.{Layout}
-use Rattle.search.specs.States.{file-layout}
-use Rattle.search.proofs.States.{book-fits, sheet-fits}
+use Rattle.iteration.specs.declared.Layout.{Layout}
+use Rattle.iteration.specs.States.{file-layout}
+use Rattle.iteration.proofs.States.{book-fits, sheet-fits}
 use Rattle.card_format.specs.Format.{WCD1, card-fields, card-body, pair-count, card-shares, card-answer}
 use Rattle.card_format.specs.Checks.{back-fits, pairs-in-order, shares-total, numbers-agree}
 use Rattle.card_format.specs.Truth.{answer-of}

@@ -6,8 +6,8 @@ use native.Mathlib.Nat.{mul-le-mul-right, suc-mul}
 use native.Mathlib.Omega.{arith}
 use native.Mathlib.Numerals.{add-one}
 use lib.IntN.{ℤ, pos, natAbs, _+ℤ_, _-ℤ_, _*ℤ_, +ℤ-idl}
-use lib.ListN.{length, getD, take, drop, replicate, length-replicate, drop-of-length-le}
-use lib.Seq.{drop-cons, getD-take, length-take-le}
+use lib.ListN.{length, getD, take, drop, replicate, length-replicate, drop-of-length-le, take-append-drop}
+use lib.Seq.{drop-cons, getD-take, length-take-le, take-at}
 use mir.Syntax.{w64}
 use mir.Val.{Fits}
 use Rattle.integers.proofs.Solver.{con, _⊕_, _⊗_, _⊝_, x₀, x₁, x₂, x₃, x₄, solve}
@@ -21,9 +21,9 @@ use Rattle.method.proofs.Argmin.{among-row}
 use Rattle.method.proofs.Entries as E
 use Rattle.method.proofs.Accepted.{problem, in-range}
 use Rattle.scoring.specs.Operands.{Span, Movable}
-use Rattle.search.specs.declared.Layout.{Layout}
-use Rattle.search.specs.States.{file-layout}
-use Rattle.search.proofs.States.{book-fits, sheet-fits, row-span, target-span, movable, moved-front}
+use Rattle.iteration.specs.declared.Layout.{Layout}
+use Rattle.iteration.specs.States.{file-layout}
+use Rattle.iteration.proofs.States.{book-fits, sheet-fits, row-span, target-span, movable, moved-is, length-difference, zeros-add}
 
 -- ---- Vectors
 
@@ -33,13 +33,6 @@ add-associative [] y z = refl
 add-associative (a ∷ x) [] z = refl
 add-associative (a ∷ x) (b ∷ y) [] = refl
 add-associative (a ∷ x) (b ∷ y) (d ∷ z) = ap₂ _∷_ (solve (a ∷ b ∷ d ∷ []) (x₀ ⊕ x₁ ⊕ x₂) (x₀ ⊕ (x₁ ⊕ x₂)) tt) (add-associative x y z)
-
-zeros-add : (c : ℕ) (x : List ℤ) → length x ≡ c → add (replicate c (pos 0)) x ≡ x
-unfolding add
-zeros-add zero [] e = refl
-zeros-add zero (a ∷ x) e = absurd (omega arith)
-zeros-add (suc c) [] e = absurd (omega arith)
-zeros-add (suc c) (a ∷ x) e = ap₂ _∷_ (+ℤ-idl a) (zeros-add c x (omega arith))
 
 add-zeros : (c : ℕ) (x : List ℤ) → length x ≡ c → add x (replicate c (pos 0)) ≡ x
 unfolding add
@@ -189,11 +182,20 @@ module _ (b s : List ℕ) (ok : files-refusal b s ≡ 0) where
       difference-bounded : E.Bounded 4000 (subtract (row (rows b) i) (sheet s .target))
       difference-bounded = E.bounded-subtract (in-range b s ok .rows-bounded _ (among-row (rows b) i (omega (arith, book-fits b s ok .row-count)))) (in-range b s ok .target-bounded)
 
+      moved-front : (x : List ℤ) →
+          x ≡ add (take (columns b) r) (scale q (subtract (values (columns b) (drop (rows-offset b + 2 * (i * columns b)) b)) (values (columns b) (drop (target-offset s) s)))) ++ drop (columns b) r →
+          take (columns b) x ≡ add (take (columns b) r) (scale q (subtract (row (rows b) i) (sheet s .target)))
+      moved-front x e =
+          let n : length (take (columns b) r) ≡ columns b = length-take-le (columns b) r (omega (arith, d .long, book-fits b s ok .most-columns)) in
+          let m : length (scale q (subtract (row (rows b) i) (sheet s .target))) ≡ columns b = length-scale q _ ∙ length-difference b s ok i h in
+          ap (take (columns b)) (moved-is b s ok (take (columns b) r) (drop (columns b) r) i q h n (sym (take-append-drop (columns b) r)) e)
+          ∙ take-at (add (take (columns b) r) (scale q (subtract (row (rows b) i) (sheet s .target)))) (drop (columns b) r) (columns b) (length-add (take (columns b) r) _ (n ∙ sym m) ∙ n)
+
       pub summing-more : (x : List ℤ) → length x ≡ 64 →
           x ≡ add (take (columns b) r) (scale q (subtract (values (columns b) (drop (rows-offset b + 2 * (i * columns b)) b)) (values (columns b) (drop (target-offset s) s)))) ++ drop (columns b) r →
           Summing b s shares (i + 1) x
       summing-more x l e =
-          let f = moved-front b s ok r x i q h (d .long) e in
+          let f = moved-front x e in
           let v = subtract (row (rows b) i) (sheet s .target) in
           record {
             within = omega arith;

@@ -2,24 +2,25 @@
 //
 // Entries, which ask nothing of their caller: write_card, check_card.
 ghost use mathlib.Core.Path.{_≡_};
+ghost use mathlib.Core.List.{_++_};
 ghost use Prim.Native.Nat.{_≤_, _<_};
-ghost use lib.ListN.{length, take};
+ghost use lib.ListN.{length, take, drop};
 ghost use Rattle.frank_wolfe.specs.Vectors.{subtract, scale, sum, combination};
 ghost use Rattle.files.specs.Book.{boats, columns, rows};
 ghost use Rattle.files.specs.Sheet.{files-refusal};
 ghost use Rattle.files.specs.Sheet as Sheets;
 ghost use Rattle.method.specs.Iterates.{weight};
 ghost use Rattle.method.specs.Answers.{outcome, slots-after, run-answer};
-ghost use Rattle.search.specs.States.{file-layout};
+ghost use Rattle.iteration.specs.States.{file-layout};
 ghost use Rattle.card_format.specs.Format.{card-fields, pair-count, card-shares, card-answer, run-card};
 ghost use Rattle.card_format.specs.Checks.{shares-total, numbers-agree, write-refusal, check-refusal};
 ghost use Rattle.card_format.specs.Truth.{answer-of};
 ghost use Rattle.card_input.specs.Forms.{form-refusal};
 ghost use Rattle.card.specs.Filing.{filing, Filing-right};
 ghost use Rattle.card.specs.Checking.{truth-refusal, Check-right};
+use iteration::Layout;
 use method::Answer;
 use method::Searched;
-use search::Layout;
 
 // What the card writer gives back: the number that refuses its input, or the run's answer and how many bytes were written.
 pub enum Written {
@@ -39,13 +40,12 @@ pub fn write_card(book: &[u8], sheet: &[u8], output: &mut [u8]) -> Written
         return Written::Refused(refusal);
     }
     let boats = files::boats(book);
-    let ran = search::run(book, sheet);
-    let shares = ran.shares;
+    let mut shares = [0u16; 256];
+    let answer = search::run(book, sheet, &mut shares);
     let back = 4 * card_output::holding(shares, boats);
     if output.len() < back + 36 {
         return Written::Refused(22);
     }
-    let answer = ran.answer;
     card_output::put_pairs(output, shares, boats);
     card_output::put_trailer(
         output,
@@ -93,10 +93,8 @@ fn answer_of(book: &[u8], sheet: &[u8], layout: Layout, shares: [u16; 256], t: u
     let columns = layout.columns;
     let boats = layout.boats;
     let r = residual_of(book, sheet, layout, shares);
-    let scored = scoring::score_boats(&r, book, rows, boats, columns);
-    let scores = scored.scores;
-    let best = scored.best;
-    search::measured(t, t * (t + 1) / 2, &r, scores[best], sheet, layout)
+    let least = scoring::least_score(&r, book, rows, boats, columns);
+    iteration::measured(t, t * (t + 1) / 2, &r, least.score, sheet, layout)
 }
 
 // Whether a card's boats that hold shares are no more than its steps used, and the shares total t (t + 1) / 2.
@@ -150,6 +148,18 @@ fn judged(book: &[u8], sheet: &[u8], layout: Layout, card: &[u8], shares: [u16; 
     Searched::Answered(answer)
 }
 
+// The first `count` slots of `to` as those of `from`; later slots as they were.
+fn fill(from: [u16; 256], count: usize, to: &mut [u16])
+    requires { ⌜ (count ≤ 256) × (count ≤ length (now to)) ⌝ }
+    ensures { λ _. ⌜ now (to .exit) ≡ take count from ++ drop count (now (to .entry)) ⌝ }
+{
+    let mut i = 0;
+    while i < count {
+        to[i] = from[i];
+        i += 1;
+    }
+}
+
 // ENTRY. The card check: refuses files, a share list or a card that does not serve (1 to 17, 21, then 31 to 39) and leaves the
 // list as it was; else gives the card's answer and fills the list's first slots with its shares, one a boat. It does not rerun the search.
 pub fn check_card(book: &[u8], sheet: &[u8], card: &[u8], shares: &mut [u16]) -> Searched
@@ -161,7 +171,7 @@ pub fn check_card(book: &[u8], sheet: &[u8], card: &[u8], shares: &mut [u16]) ->
     if refusal != 0 {
         return Searched::Refused(refusal);
     }
-    let layout = search::layout_of(book, sheet);
+    let layout = iteration::layout_of(book, sheet);
     let boats = layout.boats;
     if shares.len() < boats {
         return Searched::Refused(21);
@@ -175,7 +185,7 @@ pub fn check_card(book: &[u8], sheet: &[u8], card: &[u8], shares: &mut [u16]) ->
     match judged(book, sheet, layout, card, found) {
         Searched::Refused(n) => Searched::Refused(n),
         Searched::Answered(answer) => {
-            search::fill(found, boats, shares);
+            fill(found, boats, shares);
             Searched::Answered(answer)
         }
     }

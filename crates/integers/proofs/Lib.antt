@@ -4,3 +4,4 @@ pub mod Order
 pub mod Facts
 pub mod Bounds
 pub mod Examples
+pub mod Filling

@@ -1,1 +1,1 @@
-// Laws of the integers, for the proofs of the other crates: proofs/ holds all of it, and there is no code.
+// Laws of the integers, and of lists filled slot by slot, for the proofs of the other crates: proofs/ holds all of it, and there is no code.

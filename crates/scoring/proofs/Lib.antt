@@ -6,4 +6,3 @@ pub mod Gaps
 pub mod Scans
 pub mod Rescores
 pub mod Differences
-pub mod Rows

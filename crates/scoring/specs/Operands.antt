@@ -41,16 +41,15 @@ pub record Gap-sized (e w : ℕ) (a b : ℤ) : Type 0 where
 pub record Rows-bounded (rs : List (List ℤ)) (columns : ℕ) : Type 0 where
   pub each-row : (i : ℕ) → i < length rs → Bounded 2000 columns (getD rs i [])
 
--- a score and a product at i whose sum with a factor k keeps to 63 bits
-pub record Score-sized (base : List ℤ) (k : ℕ) (products : List ℤ) (i : ℕ) : Type 0 where
-  pub in-base : i < length base
-  pub in-products : i < length products
+-- a score and a product that keep to 63 bits when the score moves by k times the product
+pub record Score-sized (score : ℤ) (k : ℕ) (product : ℤ) : Type 0 where
   pub few-shares : k ≤ 64980
-  pub score-size : natAbs (getD base i (pos 0)) ≤ 33269760000000
-  pub product-size : natAbs (getD products i (pos 0)) ≤ 512000000
+  pub score-size : natAbs score ≤ 33269760000000
+  pub product-size : natAbs product ≤ 512000000
 
 -- so at each of the boats, of which there is one at least
-pub record Rescorable (base : List ℤ) (k : ℕ) (products : List ℤ) (boats : ℕ) : Type 0 where
+pub record Rescorable (scores : List ℤ) (k : ℕ) (products : List ℤ) (boats : ℕ) : Type 0 where
   pub some-boats : 1 ≤ boats
-  pub few-boats : boats ≤ 256
-  pub each : (i : ℕ) → i < boats → Score-sized base k products i
+  pub in-scores : boats ≤ length scores
+  pub in-products : boats ≤ length products
+  pub each : (i : ℕ) → i < boats → Score-sized (getD scores i (pos 0)) k (getD products i (pos 0))

@@ -2,14 +2,14 @@
 // All functions are helpers for other crates, whose callers prove what they require.
 ghost use mathlib.Core.Path.{_≡_};
 ghost use mathlib.Core.List.{_++_};
-ghost use Prim.Native.Nat.{_+_, _*_, _≤_, _<_};
-ghost use lib.ListN.{length, getD, take, drop};
+ghost use Prim.Native.Nat.{_+_, _-_, _*_, _≤_, _<_};
+ghost use lib.ListN.{length, take, drop, replicate};
 ghost use lib.IntN.{pos, natAbs, _+ℤ_, _-ℤ_, _*ℤ_};
 ghost use Rattle.files.specs.Bytes.{values};
 ghost use Rattle.files.specs.Book.{rows-from};
 ghost use Rattle.frank_wolfe.specs.Vectors.{add, subtract, scale, inner, squared-norm};
-ghost use Rattle.scoring.specs.Scores.{Scores-of, Scores-are};
-ghost use Rattle.method.specs.Iterates.{scores, argmin};
+ghost use Rattle.scoring.specs.Scores.{least-of};
+ghost use Rattle.method.specs.Iterates.{scores};
 ghost use Rattle.scoring.specs.Operands.{Rows-bounded, Rescorable, Score-sized, Bounded, Span, Grid, Movable, Gap-sized};
 
 // <r, v>, where v is the row of `columns` values at `at`.
@@ -76,36 +76,32 @@ pub fn moved(
     next
 }
 
-// The scores of the boats, in the first slots, and the boat of least score.
-pub struct Scored {
-    pub scores: [i64; 256],
-    pub best: usize,
+// The boat of least score, the lowest number among equals, and its score.
+pub struct Least {
+    pub boat: usize,
+    pub score: i64,
 }
 
-// One pass over the rows at `at`: <r, v> for each row v, and the first boat where it is least.
-pub fn score_boats(r: &[i32], book: &[u8], at: usize, boats: usize, columns: usize) -> Scored
+// One pass over the rows at `at`: the boat of least score <r, v>, where v is the boat's row.
+pub fn least_score(r: &[i32], book: &[u8], at: usize, boats: usize, columns: usize) -> Least
     requires { ⌜ Grid (now book) at boats columns ⌝ }
     requires { ⌜ Bounded 260000000 columns (now r) ⌝ }
-    ensures { λ x. ⌜ Scores-of (take columns (now (r .entry))) (rows-from boats columns (drop at (now (book .entry)))) x ⌝ }
+    ensures { λ x. ⌜ x ≡ least-of (scores (take columns (now (r .entry))) (rows-from boats columns (drop at (now (book .entry))))) ⌝ }
 {
-    let first = inner_at(r, book, at, columns);
-    let mut scores = [0i64; 256];
-    scores[0] = first;
-    let mut best = 0;
-    let mut least = first;
+    let mut boat = 0;
+    let mut score = inner_at(r, book, at, columns);
     let mut p = at + 2 * columns;
     let mut i = 1;
     while i < boats {
         let s = inner_at(r, book, p, columns);
-        scores[i] = s;
-        if s < least {
-            best = i;
-            least = s;
+        if s < score {
+            boat = i;
+            score = s;
         }
         p += 2 * columns;
         i += 1;
     }
-    Scored { scores, best }
+    Least { boat, score }
 }
 
 // v - u, where v is the row at `at` of a book and u the target at `from` of a sheet.
@@ -113,7 +109,7 @@ pub fn difference(book: &[u8], at: usize, sheet: &[u8], from: usize, columns: us
     requires { ⌜ Span (now book) at columns ⌝ }
     requires { ⌜ Span (now sheet) from columns ⌝ }
     requires { ⌜ Bounded 2000 columns (values columns (drop at (now book))) × Bounded 2000 columns (values columns (drop from (now sheet))) ⌝ }
-    ensures { λ x. ⌜ take columns x ≡ subtract (values columns (drop at (now (book .entry)))) (values columns (drop from (now (sheet .entry)))) ⌝ }
+    ensures { λ x. ⌜ x ≡ subtract (values columns (drop at (now (book .entry)))) (values columns (drop from (now (sheet .entry)))) ++ replicate (64 - columns) (pos 0) ⌝ }
 {
     let mut d = [0i16; 64];
     let mut i = 0;
@@ -139,78 +135,82 @@ fn narrow_inner(d: &[i16], bytes: &[u8], at: usize, columns: usize) -> i32
     sum
 }
 
-// <d, v> for each of the rows at `at`, in the first slots.
-pub fn products(d: &[i16], book: &[u8], at: usize, boats: usize, columns: usize) -> [i32; 256]
+// <d, v> for each of the rows v at `at`, in the first slots of `to`.
+pub fn products(d: &[i16], book: &[u8], at: usize, boats: usize, columns: usize, to: &mut [i32])
     requires { ⌜ Grid (now book) at boats columns ⌝ }
     requires { ⌜ Bounded 4000 columns (now d) ⌝ }
     requires { ⌜ Rows-bounded (rows-from boats columns (drop at (now book))) columns ⌝ }
-    ensures { λ x. ⌜ take boats x ≡ scores (take columns (now (d .entry))) (rows-from boats columns (drop at (now (book .entry)))) ⌝ }
+    requires { ⌜ boats ≤ length (now to) ⌝ }
+    ensures { λ _. ⌜ now (to .exit) ≡ scores (take columns (now (d .entry))) (rows-from boats columns (drop at (now (book .entry)))) ++ drop boats (now (to .entry)) ⌝ }
 {
-    let mut row = [0i32; 256];
     let mut p = at;
     let mut i = 0;
     while i < boats {
-        row[i] = narrow_inner(d, book, p, columns);
+        to[i] = narrow_inner(d, book, p, columns);
         p += 2 * columns;
         i += 1;
     }
-    row
 }
 
-// The first boat where the products are least.
-pub fn least_of(products: &[i32], boats: usize) -> usize
-    requires { ⌜ (1 ≤ boats) × (boats ≤ length (now products)) ⌝ }
-    ensures { λ i. ⌜ i ≡ argmin (take boats (now (products .entry))) ⌝ }
+// One pass over the rows at `at`, as least_score makes it, for a small vector d.
+pub fn least_product(d: &[i16], book: &[u8], at: usize, boats: usize, columns: usize) -> Least
+    requires { ⌜ Grid (now book) at boats columns ⌝ }
+    requires { ⌜ Bounded 4000 columns (now d) ⌝ }
+    requires { ⌜ Rows-bounded (rows-from boats columns (drop at (now book))) columns ⌝ }
+    ensures { λ x. ⌜ x ≡ least-of (scores (take columns (now (d .entry))) (rows-from boats columns (drop at (now (book .entry))))) ⌝ }
 {
-    let mut best = 0;
-    let mut least = products[0];
+    let mut boat = 0;
+    let mut least = narrow_inner(d, book, at, columns);
+    let mut p = at + 2 * columns;
     let mut i = 1;
     while i < boats {
-        let p = products[i];
-        if p < least {
-            best = i;
-            least = p;
+        let s = narrow_inner(d, book, p, columns);
+        if s < least {
+            boat = i;
+            least = s;
         }
+        p += 2 * columns;
         i += 1;
     }
-    best
+    Least {
+        boat,
+        score: least as i64,
+    }
 }
 
-// The score of boat i moved by k times its product.
-fn moved_score(base: &[i64], k: u32, products: &[i32], i: usize) -> i64
-    requires { ⌜ Score-sized (now base) k (now products) i ⌝ }
-    ensures { λ s. ⌜ s ≡ getD (now (base .entry)) i (pos 0) +ℤ pos k *ℤ getD (now (products .entry)) i (pos 0) ⌝ }
+// A score moved by k times a product.
+fn moved_score(score: i64, k: u32, product: i32) -> i64
+    requires { ⌜ Score-sized score k product ⌝ }
+    ensures { λ s. ⌜ s ≡ score +ℤ pos k *ℤ product ⌝ }
 {
-    base[i] + k as i64 * products[i] as i64
+    score + k as i64 * product as i64
 }
 
-// The scores moved by k times the products, and the first boat where they are least.
-pub fn rescored(base: [i64; 256], k: u32, products: &[i32], boats: usize) -> Scored
-    requires { ⌜ Rescorable base k (now products) boats ⌝ }
-    ensures { λ x. ⌜ Scores-are (add (take boats base) (scale k (take boats (now (products .entry))))) boats x ⌝ }
+// Moves the first scores, one a boat, by k times the products, and gives the boat where they are least.
+pub fn rescored(scores: &mut [i64], k: u32, products: &[i32], boats: usize) -> Least
+    requires { ⌜ Rescorable (now scores) k (now products) boats ⌝ }
+    ensures { λ x. ⌜ x ≡ least-of (add (take boats (now (scores .entry))) (scale k (take boats (now (products .entry))))) ⌝ }
+    ensures { λ _. ⌜ now (scores .exit) ≡ add (take boats (now (scores .entry))) (scale k (take boats (now (products .entry)))) ++ drop boats (now (scores .entry)) ⌝ }
 {
-    let first = moved_score(&base, k, products, 0);
-    let mut scores = base;
-    scores[0] = first;
-    let mut best = 0;
-    let mut least = first;
-    let mut i = 1;
+    let mut boat = 0;
+    let mut least = moved_score(scores[0], k, products[0]);
+    let mut i = 0;
     while i < boats {
-        let score = moved_score(&base, k, products, i);
+        let score = moved_score(scores[i], k, products[i]);
         scores[i] = score;
         if score < least {
-            best = i;
+            boat = i;
             least = score;
         }
         i += 1;
     }
-    Scored { scores, best }
+    Least { boat, score: least }
 }
 
 // G of a residual r of total w: E + w (<r, u> - the least score).
-pub fn gap_of(e: u64, w: u32, aim: i64, least: i64) -> u64
-    requires { ⌜ Gap-sized e w aim least ⌝ }
-    ensures { λ g. ⌜ pos g ≡ pos e +ℤ pos w *ℤ (aim -ℤ least) ⌝ }
+pub fn gap_of(e: u64, w: u32, target_score: i64, least: i64) -> u64
+    requires { ⌜ Gap-sized e w «target_score» least ⌝ }
+    ensures { λ g. ⌜ pos g ≡ pos e +ℤ pos w *ℤ («target_score» -ℤ least) ⌝ }
 {
-    (e as i64 + w as i64 * (aim - least)) as u64
+    (e as i64 + w as i64 * (target_score - least)) as u64
 }

@@ -6,7 +6,7 @@ use Prim.Native.Nat.{ℕ, zero, suc, _≤_, _<_}
 use native.Mathlib.Omega.{arith}
 use borrow.Author.Tests.{lt-ltb, le-ltb}
 use lib.Dec.{eqb, ltb, eqb·suc-zero}
-use lib.ListN.{length, take, drop}
+use lib.ListN.{length, drop}
 use Rattle.files.specs.Book.{boats}
 use Rattle.files.specs.Sheet.{files-refusal}
 use Rattle.method.specs.declared.Answer.{Answer}
@@ -16,8 +16,6 @@ use Rattle.method.specs.Answers.{outcome, search-refusal, slots-after, run-answ
 use Rattle.method.specs.Promise.{Outcome-right}
 use Rattle.method.proofs.Accepted.{share-count}
 use Rattle.method.proofs.Promise.{outcome-right}
-use Rattle.search.specs.declared.Ran.{Ran}
-use Rattle.search.specs.States.{Run-of}
 
 module _ (b s slots : List ℕ) where
   -- what a search gives back and leaves in the list, by the refusal number
@@ -52,9 +50,8 @@ module _ (b s slots : List ℕ) where
     unfolding run-iterate
     shares-length = share-count b s ok _
 
-    pub answered : n ≤ length slots → {r : Ran} → Run-of b s r → {now : List ℕ} → now ≡ take n (r .shares) ++ drop n slots →
-        Promises (Answered (r .answer)) now
+    pub answered : n ≤ length slots → {a : Answer} → a ≡ run-answer b s → {now : List ℕ} → now ≡ run-iterate b s .shares ++ drop (boats b) slots → Promises (Answered a) now
     unfolding search-refusal outcome slots-after
-    answered h R e =
+    answered h ea e =
         let k : ltb (length slots) (boats b) ≡ false = rw (← en) (le-ltb (length slots) n h) in
-        promised (rw (ok, k) (ap Answered (R .answer-is), e ∙ rw (en, R .shares-are, shares-length)))
+        promised (rw (ok, k) (ap Answered ea, e ∙ rw shares-length))

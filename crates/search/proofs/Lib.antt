@@ -1,10 +1,4 @@
-pub mod Table
-pub mod States
-pub mod Steps
-pub mod Measuring
-pub mod Filling
-pub mod Storing
 pub mod Memory
-pub mod Answering
 pub mod Runs
+pub mod Keeping
 pub mod Entry

@@ -1,7 +1,7 @@
 -- The memory of products: a slot written, the others as they were. Assumes nothing.
 use mathlib.Core.Path.{_≡_, refl, sym, ap, _∙_}
 use mathlib.Core.Bool.{Bool, true, false}
-use mathlib.Core.List.{List, _++_, append-assoc}
+use mathlib.Core.List.{List, _++_, append-assoc, append-nil}
 use Prim.Native.Nat.{ℕ, zero, suc, _+_, _*_, _-_, _%_, _≤_, _<_}
 use native.Mathlib.Nat.{suc-mul, mul-le-mul-right}
 use native.Mathlib.Omega.{arith}
@@ -10,14 +10,16 @@ use borrow.Author.Tests.{ltb-true, ltb-false}
 use lib.Dec.{ltb}
 use lib.IntN.{ℤ}
 use lib.ListN.{length, getD, set, take, drop, replicate, length-drop, length-set, take-append-drop}
-use lib.Seq.{paste, drop-append-le, take-append-le, take-at, drop-at, drop-drop, drop-paste, take-all, length-paste, length-take-le, getD-set-same, getD-set-other}
+use borrow.Rule.Slice.PartMut.{putMid}
+use lib.Seq.{paste, drop-length, drop-append-le, take-append-le, take-at, drop-at, drop-drop, drop-paste, take-all, length-paste, length-take-le, getD-set-same, getD-set-other}
 use mir.Syntax.{w16, w64}
 use mir.Val.{Fits}
 use Rattle.files.specs.Book.{boats}
 use Rattle.files.specs.Sheet.{files-refusal}
-use Rattle.search.specs.declared.Layout.{Layout}
-use Rattle.search.specs.States.{file-layout, Products, Remembered}
-use Rattle.search.proofs.States.{book-fits}
+use Rattle.iteration.specs.declared.Layout.{Layout}
+use Rattle.iteration.specs.States.{file-layout, boat-products}
+use Rattle.iteration.proofs.States.{book-fits, product-count}
+use Rattle.search.specs.Runs.{Products, Remembered}
 
 -- ---- A part of a list in which another part was replaced
 
@@ -68,9 +70,9 @@ module _ (b s : List ℕ) (ok : files-refusal b s ≡ 0) {tags : List ℕ} {memo
   pub kept : getD tags (i % 64) 0 ≡ i + 1 → Remembered b s tags memory × Products b s i (drop (i % 64 * boats b) memory)
   kept e = (R, R .products (i % 64) i slot-below (e ∙ add-one i))
 
-  pub slot-fits : {l : Layout} → l ≡ file-layout b s → length memory < 18446744073709551616 → Fits w64 (i % 64 * l .boats)
+  pub slot-fits : {l : Layout} → l ≡ file-layout b s → Fits w64 (i % 64 * l .boats)
   unfolding file-layout
-  slot-fits e k = rw e (record { fits = omega (arith, slot-room) })
+  slot-fits e = rw e (record { fits = omega (arith, apart (i % 64) 64 (boats b) slot-below, book-fits b s ok .most-boats) })
 
   pub slot-bytes-fit : {l : Layout} → l ≡ file-layout b s → Fits w64 (i % 64 * l .boats * 4)
   unfolding file-layout
@@ -85,13 +87,12 @@ module _ (b s : List ℕ) (ok : files-refusal b s ≡ 0) {tags : List ℕ} {memo
   unfolding file-layout
   slot-part e P = rw (e, take-all (length memory - i % 64 * boats b) (drop (i % 64 * boats b) memory) (rw length-drop (omega arith))) P
 
-  pub store-asks : {l : Layout} → l ≡ file-layout b s → (l .boats ≤ 256) × (i % 64 * l .boats + l .boats ≤ length memory)
-  unfolding file-layout
-  store-asks e = rw e (book-fits b s ok .most-boats, slot-room)
+  module _ {m : List ℤ} (em : m ≡ paste memory (i % 64 * boats b) (boat-products b s i) (boats b)) where
+    abbrev row : List ℤ
+    row = boat-products b s i
 
-  module _ {row : List ℤ} (n : length row ≡ 256) (P : Products b s i row) {m : List ℤ} (em : m ≡ paste memory (i % 64 * boats b) row (boats b)) where
     row-long : boats b ≤ length row
-    row-long = P .long
+    row-long = omega (arith, product-count b s ok i)
 
     m-long : length m ≡ length memory
     m-long = rw em (length-paste memory (i % 64 * boats b) row (boats b) slot-room row-long)
@@ -99,14 +100,14 @@ module _ (b s : List ℕ) (ok : files-refusal b s ≡ 0) {tags : List ℕ} {memo
     here : Products b s i (drop (i % 64 * boats b) m)
     here =
         record {
-          long = rw length-drop (omega (arith, m-long, slot-room));
-          are = rw em (part-there memory row (i % 64 * boats b) (boats b) 0 slot-room row-long) ∙ P .are;
+          room = rw length-drop (omega (arith, m-long, slot-room));
+          are = rw em (part-there memory row (i % 64 * boats b) (boats b) 0 slot-room row-long) ∙ take-all (boats b) row (omega (arith, product-count b s ok i));
         }
 
     elsewhere : (j q : ℕ) → j < 64 → (j ≡ i % 64 → ⊥) → Products b s q (drop (j * boats b) memory) → Products b s q (drop (j * boats b) m)
     elsewhere j q hj ne Q =
         record {
-          long = rw length-drop (omega (arith, m-long, apart j 64 (boats b) hj, R .room));
+          room = rw length-drop (omega (arith, m-long, apart j 64 (boats b) hj, R .room));
           are = rw em (by (ltb j (i % 64)) refl) ∙ Q .are;
         }
       where
@@ -141,10 +142,28 @@ module _ (b s : List ℕ) (ok : files-refusal b s ≡ 0) {tags : List ℕ} {memo
             by false true a c = differs (λ f. omega (arith, ltb-true (i % 64) j c))
             by false false a c = same (omega (arith, ltb-false j (i % 64) a, ltb-false (i % 64) j c))
 
-  pub learnt : {l : Layout} → l ≡ file-layout b s → {row : List ℤ} → length row ≡ 256 → Products b s i row → {m : List ℤ} → m ≡ paste memory (i % 64 * l .boats) row (l .boats) →
-      Remembered b s (set tags (i % 64) (i + 1)) m × Products b s i (drop (i % 64 * boats b) m)
+  whole-part : take (length memory - i % 64 * boats b) (drop (i % 64 * boats b) memory) ≡ drop (i % 64 * boats b) memory
+  whole-part = take-all (length memory - i % 64 * boats b) (drop (i % 64 * boats b) memory) (rw length-drop (omega arith))
+
+  -- the memory from the slot on, as it is lent and comes back
+  pub part-room : {l : Layout} → l ≡ file-layout b s → boats b ≤ length (take (length memory - i % 64 * l .boats) (drop (i % 64 * l .boats) memory))
   unfolding file-layout
-  learnt e n P f = known n P (rw e at f)
+  part-room e = rw (e, whole-part) (rw length-drop (omega (arith, slot-room)))
+
+  put-back : {part : List ℤ} → part ≡ boat-products b s i ++ drop (boats b) (take (length memory - i % 64 * boats b) (drop (i % 64 * boats b) memory)) →
+      putMid (i % 64 * boats b) (length memory - i % 64 * boats b) memory part ≡ paste memory (i % 64 * boats b) (boat-products b s i) (boats b)
+  put-back ep =
+      let at = i % 64 * boats b in
+      let n : length memory - at ≡ length (drop at memory) = sym (length-drop at memory) in
+      rw (ep, whole-part, n, drop-length (drop at memory), append-nil, drop-drop (boats b) at memory)
+      (ap (λ (x : List ℤ). take at memory ++ (x ++ drop (at + boats b) memory)) (sym (take-all (boats b) (boat-products b s i) (omega (arith, product-count b s ok i))))
+      ∙ sym (append-assoc (take at memory) (take (boats b) (boat-products b s i)) (drop (at + boats b) memory)))
+
+  pub learnt : {l : Layout} → l ≡ file-layout b s → {part : List ℤ} → part ≡ boat-products b s i ++ drop (boats b) (take (length memory - i % 64 * l .boats) (drop (i % 64 * l .boats) memory)) →
+      Remembered b s (set tags (i % 64) (i + 1)) (putMid (i % 64 * l .boats) (length memory - i % 64 * l .boats) memory part)
+      × Products b s i (drop (i % 64 * boats b) (putMid (i % 64 * l .boats) (length memory - i % 64 * l .boats) memory part))
+  unfolding file-layout
+  learnt e ep = rw e (known (put-back (rw e at ep)))
 
 -- nothing is remembered at first
 zeros : (n j : ℕ) → _≡_ {A = ℕ} (getD (replicate n 0) j 0) 0

@@ -1,4 +1,4 @@
--- A run, state by state: it goes on until a step stops it, and then its answer and shares are those of the definitions. Assumes nothing.
+-- A run, state by state: it goes on until a step stops it, and then its answer and iterate are those of the definitions. Assumes nothing.
 use mathlib.Core.Path.{_≡_, refl, sym, ap, _∙_, subst}
 use mathlib.Core.Bool.{Bool, true, false, not}
 use mathlib.Core.List.{List}
@@ -7,8 +7,7 @@ use native.Mathlib.Omega.{arith}
 use native.Mathlib.Numerals.{add-one}
 use borrow.Author.Tests.{ltb-true, ltb-false}
 use lib.Dec.{ltb}
-use lib.IntN.{ℤ, pos}
-use lib.ListN.{length, getD, take, drop}
+use lib.ListN.{length, take, drop}
 use Rattle.files.specs.Bytes.{values}
 use Rattle.files.specs.Book.{boats, columns, rows}
 use Rattle.files.specs.Sheet.{sheet, files-refusal}
@@ -17,13 +16,13 @@ use Rattle.method.specs.Answers.{answer-at, stops, run-answer, run-iterate}
 use Rattle.method.specs.declared.Answer.{Answer}
 use Rattle.method.specs.declared.Verdict.{Verdict}
 use Rattle.method.proofs.Running.{Running, running-start, running-more, running-done, finished-answer, finished-iterate, stops-last}
-use Rattle.search.specs.declared.Layout.{Layout}
-use Rattle.search.specs.declared.State.{State}
-use Rattle.search.specs.declared.Ran.{Ran}
-use Rattle.search.specs.States.{file-layout, iterate-of, Holds, Going, Run-of}
-use Rattle.search.specs.Measures.{measure, Answerable}
-use Rattle.search.proofs.States.{sheet-fits}
-use Rattle.search.proofs.Answering.{answerable, answer-right}
+use Rattle.iteration.specs.declared.Layout.{Layout}
+use Rattle.iteration.specs.declared.State.{State}
+use Rattle.iteration.specs.States.{file-layout, iterate-of, Holds}
+use Rattle.iteration.specs.Measures.{measure, Answerable}
+use Rattle.iteration.proofs.States.{sheet-fits}
+use Rattle.iteration.proofs.Answering.{answerable, answer-right}
+use Rattle.search.specs.Runs.{Going}
 
 -- a step that does not stop a run is not its last
 not-last : (n t : ℕ) (v : Verdict) → t ≤ n → stops n t v ≡ false → t < n
@@ -53,6 +52,15 @@ module _ (b s : List ℕ) (ok : files-refusal b s ≡ 0) where
             undecided = rw e (running-start (rows b) (sheet s) (columns b) .decides);
           }
 
+  -- a run that its first step stops
+  pub first-done : {a : Answer} → a ≡ answer-at (rows b) (sheet s) 1 (iterate-of b s 1) → {k : ℕ} → k ≡ sheet s .steps → {d : Bool} → d ≡ stops k 1 (a .verdict) → d ≡ true →
+      (a ≡ run-answer b s) × (iterate-of b s 1 .shares ≡ run-iterate b s .shares)
+  unfolding iterate
+  first-done ea ek ed f =
+      let v : stops (sheet s .steps) 1 (answer-at (rows b) (sheet s) 1 (iterate-of b s 1) .verdict) ≡ true = rw (ek, ea) at (sym ed ∙ f) in
+      let d = running-done (running-start (rows b) (sheet s) (columns b)) (omega (arith, sheet-fits b s ok .some-steps)) v in
+      (ea ∙ finished-answer b s d, ap (λ z. z .shares) (finished-iterate b s d))
+
   module _ {x : State} (g : Going b s x) {y : State} (H : Holds b s (x .steps + 1) y) where
     running : Running (rows b) (sheet s) (columns b) (x .steps) (iterate-of b s (x .steps))
     running = record { within = omega (arith, g .left); iterated = refl; decides = g .undecided }
@@ -68,7 +76,7 @@ module _ (b s : List ℕ) (ok : files-refusal b s ≡ 0) where
       next-answerable = answerable b s ok next-held next-few n e
 
       module _ {a : Answer}
-          (ea : a ≡ measure (y .steps) (weight (y .steps)) (sheet s .tolerance) (take (l .columns) (y .residual)) (values (l .columns) (drop (l .target) s)) (getD (y .scores) (y .best) (pos 0)))
+          (ea : a ≡ measure (y .steps) (weight (y .steps)) (sheet s .tolerance) (take (l .columns) (y .residual)) (values (l .columns) (drop (l .target) s)) (y .least))
           {k : ℕ} (ek : k ≡ sheet s .steps) {d : Bool} (ed : d ≡ stops k (y .steps) (a .verdict)) where
         answer-is : a ≡ answer-at (rows b) (sheet s) (suc (x .steps)) (iterate-of b s (suc (x .steps)))
         answer-is = ea ∙ answer-right b s ok next-held next-few n e
@@ -86,11 +94,8 @@ module _ (b s : List ℕ) (ok : files-refusal b s ≡ 0) where
               undecided = rw p (running-more running (g .left) (sym stopped-is ∙ f) .decides);
             }
 
-        pub going-done : d ≡ true → Run-of b s (record { answer = a; shares = y .shares })
+        pub going-done : d ≡ true → (a ≡ run-answer b s) × (iterate-of b s (y .steps) .shares ≡ run-iterate b s .shares)
         unfolding iterate
         going-done f =
             let d = running-done running (g .left) (sym stopped-is ∙ f) in
-            record {
-              answer-is = answer-is ∙ finished-answer b s d;
-              shares-are = next-held .shares-are ∙ ap (λ z. z .shares) (finished-iterate b s d);
-            }
+            (answer-is ∙ finished-answer b s d, rw (next-held .steps-are) (ap (λ z. z .shares) (finished-iterate b s d)))

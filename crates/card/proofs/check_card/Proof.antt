@@ -1,7 +1,7 @@
 -- `card::check_card` meets its contract.
 use mathlib.Core.Path.{refl, sym, _∙_}
 use denote.Ref.{now}
-use Rattle.search.proofs.States.{sheet-fits}
+use Rattle.iteration.proofs.States.{sheet-fits}
 use Rattle.card_input.proofs.Reading.{bytes-of}
 use Rattle.card.proofs.Judging.{formed}
 use Rattle.card.proofs.Checking.{layout-boats, pairs-room, pairs-asked, found-are, refused-by-files, refused-short, refused-by-form, form-zero, refused-by-truth, answered}
@@ -16,8 +16,8 @@ use Rattle.card_input.proofs.pair_count.Reads as pair-count-reads
 use Rattle.card_input.proofs.shares_of.Reads as shares-of-reads
 use Rattle.validation.proofs.files_refusal.Reads as files-refusal-reads
 use Rattle.files.proofs.steps.Reads as steps-reads
-use Rattle.search.proofs.fill.Reads as fill-reads
-use Rattle.search.proofs.layout_of.Reads as layout-of-reads
+use Rattle.card.proofs.fill.Reads as fill-reads
+use Rattle.iteration.proofs.layout_of.Reads as layout-of-reads
 
 files-refusal-requires : tie.Need-files-refusal-requires
 files-refusal-requires c κs = search needs

@@ -1,6 +1,6 @@
 -- `card::judged` meets its contract.
 use native.Mathlib.Omega.{arith}
-use Rattle.search.proofs.States.{sheet-fits}
+use Rattle.iteration.proofs.States.{sheet-fits}
 use Rattle.card.proofs.Judging.{long, few-boats, total-refused, steps-asked, total-asked, numbers-refused, tolerance-refused, judged-true}
 use Rattle.card.proofs.judged.Statement.{statement}
 use Rattle.card.proofs.judged.Tie as tie

@@ -1,7 +1,7 @@
 -- `card::write_card` meets its contract.
 use denote.Ref.{now}
 use mathlib.Core.Path.{sym, _∙_}
-use Rattle.search.proofs.States.{book-fits, sheet-fits}
+use Rattle.iteration.proofs.States.{book-fits, sheet-fits}
 use Rattle.card.proofs.Filing.{refused-by-files, refused-short, pairs-fit, filed}
 use borrow.Author.Needs.{needs}
 use Rattle.card.proofs.write_card.Statement.{statement}
@@ -26,11 +26,16 @@ returns c = refused-by-files _ _ _ _ (c .before .files-refusal .ensures) (c .if1
 boats-requires : tie.Need-boats-requires
 boats-requires c κs = book-fits _ _ (sym (c .before .files-refusal .ensures) ∙ c .if1 .left) .at-least
 
+slice-aggregate-run : tie.Need-slice-aggregate-run
+slice-aggregate-run c = search needs
+
 run-requires : tie.Need-run-requires
-run-requires c κs = search needs
+run-requires c κs =
+    let ok = sym (c .before .before .before .files-refusal .ensures) ∙ c .before .before .if1 .left in
+    (ok, book-fits _ _ ok .most-boats)
 
 holding-requires : tie.Need-holding-requires
-holding-requires c κs = rw (c .before .before .boats .ensures) (book-fits _ _ (sym (c .before .before .before .before .files-refusal .ensures) ∙ c .before .before .before .if1 .left) .most-boats)
+holding-requires c κs = rw (c .before .before .before .boats .ensures) (book-fits _ _ (sym (c .before .before .before .before .before .files-refusal .ensures) ∙ c .before .before .before .before .if1 .left) .most-boats)
 
 mul-back : tie.Need-mul-back
 mul-back c = search needs
@@ -39,10 +44,12 @@ add-if2 : tie.Need-add-if2
 add-if2 c = search needs
 
 returns-2 : tie.Need-returns-2
-returns-2 c = refused-short _ _ _ (sym (c .before .before .before .before .before .before .files-refusal .ensures) ∙ c .before .before .before .before .before .if1 .left) (c .before .before .before .before .boats .ensures) (c .before .before .before .run .ensures) _ (c .before .holding .ensures .0) (c .if2 .taken)
+returns-2 c = refused-short _ _ _ (sym (c .before .before .before .before .before .before .before .files-refusal .ensures) ∙ c .before .before .before .before .before .before .if1 .left) (c .before .before .before .before .before .boats .ensures) (c .before .before .before .run .ensures .0) _ (c .before .before .before .run .ensures .1) _ (c .before .holding .ensures .0) (c .if2 .taken)
 
 put-pairs-requires : tie.Need-put-pairs-requires
-put-pairs-requires c κs = (rw (c .before .before .before .before .before .before .boats .ensures) (book-fits _ _ (sym (c .before .before .before .before .before .before .before .before .files-refusal .ensures) ∙ c .before .before .before .before .before .before .before .if1 .left) .most-boats), pairs-fit _ _ (now (c .before .before .before .before .before .before .before .before .before .before .before .before .args .output)) (sym (c .before .before .before .before .before .before .before .before .files-refusal .ensures) ∙ c .before .before .before .before .before .before .before .if1 .left) (c .before .before .before .before .before .before .boats .ensures) (c .before .before .before .before .before .run .ensures) _ (c .before .before .before .holding .ensures .0) (c .before .before .if2 .left))
+put-pairs-requires c κs =
+    let ok = sym (c .before .before .before .before .before .before .before .before .files-refusal .ensures) ∙ c .before .before .before .before .before .before .before .if1 .left in
+    (rw (c .before .before .before .before .before .before .boats .ensures) (book-fits _ _ ok .most-boats), pairs-fit _ _ (now (c .before .before .before .before .before .before .before .before .before .before .before .before .args .output)) ok (c .before .before .before .before .before .before .boats .ensures) (c .before .before .before .before .run .ensures .0) _ (c .before .before .before .before .run .ensures .1) _ (c .before .before .holding .ensures .0) (c .before .if2 .left))
 
 tolerance-requires : tie.Need-tolerance-requires
 tolerance-requires c κs = sheet-fits _ _ (sym (c .before .before .before .before .before .before .before .before .before .before .before .before .files-refusal .ensures) ∙ c .before .before .before .before .before .before .before .before .before .before .before .if1 .left) .at-least
@@ -53,14 +60,16 @@ columns-requires c κs = book-fits _ _ (sym (c .before .before .before .before .
 put-trailer-requires : tie.Need-put-trailer-requires
 put-trailer-requires c κs = search needs
 
-add-t12 : tie.Need-add-t12
-add-t12 c = search needs
+add-t14 : tie.Need-add-t14
+add-t14 c = search needs
 
 same-length : tie.Need-same-length
 same-length c = search needs
 
 returns-3 : tie.Need-returns-3
-returns-3 c = filed _ _ _ (sym (c .before .before .before .before .before .before .before .before .before .before .before .before .before .before .before .before .before .files-refusal .ensures) ∙ c .before .before .before .before .before .before .before .before .before .before .before .before .before .before .before .before .if1 .left) (c .before .before .before .before .before .before .before .before .before .before .before .before .before .before .before .boats .ensures) (c .before .before .before .before .before .before .before .before .before .before .before .before .before .before .run .ensures) _ (c .before .before .before .before .before .before .before .before .before .before .before .before .holding .ensures .0) (c .before .before .before .before .before .before .before .before .before .before .before .if2 .left) _ _ (c .before .before .before .before .before .before .before .before .put-pairs .ensures) _ _ (c .before .before .before .before .tolerance .ensures) (c .before .before .before .columns .ensures .0) (c .before .before .put-trailer .ensures)
+returns-3 c =
+    let ok = sym (c .before .before .before .before .before .before .before .before .before .before .before .before .before .before .before .before .before .files-refusal .ensures) ∙ c .before .before .before .before .before .before .before .before .before .before .before .before .before .before .before .before .if1 .left in
+    filed _ _ _ ok (c .before .before .before .before .before .before .before .before .before .before .before .before .before .before .before .boats .ensures) (c .before .before .before .before .before .before .before .before .before .before .before .before .before .run .ensures .0) _ (c .before .before .before .before .before .before .before .before .before .before .before .before .before .run .ensures .1) _ (c .before .before .before .before .before .before .before .before .before .before .before .holding .ensures .0) (c .before .before .before .before .before .before .before .before .before .before .if2 .left) _ _ (c .before .before .before .before .before .before .before .before .put-pairs .ensures) _ _ (c .before .before .before .before .tolerance .ensures) (c .before .before .before .columns .ensures .0) (c .before .before .put-trailer .ensures)
 
 pub write-card-spec : {M : Type 1} → statement M
 write-card-spec =
@@ -69,6 +78,7 @@ write-card-spec =
     files-refusal-requires
     returns
     boats-requires
+    slice-aggregate-run
     run-requires
     holding-requires
     mul-back
@@ -78,6 +88,6 @@ write-card-spec =
     tolerance-requires
     columns-requires
     put-trailer-requires
-    add-t12
+    add-t14
     same-length
     returns-3)

@@ -1,15 +1,16 @@
 -- `exports::put_bytes` meets its contract; `Inv-loop` is what its loop keeps.
 use borrow.Author.Needs.{needs}
 use Prim.Native.Nat.{_-_}
-use mathlib.Core.Path.{_≡_}
-use lib.ListN.{length}
+use mathlib.Core.Path.{_≡_, sym}
+use lib.ListN.{length, take}
+use lib.Seq.{length-take-le, getD-take}
 use native.Mathlib.Omega.{arith}
-use Rattle.search.proofs.Filling.{Filled, filled-start, filled-more, filled-end}
+use Rattle.integers.proofs.Filling.{Filled, filled-start, filled-long, filled-more, filled-end}
 use Rattle.exports.proofs.put_bytes.Statement.{statement}
 use Rattle.exports.proofs.put_bytes.Tie as tie
 
 abbrev Inv-loop : tie.InvT-loop
-Inv-loop count to₀ from i₀ to i = Filled count to₀ from i to
+Inv-loop count to₀ from i₀ to i = Filled to₀ (take count from) i to
 
 abbrev μ-loop : tie.MeasureT-loop
 μ-loop count to₀ from i₀ to i = count - i
@@ -21,7 +22,10 @@ array-read-to : tie.Need-array-read-to Inv-loop μ-loop
 array-read-to c = search needs
 
 slice-write-to : tie.Need-slice-write-to Inv-loop μ-loop
-slice-write-to c = search needs
+slice-write-to c =
+    let l : length (c .before .before .args .t1) ≡ 4096 = search needs in
+    let n = length-take-le (c .before .before .args .count) (c .before .before .args .t1) (omega arith) in
+    omega (arith, c .loop-test .taken, filled-long (c .before .loop .inv) (rw n (c .before .before .pre .1)), c .before .before .pre .1)
 
 add-i : tie.Need-add-i Inv-loop μ-loop
 add-i c = search needs
@@ -32,13 +36,21 @@ loop-less c = search needs
 loop-again : tie.Need-loop-again Inv-loop μ-loop
 loop-again c =
     let l : length (c .before .before .args .t1) ≡ 4096 = search needs in
-    filled-more (c .before .loop .inv) (omega arith) (omega arith) (c .loop-test .taken)
+    let n = length-take-le (c .before .before .args .count) (c .before .before .args .t1) (omega arith) in
+    filled-more (c .before .loop .inv) (rw n (c .before .before .pre .1)) 0 (rw n (c .loop-test .taken)) (sym (getD-take _ _ _ 0 (c .loop-test .taken)))
 
 same-length : tie.Need-same-length Inv-loop μ-loop
-same-length c = search needs
+same-length c =
+    let l : length (c .before .before .args .t1) ≡ 4096 = search needs in
+    let n = length-take-le (c .before .before .args .count) (c .before .before .args .t1) (omega arith) in
+    filled-long (c .before .loop .inv) (rw n (c .before .before .pre .1))
 
 returns : tie.Need-returns Inv-loop μ-loop
-returns c = filled-end (c .before .loop .inv) (c .loop-test .left)
+returns c =
+    let l : length (c .before .before .args .t1) ≡ 4096 = search needs in
+    let n = length-take-le (c .before .before .args .count) (c .before .before .args .t1) (omega arith) in
+    let e = filled-end (c .before .loop .inv) (rw n (c .loop-test .left)) in
+    rw n at e
 
 pub put-bytes-spec : {M : Type 1} → statement M
 put-bytes-spec =

@@ -2,7 +2,6 @@
 use borrow.Author.Needs.{needs}
 use Prim.Native.Nat.{_-_}
 use native.Mathlib.Omega.{arith}
-use mathlib.Core.Path.{refl}
 use Rattle.scoring.proofs.Differences.{Differing, differing-start, differing-end, differing-more, wide-fits, narrow-fits}
 use Rattle.scoring.proofs.difference.Statement.{statement}
 use Rattle.scoring.proofs.difference.Tie as tie
@@ -17,7 +16,7 @@ abbrev μ-loop : tie.MeasureT-loop
 μ-loop book at sheet from columns d₀ j₀ d j = columns - j
 
 loop-holds : tie.Need-loop-holds Inv-loop μ-loop
-loop-holds c = differing-start refl
+loop-holds c = differing-start
 
 mul-value-at : tie.Need-mul-value-at Inv-loop μ-loop
 mul-value-at c = search needs
@@ -59,7 +58,7 @@ loop-again : tie.Need-loop-again Inv-loop μ-loop
 loop-again c = differing-more (c .before .before .before .loop .inv) (c .before .before .before .before .before .before .pre .0 .few-columns) (c .before .before .before .before .before .before .pre .1 .1 .0) (c .before .before .before .before .before .before .pre .1 .1 .1) (c .before .before .loop-test .taken) (c .before .value-at .ensures) (c .value-at2 .ensures)
 
 returns : tie.Need-returns Inv-loop μ-loop
-returns c = differing-end (c .before .loop .inv) (c .loop-test .left)
+returns c = differing-end (c .before .loop .inv) (c .before .before .before .before .pre .0 .few-columns) (c .loop-test .left)
 
 pub difference-spec : {M : Type 1} → statement M
 difference-spec =

@@ -1,11 +1,11 @@
 -- `scoring::products` meets its contract; `Inv-loop` is what its loop keeps.
 use borrow.Author.Needs.{needs, sfits-of}
 use Prim.Native.Nat.{_-_}
-use lib.ListN.{take}
+use lib.ListN.{take, length}
+use mathlib.Core.Path.{_≡_, refl}
 use native.Mathlib.Omega.{arith}
-use mathlib.Core.Path.{refl}
 use mir.Facts.{toZ-ofZ}
-use Rattle.scoring.proofs.Rows.{Produced, produced-start, produced-end, row-span, row-range, produced-more}
+use Rattle.scoring.proofs.Passes.{Stored, row-span, row-range, stored-start, stored-more, stored-end, stored-long}
 use Rattle.scoring.proofs.products.Statement.{statement}
 use Rattle.scoring.proofs.products.Tie as tie
 use Rattle.scoring.proofs.products.Reads as reads
@@ -13,28 +13,28 @@ use Rattle.scoring.proofs.products.Lts as lts
 use Rattle.scoring.proofs.narrow_inner.Reads as narrow-inner-reads
 
 abbrev Inv-loop : tie.InvT-loop
-Inv-loop d book at boats columns row₀ p₀ i₀ row p i = Produced (take columns d) book at boats columns row p i
+Inv-loop d book at boats columns to₀ p₀ i₀ to p i = Stored (take columns d) book at boats columns to₀ to p i
 
 abbrev μ-loop : tie.MeasureT-loop
-μ-loop d book at boats columns row₀ p₀ i₀ row p i = boats - i
+μ-loop d book at boats columns to₀ p₀ i₀ to p i = boats - i
 
 loop-holds : tie.Need-loop-holds Inv-loop μ-loop
-loop-holds c = produced-start refl
+loop-holds c = stored-start (c .before .pre .0)
 
 narrow-inner-requires : tie.Need-narrow-inner-requires Inv-loop μ-loop
-narrow-inner-requires c κs = (row-span (c .before .loop .inv) (c .before .before .before .pre .0) (c .loop-test .taken), (c .before .before .before .pre .1 .0, row-range (c .before .loop .inv) (c .before .before .before .pre .0) (c .loop-test .taken) (c .before .before .before .pre .1 .1)))
+narrow-inner-requires c κs = (row-span (c .before .before .before .pre .0) (c .loop-test .taken) (c .before .loop .inv .place), (c .before .before .before .pre .1 .0, row-range (c .before .before .before .pre .0) (c .loop-test .taken) (c .before .loop .inv .place) (c .before .before .before .pre .1 .1 .0)))
 
-mul-row : tie.Need-mul-row Inv-loop μ-loop
-mul-row c = search needs
+mul-t11 : tie.Need-mul-t11 Inv-loop μ-loop
+mul-t11 c = search needs
 
-array-set-from-row : tie.Need-array-set-from-row Inv-loop μ-loop
-array-set-from-row c = omega (arith, c .before .loop-test .taken, c .before .before .before .before .pre .0 .few-boats)
+slice-set-from-to : tie.Need-slice-set-from-to Inv-loop μ-loop
+slice-set-from-to c = omega (arith, c .before .loop-test .taken, stored-long (c .before .before .before .before .pre .0) (c .before .before .loop .inv) (c .before .before .before .before .pre .1 .1 .1), c .before .before .before .before .pre .1 .1 .1)
 
 mul-p : tie.Need-mul-p Inv-loop μ-loop
 mul-p c = search needs
 
 add-p : tie.Need-add-p Inv-loop μ-loop
-add-p c = omega (arith, row-span (c .before .before .loop .inv) (c .before .before .before .before .pre .0) (c .before .loop-test .taken))
+add-p c = omega (arith, row-span (c .before .before .before .before .pre .0) (c .before .loop-test .taken) (c .before .before .loop .inv .place))
 
 add-i : tie.Need-add-i Inv-loop μ-loop
 add-i c = search needs
@@ -43,10 +43,13 @@ loop-less : tie.Need-loop-less Inv-loop μ-loop
 loop-less c = search needs
 
 loop-again : tie.Need-loop-again Inv-loop μ-loop
-loop-again c = produced-more (c .before .before .loop .inv) (c .before .before .before .before .pre .0) (c .before .loop-test .taken) (c .narrow-inner .ensures) (toZ-ofZ (sfits-of (c .narrow-inner .ok)))
+loop-again c = stored-more (c .before .before .before .before .pre .0) (c .before .before .loop .inv) (c .before .before .before .before .pre .1 .1 .1) (c .before .loop-test .taken) (c .narrow-inner .ensures) (toZ-ofZ (sfits-of (c .narrow-inner .ok)))
+
+same-length : tie.Need-same-length Inv-loop μ-loop
+same-length c = stored-long (c .before .before .before .pre .0) (c .before .loop .inv) (c .before .before .before .pre .1 .1 .1)
 
 returns : tie.Need-returns Inv-loop μ-loop
-returns c = produced-end (c .before .loop .inv) (c .before .before .before .pre .0) (c .loop-test .left)
+returns c = stored-end (c .before .before .before .pre .0) (c .before .loop .inv) (c .loop-test .left)
 
 pub products-spec : {M : Type 1} → statement M
 products-spec =
@@ -56,11 +59,12 @@ products-spec =
     μ-loop
     loop-holds
     narrow-inner-requires
-    mul-row
-    array-set-from-row
+    mul-t11
+    slice-set-from-to
     mul-p
     add-p
     add-i
     loop-less
     loop-again
+    same-length
     returns)

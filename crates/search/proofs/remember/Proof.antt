@@ -1,13 +1,11 @@
 -- `search::remember` meets its contract.
-use native.Mathlib.Omega.{arith}
-use Rattle.search.proofs.Memory.{slot-fits, store-asks, tag-fits, kept, learnt}
+use Rattle.search.proofs.Memory.{slot-fits, slot-bytes-fit, slot-starts, tag-fits, part-room, learnt, kept}
 use borrow.Author.Needs.{needs}
 use Rattle.search.proofs.remember.Statement.{statement}
 use Rattle.search.proofs.remember.Tie as tie
 use Rattle.search.proofs.remember.Reads as reads
 use Rattle.search.proofs.remember.Lts as lts
-use Rattle.search.proofs.products_of.Reads as products-of-reads
-use Rattle.search.proofs.store.Reads as store-reads
+use Rattle.iteration.proofs.products_of.Reads as products-of-reads
 
 add-tag : tie.Need-add-tag
 add-tag c = search needs
@@ -21,14 +19,23 @@ mul-if1 c = search needs
 slice-read-if1 : tie.Need-slice-read-if1
 slice-read-if1 c = search needs
 
+mul-at : tie.Need-mul-at
+mul-at c = slot-fits _ _ (c .before .before .before .before .before .before .pre .0) (c .before .before .before .before .before .before .pre .1 .1 .1) (c .before .before .before .before .before .before .pre .1 .1 .0) (c .before .before .before .before .before .before .pre .1 .0)
+
+mul-products-of : tie.Need-mul-products-of
+mul-products-of c = slot-bytes-fit _ _ (c .before .before .before .before .before .before .pre .0) (c .before .before .before .before .before .before .pre .1 .1 .1) (c .before .before .before .before .before .before .pre .1 .1 .0) (c .before .before .before .before .before .before .pre .1 .0)
+
+sub-products-of : tie.Need-sub-products-of
+sub-products-of c = slot-starts _ _ (c .before .before .before .before .before .before .pre .0) (c .before .before .before .before .before .before .pre .1 .1 .1) (c .before .before .before .before .before .before .pre .1 .1 .0) (c .before .before .before .before .before .before .pre .1 .0)
+
+part-products-of-start : tie.Need-part-products-of-start
+part-products-of-start c = slot-starts _ _ (c .before .before .before .before .before .before .pre .0) (c .before .before .before .before .before .before .pre .1 .1 .1) (c .before .before .before .before .before .before .pre .1 .1 .0) (c .before .before .before .before .before .before .pre .1 .0)
+
+part-products-of-end : tie.Need-part-products-of-end
+part-products-of-end c = search needs
+
 products-of-requires : tie.Need-products-of-requires
-products-of-requires c κs = search needs
-
-mul-store : tie.Need-mul-store
-mul-store c = slot-fits _ _ (c .before .before .before .before .before .before .before .before .pre .0) (c .before .before .before .before .before .before .before .before .pre .1 .1 .1) (c .before .before .before .before .before .before .before .before .pre .1 .1 .0) (c .before .before .before .before .before .before .before .before .pre .1 .0) (search needs)
-
-store-requires : tie.Need-store-requires
-store-requires c κs = store-asks _ _ (c .before .before .before .before .before .before .before .before .pre .0) (c .before .before .before .before .before .before .before .before .pre .1 .1 .1) (c .before .before .before .before .before .before .before .before .pre .1 .1 .0) (c .before .before .before .before .before .before .before .before .pre .1 .0)
+products-of-requires c κs = (c .before .before .before .before .before .before .before .pre .0, (c .before .before .before .before .before .before .before .pre .1 .0, (c .before .before .before .before .before .before .before .pre .1 .1 .0, part-room _ _ (c .before .before .before .before .before .before .before .pre .0) (c .before .before .before .before .before .before .before .pre .1 .1 .1) (c .before .before .before .before .before .before .before .pre .1 .1 .0) (c .before .before .before .before .before .before .before .pre .1 .0))))
 
 mul-tags : tie.Need-mul-tags
 mul-tags c = search needs
@@ -43,7 +50,7 @@ same-length-2 : tie.Need-same-length-2
 same-length-2 c = search needs
 
 returns : tie.Need-returns
-returns c = learnt _ _ (c .before .before .before .before .before .before .before .before .before .before .pre .0) (c .before .before .before .before .before .before .before .before .before .before .pre .1 .1 .1) (c .before .before .before .before .before .before .before .before .before .before .pre .1 .1 .0) (c .before .before .before .before .before .before .before .before .before .before .pre .1 .0) (search needs) (c .before .before .before .before .products-of .ensures) (c .before .store .ensures)
+returns c = learnt _ _ (c .before .before .before .before .before .before .before .before .before .pre .0) (c .before .before .before .before .before .before .before .before .before .pre .1 .1 .1) (c .before .before .before .before .before .before .before .before .before .pre .1 .1 .0) (c .before .before .before .before .before .before .before .before .before .pre .1 .0) (c .before .products-of .ensures)
 
 returns-2 : tie.Need-returns-2
 returns-2 c = kept _ _ (c .before .before .before .before .before .pre .0) (c .before .before .before .before .before .pre .1 .1 .1) (c .before .before .before .before .before .pre .1 .1 .0) (c .if1 .left)
@@ -56,9 +63,12 @@ remember-spec =
     cast-tag
     mul-if1
     slice-read-if1
+    mul-at
+    mul-products-of
+    sub-products-of
+    part-products-of-start
+    part-products-of-end
     products-of-requires
-    mul-store
-    store-requires
     mul-tags
     slice-write-tags
     same-length

@@ -1,95 +1,137 @@
 -- `search::run` meets its contract.
-use native.Mathlib.Omega.{arith}
-use Rattle.search.proofs.States.{sheet-fits, best-below}
+use Rattle.method.specs.Answers.{run-iterate}
+use Rattle.iteration.proofs.States.{book-fits, sheet-fits}
 use Rattle.search.proofs.Memory.{room-for, room-always}
-use Rattle.search.proofs.Runs.{going-start, next-answerable, going-more, going-done}
+use Rattle.search.proofs.Runs.{first-done}
+use Rattle.search.proofs.Keeping.{boats-fit, cleared, cleared-shares, cleared-rest, behind, picks, first-held, first-room, first-shares, shared-end, scores-start, scores-for}
 use borrow.Author.Needs.{needs}
 use Rattle.search.proofs.run.Statement.{statement}
 use Rattle.search.proofs.run.Tie as tie
 use Rattle.search.proofs.run.Reads as reads
 use Rattle.search.proofs.run.Lts as lts
 use Rattle.files.proofs.steps.Reads as steps-reads
+use Rattle.iteration.proofs.State.fresh.Reads as fresh-reads
+use Rattle.iteration.proofs.first_answer.Reads as first-answer-reads
+use Rattle.iteration.proofs.layout_of.Reads as layout-of-reads
+use Rattle.iteration.proofs.least_product_of.Reads as least-product-of-reads
 use Rattle.method.proofs.stops.Reads as stops-reads
-use Rattle.search.proofs.State.answer.Reads as answer-reads
-use Rattle.search.proofs.State.fresh.Reads as fresh-reads
-use Rattle.search.proofs.State.next.Reads as next-reads
-use Rattle.search.proofs.layout_of.Reads as layout-of-reads
-use Rattle.search.proofs.products_of.Reads as products-of-reads
-use Rattle.search.proofs.run_on.Reads as run-on-reads
+use Rattle.search.proofs.add_shares.Reads as add-shares-reads
+use Rattle.search.proofs.clear.Reads as clear-reads
+use Rattle.search.proofs.run_from.Reads as run-from-reads
 
 layout-of-requires : tie.Need-layout-of-requires
 layout-of-requires c κs = search needs
 
-fresh-requires : tie.Need-fresh-requires
-fresh-requires c κs = search needs
+clear-requires : tie.Need-clear-requires
+clear-requires c κs = boats-fit _ _ (c .before .before .before .before .before .pre .0) (c .before .layout-of .ensures) (c .before .before .before .before .before .pre .1)
 
-products-of-requires : tie.Need-products-of-requires
-products-of-requires c κs = (c .before .before .before .before .pre, (c .before .layout-of .ensures, best-below _ _ (c .before .before .before .before .pre) (c .fresh .ensures)))
+least-product-of-requires : tie.Need-least-product-of-requires
+least-product-of-requires c κs = (c .before .before .before .before .before .before .before .before .pre .0, (c .before .before .before .before .layout-of .ensures, book-fits _ _ (c .before .before .before .before .before .before .before .before .pre .0) .some-boats))
 
-slice-aggregate-next : tie.Need-slice-aggregate-next
-slice-aggregate-next c = search needs
-
-next-requires : tie.Need-next-requires
-next-requires c κs = (c .before .before .before .before .before .before .pre, (c .before .before .before .layout-of .ensures, ((going-start _ _ (c .before .before .before .before .before .before .pre) (c .before .before .fresh .ensures)) .held, (omega (arith, c .before .before .fresh .ensures .steps-are), c .before .products-of .ensures))))
-
-answer-requires : tie.Need-answer-requires
-answer-requires c κs = next-answerable _ _ (c .before .before .before .before .before .before .before .pre) (going-start _ _ (c .before .before .before .before .before .before .before .pre) (c .before .before .before .fresh .ensures)) (c .next .ensures) (c .before .before .before .before .layout-of .ensures) (search needs)
+first-answer-requires : tie.Need-first-answer-requires
+first-answer-requires c κs = (c .before .before .before .before .before .before .before .before .before .pre .0, (c .before .before .before .before .before .layout-of .ensures, picks _ _ (c .before .before .before .before .before .before .before .before .before .pre .0) (c .least-product-of .ensures)))
 
 steps-requires : tie.Need-steps-requires
-steps-requires c κs = sheet-fits _ _ (c .before .before .before .before .before .before .before .before .pre) .at-least
+steps-requires c κs = sheet-fits _ _ (c .before .before .before .before .before .before .before .before .before .before .pre .0) .at-least
 
 stops-requires : tie.Need-stops-requires
 stops-requires c κs = search needs
 
+add-shares-requires : tie.Need-add-shares-requires
+add-shares-requires c κs = first-room _ _ (c .before .before .before .before .before .before .before .before .before .before .before .before .before .before .pre .0) (c .before .before .before .before .before .least-product-of .ensures) (cleared _ _ (c .before .before .before .before .before .before .before .before .before .before .before .before .before .before .pre .0) (c .before .before .before .before .before .before .before .before .before .before .layout-of .ensures) _ (c .before .before .before .before .before .before .before .before .before .before .before .before .before .before .pre .1) (c .before .before .before .before .before .before .before .before .clear .ensures))
+
+same-length : tie.Need-same-length
+same-length c = search needs
+
 returns : tie.Need-returns
-returns c = going-done _ _ (c .before .before .before .before .before .before .before .before .before .before .before .before .pre) (going-start _ _ (c .before .before .before .before .before .before .before .before .before .before .before .before .pre) (c .before .before .before .before .before .before .before .before .fresh .ensures)) (c .before .before .before .before .before .next .ensures) (c .before .before .before .before .before .before .before .before .before .layout-of .ensures) (search (needs, c .before .before .before .before .before .next .ok)) (c .before .before .before .before .answer .ensures) (c .before .before .before .steps .ensures) (c .before .before .stops .ensures) (c .before .if1 .taken)
+returns c =
+    let ok = c .before .before .before .before .before .before .before .before .before .before .before .before .before .before .before .before .before .pre .0 in
+    let d = first-done _ _ ok (c .before .before .before .before .before .before .before .first-answer .ensures) (c .before .before .before .before .before .before .steps .ensures) (c .before .before .before .before .before .stops .ensures) (c .before .before .before .before .if1 .taken) in
+    (d .0, shared-end (first-shares _ _ ok (c .before .before .before .before .before .before .before .before .least-product-of .ensures) (cleared _ _ ok (c .before .before .before .before .before .before .before .before .before .before .before .before .before .layout-of .ensures) _ (c .before .before .before .before .before .before .before .before .before .before .before .before .before .before .before .before .before .pre .1) (c .before .before .before .before .before .before .before .before .before .before .before .clear .ensures)) (c .before .before .add-shares .ensures)) (d .1))
 
-slice-aggregate-run-on : tie.Need-slice-aggregate-run-on
-slice-aggregate-run-on c = search needs
+fresh-requires : tie.Need-fresh-requires
+fresh-requires c κs = search needs
 
-run-on-requires : tie.Need-run-on-requires
-run-on-requires c κs = (c .before .before .before .before .before .before .before .before .before .before .before .before .before .before .pre, (c .before .before .before .before .before .before .before .before .before .before .before .layout-of .ensures, (going-more _ _ (c .before .before .before .before .before .before .before .before .before .before .before .before .before .before .pre) (going-start _ _ (c .before .before .before .before .before .before .before .before .before .before .before .before .before .before .pre) (c .before .before .before .before .before .before .before .before .before .before .fresh .ensures)) (c .before .before .before .before .before .before .before .next .ensures) (c .before .before .before .before .before .before .before .before .before .before .before .layout-of .ensures) (search (needs, c .before .before .before .before .before .before .before .next .ok)) (c .before .before .before .before .before .before .answer .ensures) (c .before .before .before .before .before .steps .ensures) (c .before .before .before .before .stops .ensures) (c .before .before .before .if1 .left), room-for _ _ 16 (c .before .before .before .before .before .before .before .before .before .before .before .layout-of .ensures) (c .before .if2 .taken))))
+slice-aggregate-run-from : tie.Need-slice-aggregate-run-from
+slice-aggregate-run-from c = search needs
+
+slice-aggregate-run-from-2 : tie.Need-slice-aggregate-run-from-2
+slice-aggregate-run-from-2 c = search needs
+
+run-from-requires : tie.Need-run-from-requires
+run-from-requires c κs =
+    let ok = c .before .before .before .before .before .before .before .before .before .before .before .before .before .before .before .before .before .before .pre .0 in
+    let l = c .before .before .before .before .before .before .before .before .before .before .before .before .before .before .layout-of .ensures in
+    (ok, (l, (first-held _ _ ok (c .before .before .before .before .before .before .before .before .before .least-product-of .ensures) (c .before .before .before .before .fresh .ensures), (cleared-shares _ _ ok l _ (c .before .before .before .before .before .before .before .before .before .before .before .before .before .before .before .before .before .before .pre .1) (c .before .before .before .before .before .before .before .before .before .before .before .before .clear .ensures), (scores-for _ _ ok 16 l (c .before .before .before .if2 .taken), room-for _ _ 16 l (c .before .before .before .if2 .taken))))))
+
+same-length-2 : tie.Need-same-length-2
+same-length-2 c = search needs
 
 returns-2 : tie.Need-returns-2
-returns-2 c = search needs
+returns-2 c = (c .before .before .before .before .run-from .ensures .0, behind (run-iterate (c .before .before .before .before .before .before .before .before .before .before .before .before .before .before .before .before .before .before .before .before .before .before .before .args .book .now) (c .before .before .before .before .before .before .before .before .before .before .before .before .before .before .before .before .before .before .before .before .before .before .before .args .sheet .now) .shares) (c .before .before .before .before .run-from .ensures .1) (cleared-rest _ _ (c .before .before .before .before .before .before .before .before .before .before .before .before .before .before .before .before .before .before .before .before .before .before .before .pre .0) (c .before .before .before .before .before .before .before .before .before .before .before .before .before .before .before .before .before .before .before .layout-of .ensures) _ (c .before .before .before .before .before .before .before .before .before .before .before .before .before .before .before .before .before .before .before .before .before .before .before .pre .1) (c .before .before .before .before .before .before .before .before .before .before .before .before .before .before .before .before .before .clear .ensures)))
 
-slice-aggregate-run-on-2 : tie.Need-slice-aggregate-run-on-2
-slice-aggregate-run-on-2 c = search needs
+slice-aggregate-run-from-3 : tie.Need-slice-aggregate-run-from-3
+slice-aggregate-run-from-3 c = search needs
 
-run-on-requires-2 : tie.Need-run-on-requires-2
-run-on-requires-2 c κs = (c .before .before .before .before .before .before .before .before .before .before .before .before .before .before .before .before .pre, (c .before .before .before .before .before .before .before .before .before .before .before .before .before .layout-of .ensures, (going-more _ _ (c .before .before .before .before .before .before .before .before .before .before .before .before .before .before .before .before .pre) (going-start _ _ (c .before .before .before .before .before .before .before .before .before .before .before .before .before .before .before .before .pre) (c .before .before .before .before .before .before .before .before .before .before .before .before .fresh .ensures)) (c .before .before .before .before .before .before .before .before .before .next .ensures) (c .before .before .before .before .before .before .before .before .before .before .before .before .before .layout-of .ensures) (search (needs, c .before .before .before .before .before .before .before .before .before .next .ok)) (c .before .before .before .before .before .before .before .before .answer .ensures) (c .before .before .before .before .before .before .before .steps .ensures) (c .before .before .before .before .before .before .stops .ensures) (c .before .before .before .before .before .if1 .left), room-for _ _ 64 (c .before .before .before .before .before .before .before .before .before .before .before .before .before .layout-of .ensures) (c .before .if3 .taken))))
+slice-aggregate-run-from-4 : tie.Need-slice-aggregate-run-from-4
+slice-aggregate-run-from-4 c = search needs
+
+run-from-requires-2 : tie.Need-run-from-requires-2
+run-from-requires-2 c κs =
+    let ok = c .before .before .before .before .before .before .before .before .before .before .before .before .before .before .before .before .before .before .before .pre .0 in
+    let l = c .before .before .before .before .before .before .before .before .before .before .before .before .before .before .before .layout-of .ensures in
+    (ok, (l, (first-held _ _ ok (c .before .before .before .before .before .before .before .before .before .before .least-product-of .ensures) (c .before .before .before .before .before .fresh .ensures), (cleared-shares _ _ ok l _ (c .before .before .before .before .before .before .before .before .before .before .before .before .before .before .before .before .before .before .before .pre .1) (c .before .before .before .before .before .before .before .before .before .before .before .before .before .clear .ensures), (scores-for _ _ ok 64 l (c .before .before .before .if3 .taken), room-for _ _ 64 l (c .before .before .before .if3 .taken))))))
+
+same-length-3 : tie.Need-same-length-3
+same-length-3 c = search needs
 
 returns-3 : tie.Need-returns-3
-returns-3 c = search needs
+returns-3 c = (c .before .before .before .before .run-from2 .ensures .0, behind (run-iterate (c .before .before .before .before .before .before .before .before .before .before .before .before .before .before .before .before .before .before .before .before .before .before .before .before .args .book .now) (c .before .before .before .before .before .before .before .before .before .before .before .before .before .before .before .before .before .before .before .before .before .before .before .before .args .sheet .now) .shares) (c .before .before .before .before .run-from2 .ensures .1) (cleared-rest _ _ (c .before .before .before .before .before .before .before .before .before .before .before .before .before .before .before .before .before .before .before .before .before .before .before .before .pre .0) (c .before .before .before .before .before .before .before .before .before .before .before .before .before .before .before .before .before .before .before .before .layout-of .ensures) _ (c .before .before .before .before .before .before .before .before .before .before .before .before .before .before .before .before .before .before .before .before .before .before .before .before .pre .1) (c .before .before .before .before .before .before .before .before .before .before .before .before .before .before .before .before .before .before .clear .ensures)))
 
-slice-aggregate-run-on-3 : tie.Need-slice-aggregate-run-on-3
-slice-aggregate-run-on-3 c = search needs
+slice-aggregate-run-from-5 : tie.Need-slice-aggregate-run-from-5
+slice-aggregate-run-from-5 c = search needs
 
-run-on-requires-3 : tie.Need-run-on-requires-3
-run-on-requires-3 c κs = (c .before .before .before .before .before .before .before .before .before .before .before .before .before .before .before .before .pre, (c .before .before .before .before .before .before .before .before .before .before .before .before .before .layout-of .ensures, (going-more _ _ (c .before .before .before .before .before .before .before .before .before .before .before .before .before .before .before .before .pre) (going-start _ _ (c .before .before .before .before .before .before .before .before .before .before .before .before .before .before .before .before .pre) (c .before .before .before .before .before .before .before .before .before .before .before .before .fresh .ensures)) (c .before .before .before .before .before .before .before .before .before .next .ensures) (c .before .before .before .before .before .before .before .before .before .before .before .before .before .layout-of .ensures) (search (needs, c .before .before .before .before .before .before .before .before .before .next .ok)) (c .before .before .before .before .before .before .before .before .answer .ensures) (c .before .before .before .before .before .before .before .steps .ensures) (c .before .before .before .before .before .before .stops .ensures) (c .before .before .before .before .before .if1 .left), room-always _ _ (c .before .before .before .before .before .before .before .before .before .before .before .before .before .before .before .before .pre))))
+slice-aggregate-run-from-6 : tie.Need-slice-aggregate-run-from-6
+slice-aggregate-run-from-6 c = search needs
+
+run-from-requires-3 : tie.Need-run-from-requires-3
+run-from-requires-3 c κs =
+    let ok = c .before .before .before .before .before .before .before .before .before .before .before .before .before .before .before .before .before .before .before .pre .0 in
+    let l = c .before .before .before .before .before .before .before .before .before .before .before .before .before .before .before .layout-of .ensures in
+    (ok, (l, (first-held _ _ ok (c .before .before .before .before .before .before .before .before .before .before .least-product-of .ensures) (c .before .before .before .before .before .fresh .ensures), (cleared-shares _ _ ok l _ (c .before .before .before .before .before .before .before .before .before .before .before .before .before .before .before .before .before .before .before .pre .1) (c .before .before .before .before .before .before .before .before .before .before .before .before .before .clear .ensures), (scores-start _ _ ok 256 (book-fits _ _ ok .most-boats), room-always _ _ ok)))))
+
+same-length-4 : tie.Need-same-length-4
+same-length-4 c = search needs
 
 returns-4 : tie.Need-returns-4
-returns-4 c = search needs
+returns-4 c = (c .before .before .before .before .run-from3 .ensures .0, behind (run-iterate (c .before .before .before .before .before .before .before .before .before .before .before .before .before .before .before .before .before .before .before .before .before .before .before .before .args .book .now) (c .before .before .before .before .before .before .before .before .before .before .before .before .before .before .before .before .before .before .before .before .before .before .before .before .args .sheet .now) .shares) (c .before .before .before .before .run-from3 .ensures .1) (cleared-rest _ _ (c .before .before .before .before .before .before .before .before .before .before .before .before .before .before .before .before .before .before .before .before .before .before .before .before .pre .0) (c .before .before .before .before .before .before .before .before .before .before .before .before .before .before .before .before .before .before .before .before .layout-of .ensures) _ (c .before .before .before .before .before .before .before .before .before .before .before .before .before .before .before .before .before .before .before .before .before .before .before .before .pre .1) (c .before .before .before .before .before .before .before .before .before .before .before .before .before .before .before .before .before .before .clear .ensures)))
 
 pub run-spec : {M : Type 1} → statement M
 run-spec =
     tie.close
     (tie.spec
     layout-of-requires
-    fresh-requires
-    products-of-requires
-    slice-aggregate-next
-    next-requires
-    answer-requires
+    clear-requires
+    least-product-of-requires
+    first-answer-requires
     steps-requires
     stops-requires
+    add-shares-requires
+    same-length
     returns
-    slice-aggregate-run-on
-    run-on-requires
+    fresh-requires
+    slice-aggregate-run-from
+    slice-aggregate-run-from-2
+    run-from-requires
+    same-length-2
     returns-2
-    slice-aggregate-run-on-2
-    run-on-requires-2
+    slice-aggregate-run-from-3
+    slice-aggregate-run-from-4
+    run-from-requires-2
+    same-length-3
     returns-3
-    slice-aggregate-run-on-3
-    run-on-requires-3
+    slice-aggregate-run-from-5
+    slice-aggregate-run-from-6
+    run-from-requires-3
+    same-length-4
     returns-4)

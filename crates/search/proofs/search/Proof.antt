@@ -1,7 +1,7 @@
 -- `search::search` meets its contract.
 use native.Mathlib.Omega.{arith}
 use mathlib.Core.Path.{sym, _∙_}
-use Rattle.search.proofs.States.{book-fits}
+use Rattle.iteration.proofs.States.{book-fits}
 use Rattle.search.proofs.Entry.{refused-by-files, refused-short, answered}
 use borrow.Author.Needs.{needs}
 use Rattle.search.proofs.search.Statement.{statement}
@@ -10,7 +10,6 @@ use Rattle.search.proofs.search.Reads as reads
 use Rattle.search.proofs.search.Lts as lts
 use Rattle.files.proofs.boats.Reads as boats-reads
 use Rattle.validation.proofs.files_refusal.Reads as files-refusal-reads
-use Rattle.search.proofs.fill.Reads as fill-reads
 use Rattle.search.proofs.run.Reads as run-reads
 
 files-refusal-requires : tie.Need-files-refusal-requires
@@ -26,18 +25,13 @@ returns-2 : tie.Need-returns-2
 returns-2 c = refused-short _ _ _ (sym (c .before .before .before .files-refusal .ensures) ∙ c .before .before .if1 .left) (c .before .boats .ensures) (c .if2 .taken)
 
 run-requires : tie.Need-run-requires
-run-requires c κs = search needs
-
-fill-requires : tie.Need-fill-requires
-fill-requires c κs =
-    let f = book-fits _ _ (sym (c .before .before .before .before .before .before .before .files-refusal .ensures) ∙ c .before .before .before .before .before .before .if1 .left) in
-    (omega (arith, c .before .before .before .before .before .boats .ensures, f .most-boats), omega (arith, c .before .before .before .before .if2 .left))
+run-requires c κs = (sym (c .before .before .before .before .files-refusal .ensures) ∙ c .before .before .before .if1 .left, omega (arith, c .before .before .boats .ensures, c .before .if2 .left))
 
 same-length : tie.Need-same-length
 same-length c = search needs
 
 returns-3 : tie.Need-returns-3
-returns-3 c = answered _ _ _ (sym (c .before .before .before .before .before .before .before .before .before .before .files-refusal .ensures) ∙ c .before .before .before .before .before .before .before .before .before .if1 .left) (c .before .before .before .before .before .before .before .before .boats .ensures) (c .before .before .before .before .before .before .before .if2 .left) (c .before .before .before .before .before .before .run .ensures) (c .before .before .fill .ensures)
+returns-3 c = answered _ _ _ (sym (c .before .before .before .before .before .before .before .files-refusal .ensures) ∙ c .before .before .before .before .before .before .if1 .left) (c .before .before .before .before .before .boats .ensures) (c .before .before .before .before .if2 .left) (c .before .before .run .ensures .0) (c .before .before .run .ensures .1)
 
 pub search-spec : {M : Type 1} → statement M
 search-spec =
@@ -48,6 +42,5 @@ search-spec =
     boats-requires
     returns-2
     run-requires
-    fill-requires
     same-length
     returns-3)

@@ -1,0 +1,43 @@
+-- `iteration::measured` meets its contract.
+use mathlib.Core.Path.{refl}
+use mir.Facts.{toZ-ofZ}
+use Rattle.iteration.proofs.Measuring.{gap-sized, judgeable, answer-is}
+use borrow.Author.Needs.{needs, sfits-of}
+use Rattle.iteration.proofs.measured.Statement.{statement}
+use Rattle.iteration.proofs.measured.Tie as tie
+use Rattle.iteration.proofs.measured.Reads as reads
+use Rattle.iteration.proofs.measured.Lts as lts
+use Rattle.files.proofs.tolerance.Reads as tolerance-reads
+use Rattle.method.proofs.judge.Reads as judge-reads
+use Rattle.scoring.proofs.gap_of.Reads as gap-of-reads
+use Rattle.scoring.proofs.inner_at.Reads as inner-at-reads
+use Rattle.scoring.proofs.squared_norm.Reads as squared-norm-reads
+
+squared-norm-requires : tie.Need-squared-norm-requires
+squared-norm-requires c κs = search needs
+
+inner-at-requires : tie.Need-inner-at-requires
+inner-at-requires c κs = search needs
+
+gap-of-requires : tie.Need-gap-of-requires
+gap-of-requires c κs = gap-sized (c .before .before .before .pre) (c .before .squared-norm .ensures) (c .inner-at .ensures) (toZ-ofZ (sfits-of (c .inner-at .ok))) refl
+
+tolerance-requires : tie.Need-tolerance-requires
+tolerance-requires c κs = search needs
+
+judge-requires : tie.Need-judge-requires
+judge-requires c κs = judgeable (c .before .before .before .before .before .pre) (c .before .before .before .squared-norm .ensures) (c .before .before .inner-at .ensures) (toZ-ofZ (sfits-of (c .before .before .inner-at .ok))) refl (c .before .gap-of .ensures) (c .tolerance .ensures)
+
+returns : tie.Need-returns
+returns c = answer-is (c .before .before .before .before .before .before .pre) (c .before .before .before .before .squared-norm .ensures) (c .before .before .before .inner-at .ensures) (toZ-ofZ (sfits-of (c .before .before .before .inner-at .ok))) refl (c .before .before .gap-of .ensures) (c .before .tolerance .ensures) (c .before .before .before .before .before .before .args .steps) (c .judge .ensures)
+
+pub measured-spec : {M : Type 1} → statement M
+measured-spec =
+    tie.close
+    (tie.spec
+    squared-norm-requires
+    inner-at-requires
+    gap-of-requires
+    tolerance-requires
+    judge-requires
+    returns)

@@ -1,0 +1,172 @@
+// The iteration of the mixture search: the state of a run, its steps, and the answer of a state.
+//
+// All functions are helpers for other crates, whose callers prove what they require.
+ghost use mathlib.Core.Path.{_≡_};
+ghost use mathlib.Core.List.{_++_};
+ghost use Prim.Native.Nat.{_+_, _≤_, _<_};
+ghost use lib.ListN.{length, take, drop};
+ghost use Rattle.files.specs.Book.{boats, rows};
+ghost use Rattle.files.specs.Sheet.{files-refusal};
+ghost use Rattle.files.specs.Sheet as Sheets;
+ghost use Rattle.files.specs.Bytes.{values};
+ghost use Rattle.method.specs.Iterates.{weight, argmin};
+ghost use Rattle.method.specs.Answers.{answer-at};
+ghost use Rattle.scoring.specs.Scores.{least-of};
+ghost use Rattle.iteration.specs.States.{file-layout, boat-products, iterate-of, scores-of, fresh-state, Holds};
+ghost use Rattle.iteration.specs.Measures.{measure, tolerance-of, Measurable, Answerable};
+use method::Answer;
+use scoring::Least;
+
+mod totals;
+
+// Where the rows of a fleet book and the target of a sheet stand in their bytes: the offset of the first row, and of the target.
+pub struct Layout {
+    pub boats: usize,
+    pub columns: usize,
+    pub rows: usize,
+    pub target: usize,
+}
+
+// The layout of files that are not refused.
+pub fn layout_of(book: &[u8], sheet: &[u8]) -> Layout
+    requires { ⌜ files-refusal (now book) (now sheet) ≡ 0 ⌝ }
+    ensures { λ r. ⌜ r ≡ file-layout (now (book .entry)) (now (sheet .entry)) ⌝ }
+{
+    Layout {
+        boats: files::boats(book),
+        columns: files::columns(book),
+        rows: files::book_body(book),
+        target: files::sheet_body(sheet),
+    }
+}
+
+// The products <v - u, w> of a boat's row v less the target with every row w, in the first slots of `to`.
+pub fn products_of(boat: usize, book: &[u8], sheet: &[u8], layout: Layout, to: &mut [i32])
+    requires { ⌜ files-refusal (now book) (now sheet) ≡ 0 ⌝ }
+    requires { ⌜ layout ≡ file-layout (now book) (now sheet) ⌝ }
+    requires { ⌜ boat < boats (now book) ⌝ }
+    requires { ⌜ boats (now book) ≤ length (now to) ⌝ }
+    ensures { λ _. ⌜ now (to .exit) ≡ boat-products (now (book .entry)) (now (sheet .entry)) boat ++ drop (boats (now (book .entry))) (now (to .entry)) ⌝ }
+{
+    let rows = layout.rows;
+    let target = layout.target;
+    let columns = layout.columns;
+    let boats = layout.boats;
+    let row = rows + 2 * (boat * columns);
+    let d = scoring::difference(book, row, sheet, target, columns);
+    scoring::products(&d, book, rows, boats, columns, to);
+}
+
+// The least of a boat's products. Of boat 0 it gives the first pick.
+pub fn least_product_of(boat: usize, book: &[u8], sheet: &[u8], layout: Layout) -> Least
+    requires { ⌜ files-refusal (now book) (now sheet) ≡ 0 ⌝ }
+    requires { ⌜ layout ≡ file-layout (now book) (now sheet) ⌝ }
+    requires { ⌜ boat < boats (now book) ⌝ }
+    ensures { λ x. ⌜ x ≡ least-of (boat-products (now (book .entry)) (now (sheet .entry)) boat) ⌝ }
+{
+    let rows = layout.rows;
+    let target = layout.target;
+    let columns = layout.columns;
+    let boats = layout.boats;
+    let row = rows + 2 * (boat * columns);
+    let d = scoring::difference(book, row, sheet, target, columns);
+    scoring::least_product(&d, book, rows, boats, columns)
+}
+
+// A run after some steps: the residual r = y - W u, one entry a column and 0 in later slots, and the boat that the next step
+// picks, with its score. The shares and the scores of the other boats are kept beside it.
+pub struct State {
+    pub steps: u32,
+    pub residual: [i32; 64],
+    pub best: usize,
+    pub least: i64,
+}
+
+impl State {
+    pub const MOST_STEPS: u32 = 360;
+
+    // No step taken, r = 0. `pick` is the boat that the first step picks.
+    pub fn fresh(pick: Least) -> State
+        ensures { λ r. ⌜ r ≡ fresh-state pick ⌝ }
+    {
+        State {
+            steps: 0,
+            residual: [0i32; 64],
+            best: pick.boat,
+            least: pick.score,
+        }
+    }
+
+    // Step k: the boat of least score gets k shares more, and the residual moves. `pick` is the boat of least score then.
+    pub fn next(self, book: &[u8], sheet: &[u8], layout: Layout, pick: Least) -> State
+        requires { ⌜ files-refusal (now book) (now sheet) ≡ 0 ⌝ }
+        requires { ⌜ layout ≡ file-layout (now book) (now sheet) ⌝ }
+        requires { ⌜ Holds (now book) (now sheet) (self .steps) self ⌝ }
+        requires { ⌜ self .steps < 360 ⌝ }
+        requires { ⌜ pick ≡ least-of (scores-of (now book) (now sheet) (self .steps + 1)) ⌝ }
+        ensures { λ r. ⌜ Holds (now (book .entry)) (now (sheet .entry)) (self .steps + 1) r ⌝ }
+    {
+        let rows = layout.rows;
+        let target = layout.target;
+        let columns = layout.columns;
+        let best = self.best;
+        let k = self.steps + 1;
+        let r = self.residual;
+        let at = rows + 2 * (best * columns);
+        let residual = scoring::moved(r, book, at, sheet, target, columns, k);
+        State {
+            steps: k,
+            residual,
+            best: pick.boat,
+            least: pick.score,
+        }
+    }
+}
+
+// The answer of a residual r of total w after so many steps, with the least of the boats' scores.
+pub fn measured(steps: u32, w: u32, r: &[i32], least: i64, sheet: &[u8], layout: Layout) -> Answer
+    requires { ⌜ Measurable (now r) w least (now sheet) layout ⌝ }
+    ensures { λ x. ⌜ x ≡ measure steps w (tolerance-of (now (sheet .entry))) (take (layout .columns) (now (r .entry))) (values (layout .columns) (drop (layout .target) (now (sheet .entry)))) least ⌝ }
+{
+    let columns = layout.columns;
+    let target = layout.target;
+    let e = scoring::squared_norm(r, columns);
+    let target_score = scoring::inner_at(r, sheet, target, columns);
+    let g = scoring::gap_of(e, w, target_score, least);
+    let verdict = method::judge(files::tolerance(sheet), w, e, g);
+    Answer {
+        steps,
+        weight: w,
+        distance: e,
+        gap: g,
+        verdict,
+    }
+}
+
+// The answer after the first step, which picks this boat. No state is made, for a run that ends here.
+pub fn first_answer(boat: usize, book: &[u8], sheet: &[u8], layout: Layout) -> Answer
+    requires { ⌜ files-refusal (now book) (now sheet) ≡ 0 ⌝ }
+    requires { ⌜ layout ≡ file-layout (now book) (now sheet) ⌝ }
+    requires { ⌜ boat ≡ argmin (scores-of (now book) (now sheet) 0) ⌝ }
+    ensures { λ x. ⌜ x ≡ answer-at (rows (now (book .entry))) (Sheets.sheet (now (sheet .entry))) 1 (iterate-of (now (book .entry)) (now (sheet .entry)) 1) ⌝ }
+{
+    let rows = layout.rows;
+    let target = layout.target;
+    let columns = layout.columns;
+    let at = rows + 2 * (boat * columns);
+    let pick = least_product_of(boat, book, sheet, layout);
+    let r = scoring::moved([0i32; 64], book, at, sheet, target, columns, 1);
+    measured(1, 1, &r, pick.score, sheet, layout)
+}
+
+impl State {
+    // The answer after the steps taken.
+    pub fn answer(self, sheet: &[u8], layout: Layout) -> Answer
+        requires { ⌜ Answerable self (now sheet) layout ⌝ }
+        ensures { λ x. ⌜ x ≡ measure (self .steps) (weight (self .steps)) (tolerance-of (now (sheet .entry))) (take (layout .columns) (self .residual)) (values (layout .columns) (drop (layout .target) (now (sheet .entry)))) (self .least) ⌝ }
+    {
+        let t = self.steps;
+        let r = self.residual;
+        measured(t, totals::total_after(t), &r, self.least, sheet, layout)
+    }
+}

@@ -1,0 +1,39 @@
+-- What a run keeps from step to step: the shares, the scores and the memory of products. Assumes nothing.
+use mathlib.Core.Path.{_≡_}
+use mathlib.Core.List.{List}
+use Prim.Native.Nat.{ℕ, suc, _*_, _-_, _≤_, _<_}
+use lib.ListN.{length, getD, take, drop}
+use lib.IntN.{ℤ}
+use Rattle.files.specs.Book.{boats, columns, rows}
+use Rattle.files.specs.Sheet.{sheet}
+use Rattle.method.specs.Iterates.{scores, residual}
+use Rattle.method.specs.Answers.{steps-from, steps-used}
+use Rattle.iteration.specs.declared.State.{State}
+use Rattle.iteration.specs.States.{iterate-of, boat-products, Holds}
+
+-- the state holds an iterate that did not stop the run, and steps are left
+pub record Going (b s : List ℕ) (x : State) : Type 0 where
+  pub held : Holds b s (x .steps) x
+  pub left : x .steps < sheet s .steps
+  pub undecided : steps-from (sheet s .steps - x .steps) (x .steps) (rows b) (sheet s) (iterate-of b s (x .steps)) ≡ steps-used (rows b) (sheet s) (columns b)
+
+-- the first slots are the shares of the iterate after t steps, one a boat
+pub record Shares-at (b s : List ℕ) (t : ℕ) (qs : List ℕ) : Type 0 where
+  pub room : boats b ≤ length qs
+  pub are : take (boats b) qs ≡ iterate-of b s t .shares
+
+-- the first slots are the scores under the residual after t steps, one a boat
+pub record Scores-at (b s : List ℕ) (t : ℕ) (ps : List ℤ) : Type 0 where
+  pub room : boats b ≤ length ps
+  pub are : take (boats b) ps ≡ scores (residual (sheet s .target) t (iterate-of b s t)) (rows b)
+
+-- the first slots are the products of a boat's row less the target with every row
+pub record Products (b s : List ℕ) (boat : ℕ) (ps : List ℤ) : Type 0 where
+  pub room : boats b ≤ length ps
+  pub are : take (boats b) ps ≡ boat-products b s boat
+
+-- each of 64 slots of the memory whose tag is a boat, counted from 1, holds that boat's products
+pub record Remembered (b s tags : List ℕ) (memory : List ℤ) : Type 0 where
+  pub slots : length tags ≡ 64
+  pub room : 64 * boats b ≤ length memory
+  pub products : (j i : ℕ) → j < 64 → getD tags j 0 ≡ suc i → Products b s i (drop (j * boats b) memory)
