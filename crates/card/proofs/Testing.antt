@@ -3,13 +3,10 @@ use mathlib.Core.Path.{_≡_, refl, sym, ap, _∙_}
 use mathlib.Core.Bool.{Bool, true, false, _&&_}
 use mathlib.Core.List.{List}
 use Prim.Native.Nat.{ℕ, _+_, _*_, _-_, _/_, _≤_, _<_}
-use native.Mathlib.Nat.{mul-le-mul, lt-of-le-of-lt}
 use native.Mathlib.Omega.{arith}
 use borrow.Author.Tests.{eq-eqb, ne-eqb, le-leb, lt-leb}
-use lib.Dec.{eqb, leb, lit<}
+use lib.Dec.{eqb, leb}
 use lib.ListN.{length}
-use mir.Syntax.{w32}
-use mir.Val.{Fits}
 use Rattle.frank_wolfe.specs.Vectors.{sum}
 use Rattle.files.specs.Bytes.{number}
 use Rattle.method.specs.declared.Answer.{Answer}
@@ -18,12 +15,6 @@ use Rattle.method.specs.Answers.{verdict-number, stops}
 use Rattle.card_format.specs.Format.{card-fields, pair-count}
 use Rattle.card_format.specs.Checks.{shares-total, numbers-agree}
 use Rattle.card_input.proofs.Reading.{verdict-at, distance-at, gap-at}
-
-pub weight-fits : (t : ℕ) → t < 65536 → Fits w32 (t * (t + 1))
-weight-fits t h =
-    let k : t ≤ 65535 = omega arith in
-    let l : t + 1 ≤ 65536 = omega arith in
-    record { fits = lt-of-le-of-lt (mul-le-mul k l) (lit< tt) }
 
 module _ (w qs : List ℕ) (t : ℕ) (et : t ≡ card-fields w .steps) (k : ℕ) (ek : k ≡ pair-count w) where
   pub boats-many : t < k → false ≡ shares-total (pair-count w) qs (card-fields w .steps)

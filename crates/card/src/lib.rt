@@ -3,18 +3,15 @@
 // Entries, which ask nothing of their caller: write_card, check_card.
 ghost use mathlib.Core.Path.{_≡_};
 ghost use mathlib.Core.List.{_++_};
-ghost use Prim.Native.Nat.{_≤_, _<_};
+ghost use Prim.Native.Nat.{_≤_};
 ghost use lib.ListN.{length, take, drop};
-ghost use Rattle.frank_wolfe.specs.Vectors.{subtract, scale, sum, combination};
-ghost use Rattle.files.specs.Book.{boats, columns, rows};
+ghost use Rattle.files.specs.Book.{boats, columns};
 ghost use Rattle.files.specs.Sheet.{files-refusal};
 ghost use Rattle.files.specs.Sheet as Sheets;
-ghost use Rattle.method.specs.Iterates.{weight};
 ghost use Rattle.method.specs.Answers.{outcome, slots-after, run-answer};
 ghost use Rattle.iteration.specs.States.{file-layout};
 ghost use Rattle.card_format.specs.Format.{card-fields, pair-count, card-shares, card-answer, run-card};
 ghost use Rattle.card_format.specs.Checks.{shares-total, numbers-agree, write-refusal, check-refusal};
-ghost use Rattle.card_format.specs.Truth.{answer-of};
 ghost use Rattle.card_input.specs.Forms.{form-refusal};
 ghost use Rattle.card.specs.Filing.{filing, Filing-right};
 ghost use Rattle.card.specs.Checking.{truth-refusal, Check-right};
@@ -58,45 +55,6 @@ pub fn write_card(book: &[u8], sheet: &[u8], output: &mut [u8]) -> Written
     Written::Filed(answer, back + 36)
 }
 
-// The residual of the first shares, one a boat: the sum over the boats of share × (row - target), one entry a column.
-fn residual_of(book: &[u8], sheet: &[u8], layout: Layout, shares: [u16; 256]) -> [i32; 64]
-    requires { ⌜ files-refusal (now book) (now sheet) ≡ 0 ⌝ }
-    requires { ⌜ layout ≡ file-layout (now book) (now sheet) ⌝ }
-    requires { ⌜ sum (take (boats (now book)) shares) ≤ 64980 ⌝ }
-    ensures { λ r. ⌜ take (columns (now (book .entry))) r ≡ subtract (combination (columns (now (book .entry))) (take (boats (now (book .entry))) shares) (rows (now (book .entry)))) (scale (sum (take (boats (now (book .entry))) shares)) (Sheets.sheet (now (sheet .entry)) .target)) ⌝ }
-{
-    let rows = layout.rows;
-    let target = layout.target;
-    let columns = layout.columns;
-    let boats = layout.boats;
-    let mut r = [0i32; 64];
-    let mut i = 0;
-    while i < boats {
-        let row = rows + 2 * (i * columns);
-        let share = card_input::wide(shares[i]);
-        let next = scoring::moved(r, book, row, sheet, target, columns, share);
-        r = next;
-        i += 1;
-    }
-    r
-}
-
-// The answer of the first shares, one a boat, after t steps.
-fn answer_of(book: &[u8], sheet: &[u8], layout: Layout, shares: [u16; 256], t: u32) -> Answer
-    requires { ⌜ files-refusal (now book) (now sheet) ≡ 0 ⌝ }
-    requires { ⌜ layout ≡ file-layout (now book) (now sheet) ⌝ }
-    requires { ⌜ (1 ≤ t) × (t ≤ 360) ⌝ }
-    requires { ⌜ sum (take (boats (now book)) shares) ≡ weight t ⌝ }
-    ensures { λ x. ⌜ x ≡ answer-of (now (book .entry)) (now (sheet .entry)) (take (boats (now (book .entry))) shares) t ⌝ }
-{
-    let rows = layout.rows;
-    let columns = layout.columns;
-    let boats = layout.boats;
-    let r = residual_of(book, sheet, layout, shares);
-    let least = scoring::least_score(&r, book, rows, boats, columns);
-    iteration::measured(t, t * (t + 1) / 2, &r, least.score, sheet, layout)
-}
-
 // Whether a card's boats that hold shares are no more than its steps used, and the shares total t (t + 1) / 2.
 fn shares_total(card: &[u8], shares: [u16; 256], boats: usize) -> bool
     requires { ⌜ (36 ≤ length (now card)) × (boats ≤ 256) ⌝ }
@@ -138,7 +96,7 @@ fn judged(book: &[u8], sheet: &[u8], layout: Layout, card: &[u8], shares: [u16; 
     if !shares_total(card, shares, layout.boats) {
         return Searched::Refused(37);
     }
-    let answer = answer_of(book, sheet, layout, shares, card_input::steps_used(card));
+    let answer = mixture::answer_of(book, sheet, layout, shares, card_input::steps_used(card));
     if !numbers_agree(card, files::steps(sheet), answer) {
         return Searched::Refused(38);
     }

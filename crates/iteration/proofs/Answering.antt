@@ -4,7 +4,7 @@ use mathlib.Core.List.{List}
 use Prim.Native.Nat.{ℕ, zero, suc, _+_, _-_, _*_, _≤_, _<_}
 use native.Mathlib.Nat.{le-refl, lt-of-le-of-lt}
 use native.Mathlib.Omega.{arith}
-use lib.ListN.{length, take, drop, replicate}
+use lib.ListN.{length, take, drop, replicate, length-append, length-replicate}
 use lib.Seq.{take-at}
 use lib.IntN.{ℤ, pos, natAbs, _+ℤ_, _-ℤ_, _*ℤ_}
 use lib.Signed.{_≤ℤ_}
@@ -22,17 +22,17 @@ use Rattle.method.proofs.Argmin.{argmin-at, argmin-below, among-row, least-scor
 use Rattle.method.proofs.Shares.{mixed-length}
 use Rattle.method.proofs.Mixtures.{gap-by-distance, gap-is, score-most, distance-most, gap-most}
 use Rattle.method.proofs.Accepted.{problem, in-range, mixed, residual-entries, residual-length}
-use Rattle.scoring.specs.Operands.{Span, Gap-sized}
+use Rattle.sums.specs.Operands.{Span, Gap-sized}
 use Rattle.iteration.specs.declared.Layout.{Layout}
 use Rattle.iteration.specs.declared.State.{State}
 use Rattle.iteration.specs.States.{file-layout, iterate-of, scores-of, Holds}
 use Rattle.iteration.specs.Measures.{gap-by, measure, Measurable, Answerable}
-use Rattle.iteration.proofs.States.{sheet-fits, target-span, target-is, bounded-front}
+use Rattle.iteration.proofs.States.{book-fits, sheet-fits, target-span, target-is, bounded-front}
 
 zero-≤ : (n : ℕ) → 0 ≤ n
 zero-≤ n = omega arith
 
-module _ (b s : List ℕ) (ok : files-refusal b s ≡ 0) {t : ℕ} {x : State} (H : Holds b s (suc t) x) (few : suc t ≤ 360) (n : length (x .residual) ≡ 64) where
+module _ (b s : List ℕ) (ok : files-refusal b s ≡ 0) {t : ℕ} {x : State} (H : Holds b s (suc t) x) (few : suc t ≤ 360) where
   abbrev u : List ℤ
   u = sheet s .target
 
@@ -41,6 +41,9 @@ module _ (b s : List ℕ) (ok : files-refusal b s ≡ 0) {t : ℕ} {x : State} (
 
   abbrev w : ℕ
   w = weight (suc t)
+
+  n : length (x .residual) ≡ 64
+  n = rw (H .residual-is, length-append, length-replicate, residual-length b s ok (suc t)) (omega (arith, book-fits b s ok .most-columns))
 
   some-weight : 1 ≤ w
   some-weight = weight-positive (omega arith)

@@ -4,7 +4,7 @@ use mathlib.Core.List.{List, _++_}
 use Prim.Native.Nat.{ℕ, _+_, _*_, _-_, _≤_, _<_}
 use native.Mathlib.Omega.{arith}
 use lib.IntN.{ℤ, pos, natAbs}
-use lib.ListN.{length, getD, take, drop, replicate, getD-replicate}
+use lib.ListN.{getD, take, drop, replicate, getD-replicate}
 use Rattle.files.specs.Bytes.{values}
 use Rattle.files.specs.Book.{boats, columns, rows, rows-offset}
 use Rattle.files.specs.Sheet.{sheet, target-offset, files-refusal}
@@ -13,7 +13,7 @@ use Rattle.method.specs.declared.Answer.{Answer}
 use Rattle.method.specs.Iterates.{weight, argmin, residual}
 use Rattle.method.specs.Answers.{answer-at}
 use Rattle.method.proofs.Accepted.{residual-length}
-use Rattle.scoring.specs.Operands.{Span, Movable}
+use Rattle.sums.specs.Operands.{Span, Movable}
 use Rattle.scoring.specs.Scores.{least-of}
 use Rattle.scoring.specs.declared.Least.{Least}
 use Rattle.iteration.specs.declared.Layout.{Layout}
@@ -45,7 +45,7 @@ module _ (b s : List ℕ) (ok : files-refusal b s ≡ 0) {i : ℕ} (h : i ≡ ar
         zero-entry : (j : ℕ) → j < columns b → natAbs (getD (replicate 64 (pos 0)) j (pos 0)) + 4000 * 1 ≤ 260000000
         zero-entry j k = rw (getD-replicate 64 j (pos 0) (pos 0) (omega (arith, book-fits b s ok .most-columns))) (omega arith)
 
-    module _ {r : List ℤ} (n : length r ≡ 64)
+    module _ {r : List ℤ}
         (er : r ≡ add (take (l .columns) (replicate 64 (pos 0))) (scale 1 (subtract (values (l .columns) (drop (l .rows + 2 * (i * l .columns)) b)) (values (l .columns) (drop (l .target) s)))) ++ drop (l .columns) (replicate 64 (pos 0)))
         {p : Least} (ep : p ≡ least-of (boat-products b s i)) {z : ℤ} (ez : z ≡ p .score) where
       held : Holds b s 1 (record { steps = 1; residual = r; best = p .boat; least = z })
@@ -57,8 +57,8 @@ module _ (b s : List ℕ) (ok : files-refusal b s ≡ 0) {i : ℕ} (h : i ≡ ar
 
       pub first-measurable : Measurable r 1 z s l
       unfolding weight
-      first-measurable = answerable b s ok held (omega arith) n e .numbers
+      first-measurable = answerable b s ok held (omega arith) e .numbers
 
       pub first-right : {a : Answer} → a ≡ measure 1 1 (sheet s .tolerance) (take (l .columns) r) (values (l .columns) (drop (l .target) s)) z → a ≡ answer-at (rows b) (sheet s) 1 (iterate-of b s 1)
       unfolding weight
-      first-right f = f ∙ answer-right b s ok held (omega arith) n e
+      first-right f = f ∙ answer-right b s ok held (omega arith) e

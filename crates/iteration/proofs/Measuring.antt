@@ -16,7 +16,7 @@ use Rattle.method.specs.Answers.{verdict}
 use Rattle.method.specs.Sizes.{Judgeable}
 use Rattle.method.specs.declared.Answer.{Answer}
 use Rattle.method.specs.declared.Verdict.{Verdict}
-use Rattle.scoring.specs.Operands.{Gap-sized}
+use Rattle.sums.specs.Operands.{Gap-sized}
 use Rattle.iteration.specs.declared.Layout.{Layout}
 use Rattle.iteration.specs.Measures.{gap-by, measure, Measurable}
 

@@ -22,7 +22,7 @@ use Rattle.method.proofs.Argmin.{argmin-below, among-row, score-at, length-scor
 use Rattle.method.proofs.Entries as E
 use Rattle.method.proofs.Shares.{residual-step, residual-start}
 use Rattle.method.proofs.Accepted.{in-range, residual-length}
-use Rattle.scoring.specs.Operands.{Bounded, Span, Grid, Movable, Rows-bounded, Rescorable}
+use Rattle.sums.specs.Operands.{Bounded, Span, Grid, Movable, Rows-bounded, Rescorable}
 use Rattle.scoring.specs.Scores.{least-of}
 use Rattle.scoring.specs.declared.Least.{Least}
 use Rattle.iteration.specs.declared.State.{State}

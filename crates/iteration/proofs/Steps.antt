@@ -17,7 +17,7 @@ use Rattle.method.specs.Iterates as M
 use Rattle.method.specs.Iterates.{weight, residual}
 use Rattle.method.proofs.Weights.{weight-most, weight-suc}
 use Rattle.method.proofs.Accepted.{residual-entries, residual-length}
-use Rattle.scoring.specs.Operands.{Bounded, Span, Grid, Movable, Rows-bounded}
+use Rattle.sums.specs.Operands.{Bounded, Span, Grid, Movable, Rows-bounded}
 use Rattle.scoring.specs.Scores.{least-of}
 use Rattle.scoring.specs.declared.Least.{Least}
 use Rattle.iteration.specs.declared.Layout.{Layout}

@@ -11,7 +11,7 @@ use Rattle.method.specs.Iterates.{natural, weight}
 use Rattle.method.specs.Answers.{verdict}
 use Rattle.method.specs.Sizes.{Judgeable}
 use Rattle.method.specs.declared.Answer.{Answer}
-use Rattle.scoring.specs.Operands.{Bounded, Span, Gap-sized}
+use Rattle.sums.specs.Operands.{Bounded, Span, Gap-sized}
 use Rattle.iteration.specs.declared.Layout.{Layout}
 use Rattle.iteration.specs.declared.State.{State}
 

@@ -53,7 +53,7 @@ pub fn products_of(boat: usize, book: &[u8], sheet: &[u8], layout: Layout, to: &
     let columns = layout.columns;
     let boats = layout.boats;
     let row = rows + 2 * (boat * columns);
-    let d = scoring::difference(book, row, sheet, target, columns);
+    let d = sums::difference(book, row, sheet, target, columns);
     scoring::products(&d, book, rows, boats, columns, to);
 }
 
@@ -69,7 +69,7 @@ pub fn least_product_of(boat: usize, book: &[u8], sheet: &[u8], layout: Layout) 
     let columns = layout.columns;
     let boats = layout.boats;
     let row = rows + 2 * (boat * columns);
-    let d = scoring::difference(book, row, sheet, target, columns);
+    let d = sums::difference(book, row, sheet, target, columns);
     scoring::least_product(&d, book, rows, boats, columns)
 }
 
@@ -113,7 +113,7 @@ impl State {
         let k = self.steps + 1;
         let r = self.residual;
         let at = rows + 2 * (best * columns);
-        let residual = scoring::moved(r, book, at, sheet, target, columns, k);
+        let residual = sums::moved(r, book, at, sheet, target, columns, k);
         State {
             steps: k,
             residual,
@@ -130,9 +130,9 @@ pub fn measured(steps: u32, w: u32, r: &[i32], least: i64, sheet: &[u8], layout:
 {
     let columns = layout.columns;
     let target = layout.target;
-    let e = scoring::squared_norm(r, columns);
-    let target_score = scoring::inner_at(r, sheet, target, columns);
-    let g = scoring::gap_of(e, w, target_score, least);
+    let e = sums::squared_norm(r, columns);
+    let target_score = sums::inner_at(r, sheet, target, columns);
+    let g = sums::gap_of(e, w, target_score, least);
     let verdict = method::judge(files::tolerance(sheet), w, e, g);
     Answer {
         steps,
@@ -155,7 +155,7 @@ pub fn first_answer(boat: usize, book: &[u8], sheet: &[u8], layout: Layout) -> A
     let columns = layout.columns;
     let at = rows + 2 * (boat * columns);
     let pick = least_product_of(boat, book, sheet, layout);
-    let r = scoring::moved([0i32; 64], book, at, sheet, target, columns, 1);
+    let r = sums::moved([0i32; 64], book, at, sheet, target, columns, 1);
     measured(1, 1, &r, pick.score, sheet, layout)
 }
 

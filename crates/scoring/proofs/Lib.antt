@@ -1,8 +1,3 @@
-pub mod Sums
-pub mod Squares
 pub mod Passes
-pub mod Moves
-pub mod Gaps
 pub mod Scans
 pub mod Rescores
-pub mod Differences

@@ -18,7 +18,7 @@ use Rattle.files.proofs.Rows.{length-rows-from, row-of-rows}
 use Rattle.frank_wolfe.specs.Vectors.{inner}
 use Rattle.method.specs.Iterates.{scores, row}
 use Rattle.method.proofs.Argmin.{length-scores, score-at}
-use Rattle.scoring.specs.Operands.{Bounded, Span, Grid, Rows-bounded}
+use Rattle.sums.specs.Operands.{Bounded, Span, Grid, Rows-bounded}
 use Rattle.scoring.specs.declared.Least.{Least}
 use Rattle.scoring.specs.Scores.{least-of}
 use Rattle.scoring.proofs.Scans.{Ahead, ahead-start, ahead-better, ahead-same, ahead-end}

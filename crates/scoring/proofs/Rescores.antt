@@ -15,10 +15,10 @@ use Rattle.integers.proofs.Bounds.{fits, read, abs-add, abs-mul-le}
 use Rattle.integers.proofs.Filling.{Filled, filled-start, filled-long, filled-later, filled-more, filled-end}
 use Rattle.frank_wolfe.specs.Vectors.{add, scale}
 use Rattle.frank_wolfe.proofs.Vectors.{length-add, length-scale}
-use Rattle.scoring.specs.Operands.{Score-sized, Rescorable}
+use Rattle.sums.specs.Operands.{Score-sized, Rescorable}
 use Rattle.scoring.specs.declared.Least.{Least}
 use Rattle.scoring.specs.Scores.{least-of}
-use Rattle.scoring.proofs.Sums.{cast-fits, cast-read}
+use Rattle.sums.proofs.Sums.{cast-fits, cast-read}
 use Rattle.scoring.proofs.Scans.{Ahead, ahead-first, ahead-better, ahead-same, ahead-end}
 
 module _ {b : ℤ} {k : ℕ} {p : ℤ} (z : Score-sized b k p) where

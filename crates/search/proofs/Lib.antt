@@ -1,4 +1,1 @@
-pub mod Memory
-pub mod Runs
-pub mod Keeping
 pub mod Entry

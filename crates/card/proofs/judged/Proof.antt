@@ -6,7 +6,7 @@ use Rattle.card.proofs.judged.Statement.{statement}
 use Rattle.card.proofs.judged.Tie as tie
 use Rattle.card.proofs.judged.Reads as reads
 use Rattle.card.proofs.judged.Lts as lts
-use Rattle.card.proofs.answer_of.Reads as answer-of-reads
+use Rattle.mixture.proofs.answer_of.Reads as answer-of-reads
 use Rattle.card.proofs.numbers_agree.Reads as numbers-agree-reads
 use Rattle.card.proofs.shares_total.Reads as shares-total-reads
 use Rattle.card_input.proofs.steps_used.Reads as steps-used-reads

@@ -1,5 +1,6 @@
 -- `card::shares_total` meets its contract.
-use Rattle.card.proofs.Testing.{boats-many, total-tested, weight-fits}
+use Rattle.card.proofs.Testing.{boats-many, total-tested}
+use Rattle.mixture.proofs.Answering.{product-fits}
 use borrow.Author.Needs.{needs}
 use Rattle.card.proofs.shares_total.Statement.{statement}
 use Rattle.card.proofs.shares_total.Tie as tie
@@ -28,7 +29,7 @@ add-result : tie.Need-add-result
 add-result c = search needs
 
 mul-result : tie.Need-mul-result
-mul-result c = weight-fits _ (c .before .before .before .steps-used .ensures .1)
+mul-result c = product-fits _ (c .before .before .before .steps-used .ensures .1)
 
 returns-2 : tie.Need-returns-2
 returns-2 c = search (needs, total-tested)

@@ -9,7 +9,7 @@ use Rattle.iteration.proofs.first_answer.Reads as reads
 use Rattle.iteration.proofs.first_answer.Lts as lts
 use Rattle.iteration.proofs.least_product_of.Reads as least-product-of-reads
 use Rattle.iteration.proofs.measured.Reads as measured-reads
-use Rattle.scoring.proofs.moved.Reads as moved-reads
+use Rattle.sums.proofs.moved.Reads as moved-reads
 
 mul-at : tie.Need-mul-at
 mul-at c = cell-fits _ _ (c .before .before .pre .0) (c .before .before .pre .1 .0) (pick-below _ _ (c .before .before .pre .0) (c .before .before .pre .1 .1)) (search needs)
@@ -30,10 +30,10 @@ slice-aggregate-measured : tie.Need-slice-aggregate-measured
 slice-aggregate-measured c = search needs
 
 measured-requires : tie.Need-measured-requires
-measured-requires c κs = first-measurable _ _ (c .before .before .before .before .before .before .pre .0) (c .before .before .before .before .before .before .pre .1 .1) (c .before .before .before .before .before .before .pre .1 .0) (search needs) (c .before .before .moved .ensures) (c .before .before .before .least-product-of .ensures) (toZ-ofZ (search (needs, c .struct-told .given)))
+measured-requires c κs = first-measurable _ _ (c .before .before .before .before .before .before .pre .0) (c .before .before .before .before .before .before .pre .1 .1) (c .before .before .before .before .before .before .pre .1 .0) (c .before .before .moved .ensures) (c .before .before .before .least-product-of .ensures) (toZ-ofZ (search (needs, c .struct-told .given)))
 
 returns : tie.Need-returns
-returns c = first-right _ _ (c .before .before .before .before .before .before .before .pre .0) (c .before .before .before .before .before .before .before .pre .1 .1) (c .before .before .before .before .before .before .before .pre .1 .0) (search needs) (c .before .before .before .moved .ensures) (c .before .before .before .before .least-product-of .ensures) (toZ-ofZ (search (needs, c .before .struct-told .given))) (c .measured .ensures)
+returns c = first-right _ _ (c .before .before .before .before .before .before .before .pre .0) (c .before .before .before .before .before .before .before .pre .1 .1) (c .before .before .before .before .before .before .before .pre .1 .0) (c .before .before .before .moved .ensures) (c .before .before .before .before .least-product-of .ensures) (toZ-ofZ (search (needs, c .before .struct-told .given))) (c .measured .ensures)
 
 pub first-answer-spec : {M : Type 1} → statement M
 first-answer-spec =

@@ -5,7 +5,7 @@ use Rattle.iteration.proofs.least_product_of.Statement.{statement}
 use Rattle.iteration.proofs.least_product_of.Tie as tie
 use Rattle.iteration.proofs.least_product_of.Reads as reads
 use Rattle.iteration.proofs.least_product_of.Lts as lts
-use Rattle.scoring.proofs.difference.Reads as difference-reads
+use Rattle.sums.proofs.difference.Reads as difference-reads
 use Rattle.scoring.proofs.least_product.Reads as least-product-reads
 
 mul-row : tie.Need-mul-row

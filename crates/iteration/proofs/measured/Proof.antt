@@ -9,9 +9,9 @@ use Rattle.iteration.proofs.measured.Reads as reads
 use Rattle.iteration.proofs.measured.Lts as lts
 use Rattle.files.proofs.tolerance.Reads as tolerance-reads
 use Rattle.method.proofs.judge.Reads as judge-reads
-use Rattle.scoring.proofs.gap_of.Reads as gap-of-reads
-use Rattle.scoring.proofs.inner_at.Reads as inner-at-reads
-use Rattle.scoring.proofs.squared_norm.Reads as squared-norm-reads
+use Rattle.sums.proofs.gap_of.Reads as gap-of-reads
+use Rattle.sums.proofs.inner_at.Reads as inner-at-reads
+use Rattle.sums.proofs.squared_norm.Reads as squared-norm-reads
 
 squared-norm-requires : tie.Need-squared-norm-requires
 squared-norm-requires c κs = search needs

@@ -5,7 +5,7 @@ use Rattle.iteration.proofs.products_of.Statement.{statement}
 use Rattle.iteration.proofs.products_of.Tie as tie
 use Rattle.iteration.proofs.products_of.Reads as reads
 use Rattle.iteration.proofs.products_of.Lts as lts
-use Rattle.scoring.proofs.difference.Reads as difference-reads
+use Rattle.sums.proofs.difference.Reads as difference-reads
 use Rattle.scoring.proofs.products.Reads as products-reads
 
 mul-row : tie.Need-mul-row

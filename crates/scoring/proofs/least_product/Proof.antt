@@ -12,7 +12,7 @@ use Rattle.scoring.proofs.least_product.Statement.{statement}
 use Rattle.scoring.proofs.least_product.Tie as tie
 use Rattle.scoring.proofs.least_product.Reads as reads
 use Rattle.scoring.proofs.least_product.Lts as lts
-use Rattle.scoring.proofs.narrow_inner.Reads as narrow-inner-reads
+use Rattle.sums.proofs.narrow_inner.Reads as narrow-inner-reads
 
 abbrev Inv-loop : tie.InvT-loop
 Inv-loop d book at boats columns boat₀ least₀ p₀ i₀ boat least p i = Passed (take columns d) book at boats columns w32 boat least p i × SFits w32 (toZ w32 least)

@@ -12,7 +12,7 @@ use Rattle.scoring.proofs.least_score.Statement.{statement}
 use Rattle.scoring.proofs.least_score.Tie as tie
 use Rattle.scoring.proofs.least_score.Reads as reads
 use Rattle.scoring.proofs.least_score.Lts as lts
-use Rattle.scoring.proofs.inner_at.Reads as inner-at-reads
+use Rattle.sums.proofs.inner_at.Reads as inner-at-reads
 
 abbrev Inv-loop : tie.InvT-loop
 Inv-loop r book at boats columns boat₀ score₀ p₀ i₀ boat score p i = Passed (take columns r) book at boats columns w64 boat score p i

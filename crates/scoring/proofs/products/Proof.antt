@@ -10,7 +10,7 @@ use Rattle.scoring.proofs.products.Statement.{statement}
 use Rattle.scoring.proofs.products.Tie as tie
 use Rattle.scoring.proofs.products.Reads as reads
 use Rattle.scoring.proofs.products.Lts as lts
-use Rattle.scoring.proofs.narrow_inner.Reads as narrow-inner-reads
+use Rattle.sums.proofs.narrow_inner.Reads as narrow-inner-reads
 
 abbrev Inv-loop : tie.InvT-loop
 Inv-loop d book at boats columns to₀ p₀ i₀ to p i = Stored (take columns d) book at boats columns to₀ to p i

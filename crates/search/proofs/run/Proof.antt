@@ -1,9 +1,9 @@
 -- `search::run` meets its contract.
 use Rattle.method.specs.Answers.{run-iterate}
 use Rattle.iteration.proofs.States.{book-fits, sheet-fits}
-use Rattle.search.proofs.Memory.{room-for, room-always}
-use Rattle.search.proofs.Runs.{first-done}
-use Rattle.search.proofs.Keeping.{boats-fit, cleared, cleared-shares, cleared-rest, behind, picks, first-held, first-room, first-shares, shared-end, scores-start, scores-for}
+use Rattle.runs.proofs.Memory.{room-for, room-always}
+use Rattle.runs.proofs.Runs.{first-done}
+use Rattle.runs.proofs.Keeping.{boats-fit, cleared, cleared-shares, cleared-rest, behind, picks, first-held, first-room, first-shares, shared-end, scores-start, scores-for}
 use borrow.Author.Needs.{needs}
 use Rattle.search.proofs.run.Statement.{statement}
 use Rattle.search.proofs.run.Tie as tie
@@ -15,9 +15,9 @@ use Rattle.iteration.proofs.first_answer.Reads as first-answer-reads
 use Rattle.iteration.proofs.layout_of.Reads as layout-of-reads
 use Rattle.iteration.proofs.least_product_of.Reads as least-product-of-reads
 use Rattle.method.proofs.stops.Reads as stops-reads
-use Rattle.search.proofs.add_shares.Reads as add-shares-reads
+use Rattle.runs.proofs.add_shares.Reads as add-shares-reads
 use Rattle.search.proofs.clear.Reads as clear-reads
-use Rattle.search.proofs.run_from.Reads as run-from-reads
+use Rattle.runs.proofs.run_from.Reads as run-from-reads
 
 layout-of-requires : tie.Need-layout-of-requires
 layout-of-requires c κs = search needs

@@ -7,7 +7,7 @@ use Rattle.iteration.proofs.State.next.Statement.{statement}
 use Rattle.iteration.proofs.State.next.Tie as tie
 use Rattle.iteration.proofs.State.next.Reads as reads
 use Rattle.iteration.proofs.State.next.Lts as lts
-use Rattle.scoring.proofs.moved.Reads as moved-reads
+use Rattle.sums.proofs.moved.Reads as moved-reads
 
 add-k : tie.Need-add-k
 add-k c = search needs

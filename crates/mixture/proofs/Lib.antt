@@ -1,0 +1,2 @@
+pub mod Residuals
+pub mod Answering

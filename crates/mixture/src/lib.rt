@@ -1,0 +1,54 @@
+// The answer of a list of shares, one a boat, which need not come from a run: its residual, and E, G and the verdict from it.
+//
+// Helper for other crates, whose callers prove what it requires: answer_of.
+ghost use mathlib.Core.Path.{_≡_};
+ghost use Prim.Native.Nat.{_≤_};
+ghost use lib.ListN.{take};
+ghost use Rattle.frank_wolfe.specs.Vectors.{subtract, scale, sum, combination};
+ghost use Rattle.files.specs.Book.{boats, columns, rows};
+ghost use Rattle.files.specs.Sheet.{files-refusal};
+ghost use Rattle.files.specs.Sheet as Sheets;
+ghost use Rattle.method.specs.Iterates.{weight};
+ghost use Rattle.iteration.specs.States.{file-layout};
+ghost use Rattle.card_format.specs.Truth.{answer-of};
+use iteration::Layout;
+use method::Answer;
+
+// The residual of the first shares, one a boat: the sum over the boats of share × (row - target), one entry a column.
+fn residual_of(book: &[u8], sheet: &[u8], layout: Layout, shares: [u16; 256]) -> [i32; 64]
+    requires { ⌜ files-refusal (now book) (now sheet) ≡ 0 ⌝ }
+    requires { ⌜ layout ≡ file-layout (now book) (now sheet) ⌝ }
+    requires { ⌜ sum (take (boats (now book)) shares) ≤ 64980 ⌝ }
+    ensures { λ r. ⌜ take (columns (now (book .entry))) r ≡ subtract (combination (columns (now (book .entry))) (take (boats (now (book .entry))) shares) (rows (now (book .entry)))) (scale (sum (take (boats (now (book .entry))) shares)) (Sheets.sheet (now (sheet .entry)) .target)) ⌝ }
+{
+    let rows = layout.rows;
+    let target = layout.target;
+    let columns = layout.columns;
+    let boats = layout.boats;
+    let mut r = [0i32; 64];
+    let mut i = 0;
+    while i < boats {
+        let row = rows + 2 * (i * columns);
+        let share = card_input::wide(shares[i]);
+        let next = sums::moved(r, book, row, sheet, target, columns, share);
+        r = next;
+        i += 1;
+    }
+    r
+}
+
+// The answer of the first shares, one a boat, after t steps.
+pub fn answer_of(book: &[u8], sheet: &[u8], layout: Layout, shares: [u16; 256], t: u32) -> Answer
+    requires { ⌜ files-refusal (now book) (now sheet) ≡ 0 ⌝ }
+    requires { ⌜ layout ≡ file-layout (now book) (now sheet) ⌝ }
+    requires { ⌜ (1 ≤ t) × (t ≤ 360) ⌝ }
+    requires { ⌜ sum (take (boats (now book)) shares) ≡ weight t ⌝ }
+    ensures { λ x. ⌜ x ≡ answer-of (now (book .entry)) (now (sheet .entry)) (take (boats (now (book .entry))) shares) t ⌝ }
+{
+    let rows = layout.rows;
+    let columns = layout.columns;
+    let boats = layout.boats;
+    let r = residual_of(book, sheet, layout, shares);
+    let least = scoring::least_score(&r, book, rows, boats, columns);
+    iteration::measured(t, t * (t + 1) / 2, &r, least.score, sheet, layout)
+}

@@ -1,0 +1,206 @@
+-- What a run keeps from step to step: shares, scores and the memory of products follow the state. Assumes nothing.
+use mathlib.Core.Path.{_≡_, refl, sym, ap, _∙_, subst}
+use mathlib.Core.List.{List, _++_}
+use Prim.Native.Nat.{ℕ, zero, suc, _+_, _*_, _-_, _≤_, _<_}
+use native.Mathlib.Omega.{arith}
+use native.Mathlib.Numerals.{add-one}
+use lib.IntN.{ℤ, pos, natAbs}
+use lib.ListN.{length, getD, set, take, drop, replicate, length-append, length-replicate, length-set, take-append-drop}
+use lib.Seq.{getD-take, take-at, drop-at, set-append-left, length-front, length-take-le}
+use Rattle.integers.proofs.Filling.{replicate-parts}
+use Rattle.files.specs.Book.{boats, columns, rows}
+use Rattle.files.specs.Sheet.{sheet, files-refusal}
+use Rattle.frank_wolfe.specs.Vectors.{add, scale}
+use Rattle.method.specs.Iterates as M
+use Rattle.method.specs.Iterates.{iterate, start, residual, direction, argmin, row, weight}
+use Rattle.method.proofs.Weights.{weight-most, weight-suc}
+use Rattle.method.proofs.Argmin.{among-row, score-at, length-scores}
+use Rattle.method.proofs.Mixtures.{score-most}
+use Rattle.method.proofs.Accepted.{problem, in-range, mixed, share-count}
+use Rattle.method.proofs.Shares.{mixed-share, residual-start}
+use Rattle.sums.specs.Operands.{Rescorable}
+use Rattle.scoring.specs.Scores.{least-of}
+use Rattle.scoring.specs.declared.Least.{Least}
+use Rattle.iteration.specs.declared.Layout.{Layout}
+use Rattle.iteration.specs.declared.State.{State}
+use Rattle.iteration.specs.States.{file-layout, iterate-of, scores-of, boat-products, fresh-state, Holds}
+use Rattle.iteration.proofs.States.{book-fits, sheet-fits, best-below, rescorable, fresh-holds, next-shares, next-scores, scores-zero}
+use Rattle.runs.specs.Runs.{Going, Shares-at, Scores-at, Products, Remembered}
+use Rattle.runs.proofs.Runs.{going-start}
+use Rattle.runs.proofs.Memory.{remembers-nothing}
+
+take-replicate : {A : Type 0} (n m : ℕ) (a : A) → n ≤ m → take n (replicate m a) ≡ replicate n a
+take-replicate n m a h = rw (replicate-parts n m a h) (take-at (replicate n a) (replicate (m - n) a) n (length-replicate n a))
+
+-- the shares of the iterate after t steps, in the first slots of a list, before z
+pub record Shared (b s : List ℕ) (t : ℕ) (qs z : List ℕ) : Type 0 where
+  pub is : qs ≡ iterate-of b s t .shares ++ z
+
+module _ (b s : List ℕ) (ok : files-refusal b s ≡ 0) where
+  -- ---- Shares
+
+  count : (t : ℕ) → length (iterate-of b s t .shares) ≡ boats b
+  count t = share-count b s ok t
+
+  module _ {t : ℕ} {x : State} (H : Holds b s t x) (few : t < 360) {qs z : List ℕ} (q : Shared b s t qs z) where
+    share-is : getD qs (x .best) 0 ≡ getD (iterate-of b s t .shares) (x .best) 0
+    share-is = sym (getD-take (boats b) qs (x .best) 0 (best-below b s ok H)) ∙ ap (λ (l : List ℕ). getD l (x .best) 0) (ap (take (boats b)) (q .is) ∙ take-at (iterate-of b s t .shares) z (boats b) (count t))
+
+    pub share-room : (x .best < length qs) × (getD qs (x .best) 0 + suc t < 65536)
+    share-room =
+        let n : boats b ≤ length qs = rw (q .is, length-append, count t) (omega arith) in
+        let m : getD (iterate-of b s t .shares) (x .best) 0 ≤ weight t = mixed-share (mixed b s ok t) (x .best) in
+        let w : weight (suc t) ≤ 64980 = weight-most (omega arith) in
+        (omega (arith, best-below b s ok H), rw share-is (omega (arith, weight-suc t)))
+
+    pub shares-next : {rs : List ℕ} → rs ≡ set qs (x .best) (getD qs (x .best) 0 + suc t) → Shared b s (suc t) rs z
+    shares-next e =
+        record {
+          is = e ∙ rw (share-is, q .is) (set-append-left (iterate-of b s t .shares) z (x .best) _ (omega (arith, count t, best-below b s ok H))
+              ∙ ap (λ (l : List ℕ). l ++ z) (next-shares b s ok H));
+        }
+
+  pub shares-before : {qs : List ℕ} → Shares-at b s 0 qs → Shared b s 0 qs (drop (boats b) qs)
+  shares-before {qs} h = record { is = sym (take-append-drop (boats b) qs) ∙ rw (h .are) }
+
+  -- the list keeps its length
+  pub shared-long : {t : ℕ} (old : List ℕ) {qs : List ℕ} → boats b ≤ length old → Shared b s t qs (drop (boats b) old) → length qs ≡ length old
+  shared-long {t} old room q = rw (q .is) (length-front old (iterate-of b s t .shares) (boats b) (count t ∙ sym (length-take-le (boats b) old room)))
+
+  none-yet : iterate-of b s 0 .shares ≡ replicate (boats b) 0
+  unfolding iterate start
+  none-yet = rw (book-fits b s ok .row-count)
+
+  module _ {l : Layout} (e : l ≡ file-layout b s) (old : List ℕ) (room : boats b ≤ length old) {qs : List ℕ} (q : qs ≡ replicate (l .boats) 0 ++ drop (l .boats) old) where
+    pub cleared : Shared b s 0 qs (drop (boats b) old)
+    unfolding file-layout
+    cleared = record { is = (rw e at q) ∙ rw none-yet }
+
+    pub cleared-shares : Shares-at b s 0 qs
+    cleared-shares =
+        record {
+          room = rw (cleared .is, length-append, count 0) (omega arith);
+          are = ap (take (boats b)) (cleared .is) ∙ take-at (iterate-of b s 0 .shares) (drop (boats b) old) (boats b) (count 0);
+        }
+
+    -- what stands behind the shares is as it was
+    pub cleared-rest : drop (boats b) qs ≡ drop (boats b) old
+    cleared-rest = ap (drop (boats b)) (cleared .is) ∙ drop-at (iterate-of b s 0 .shares) (drop (boats b) old) (boats b) (count 0)
+
+  -- ---- Scores
+
+  pub scores-start : (n : ℕ) → boats b ≤ n → Scores-at b s 0 (replicate n (pos 0))
+  unfolding iterate
+  scores-start n h =
+      record {
+        room = rw (length-replicate n (pos 0)) h;
+        are = take-replicate (boats b) n (pos 0) h
+            ∙ sym (rw (residual-start (rows b) (sheet s .target) (columns b) (sheet-fits b s ok .target-length), scores-zero (columns b) (rows b), book-fits b s ok .row-count));
+      }
+
+  -- memory for boats that are at most n
+  pub scores-for : (n : ℕ) {l : Layout} → l ≡ file-layout b s → l .boats ≤ n → Scores-at b s 0 (replicate n (pos 0))
+  unfolding file-layout
+  scores-for n e h = scores-start n (rw e at h)
+
+  module _ {l : Layout} (e : l ≡ file-layout b s) {x : State} (H : Holds b s (x .steps) x) (few : x .steps < 360) {sc : List ℤ} (S : Scores-at b s (x .steps) sc)
+      {ps : List ℤ} (P : Products b s (x .best) ps) where
+    old-score : (q : ℕ) → q < boats b → natAbs (getD sc q (pos 0)) ≤ 33269760000000
+    old-score q h =
+        let f = in-range b s ok in
+        let w : weight (suc (x .steps)) ≤ 64980 = weight-most (omega arith) in
+        rw (← getD-take (boats b) sc q (pos 0) h, S .are, score-at (residual (sheet s .target) (x .steps) (iterate-of b s (x .steps))) (rows b) q)
+        (omega (arith, score-most (problem b s ok) f (mixed b s ok (x .steps)) (row (rows b) q) (f .rows-bounded _ (among-row (rows b) q (omega (arith, book-fits b s ok .row-count)))), w, weight-suc (x .steps)))
+
+    pub rescorable-here : Rescorable sc (x .steps + 1) ps (l .boats)
+    unfolding file-layout
+    rescorable-here = rw e (rescorable b s ok (x .steps + 1) (x .best) (best-below b s ok H) (S .room) (P .room) (P .are) (omega arith) old-score)
+
+    moved-scores : add (take (l .boats) sc) (scale (x .steps + 1) (take (l .boats) ps)) ≡ scores-of b s (x .steps + 1)
+    unfolding file-layout
+    moved-scores = rw (e, add-one, S .are, P .are) (next-scores b s ok H)
+
+    pub pick-next : {p : Least} → p ≡ least-of (add (take (l .boats) sc) (scale (x .steps + 1) (take (l .boats) ps))) → p ≡ least-of (scores-of b s (x .steps + 1))
+    pick-next f = f ∙ ap least-of moved-scores
+
+    pub scores-next : {new : List ℤ} → new ≡ add (take (l .boats) sc) (scale (x .steps + 1) (take (l .boats) ps)) ++ drop (l .boats) sc → Scores-at b s (suc (x .steps)) new
+    unfolding file-layout direction
+    scores-next {new} f =
+        let g : new ≡ scores-of b s (suc (x .steps)) ++ drop (boats b) sc = f ∙ rw (moved-scores, e, add-one) in
+        let n : length (scores-of b s (suc (x .steps))) ≡ boats b = length-scores _ (rows b) ∙ book-fits b s ok .row-count in
+        record { room = rw (g, length-append, n) (omega arith); are = ap (take (boats b)) g ∙ take-at (scores-of b s (suc (x .steps))) (drop (boats b) sc) (boats b) n }
+
+  -- ---- The first step
+
+  pub boats-fit : {l : Layout} → l ≡ file-layout b s → {n : ℕ} → boats b ≤ n → l .boats ≤ n
+  unfolding file-layout
+  boats-fit e h = rw e h
+
+  -- the boat that the first step picks
+  pub picks : {p : Least} → p ≡ least-of (boat-products b s 0) → p .boat ≡ argmin (scores-of b s 0)
+  unfolding fresh-state
+  picks e = fresh-holds b s ok e .best-is
+
+  pub first-held : {p : Least} → p ≡ least-of (boat-products b s 0) → {x : State} → x ≡ fresh-state p → Holds b s 0 x
+  first-held e f = rw f (fresh-holds b s ok e)
+
+  module _ {p : Least} (e : p ≡ least-of (boat-products b s 0)) {qs z : List ℕ} (q : Shared b s 0 qs z) where
+    pub first-room : (p .boat < length qs) × (getD qs (p .boat) 0 + 1 < 65536)
+    unfolding fresh-state
+    first-room = share-room (fresh-holds b s ok e) (omega arith) q
+
+    pub first-shares : {rs : List ℕ} → rs ≡ set qs (p .boat) (getD qs (p .boat) 0 + 1) → Shared b s 1 rs z
+    unfolding fresh-state
+    first-shares f = shares-next (fresh-holds b s ok e) (omega arith) q f
+
+pub behind : (front : List ℕ) {new z z′ : List ℕ} → new ≡ front ++ z → z ≡ z′ → new ≡ front ++ z′
+behind front f e = f ∙ ap (λ l. front ++ l) e
+
+-- ---- The loop of a run
+
+pub record Kept (b s : List ℕ) (x : State) (shares₀ shares : List ℕ) (scores₀ scores : List ℤ) (tags : List ℕ) (memory₀ memory : List ℤ) : Type 0 where
+  pub going : Going b s x
+  pub shared : Shared b s (x .steps) shares (drop (boats b) shares₀)
+  pub scored : Scores-at b s (x .steps) scores
+  pub scores-long : length scores ≡ length scores₀
+  pub remembered : Remembered b s tags memory
+  pub memory-long : length memory ≡ length memory₀
+
+pub kept-start : (b s : List ℕ) → files-refusal b s ≡ 0 → {x : State} → Holds b s 0 x → {shares : List ℕ} → Shares-at b s 0 shares → {scores : List ℤ} → Scores-at b s 0 scores →
+    {memory : List ℤ} → 64 * boats b ≤ length memory → Kept b s x shares shares scores scores (replicate 64 0) memory memory
+kept-start b s ok {x} H {shares} q {scores} S room =
+    record {
+      going = going-start b s ok H;
+      shared = rw (H .steps-are) (shares-before b s ok q);
+      scored = rw (H .steps-are) S;
+      scores-long = refl;
+      remembered = remembers-nothing b s room;
+      memory-long = refl;
+    }
+
+pub shared-end : {b s : List ℕ} {t : ℕ} {qs z : List ℕ} → Shared b s t qs z → {rs : List ℕ} → iterate-of b s t .shares ≡ rs → qs ≡ rs ++ z
+shared-end {z = z} q e = q .is ∙ ap (λ (l : List ℕ). l ++ z) e
+
+module _ (b s : List ℕ) (ok : files-refusal b s ≡ 0) {x : State} {shares₀ shares : List ℕ} {scores₀ scores : List ℤ} {tags : List ℕ} {memory₀ memory : List ℤ}
+    (K : Kept b s x shares₀ shares scores₀ scores tags memory₀ memory) where
+  pub few-here : x .steps < 360
+  few-here = omega (arith, K .going .left, sheet-fits b s ok .most-steps)
+
+  pub best-here : x .best < boats b
+  best-here = best-below b s ok (K .going .held)
+
+  pub room-here : (x .best < length shares) × (getD shares (x .best) 0 + (x .steps + 1) < 65536)
+  room-here = rw add-one (share-room b s ok (K .going .held) few-here (K .shared))
+
+  -- ---- What is kept after the step, which leads to n steps
+
+  module _ {n : ℕ} (e : n ≡ x .steps + 1) where
+    one-more : n ≡ suc (x .steps)
+    one-more = e ∙ add-one (x .steps)
+
+    pub shares-here : {qs : List ℕ} → qs ≡ set shares (x .best) (getD shares (x .best) 0 + (x .steps + 1)) → Shared b s n qs (drop (boats b) shares₀)
+    shares-here f = rw one-more (shares-next b s ok (K .going .held) few-here (K .shared) (rw add-one at f))
+
+    pub scores-here : {l : Layout} → l ≡ file-layout b s → {ps : List ℤ} → Products b s (x .best) ps →
+        {new : List ℤ} → new ≡ add (take (l .boats) scores) (scale (x .steps + 1) (take (l .boats) ps)) ++ drop (l .boats) scores → Scores-at b s n new
+    scores-here g P f = rw one-more (scores-next b s ok g (K .going .held) few-here (K .scored) P f)

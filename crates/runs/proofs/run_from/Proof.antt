@@ -1,0 +1,146 @@
+-- `runs::run_from` meets its contract; `Inv-loop` is what its loop keeps.
+use mathlib.Core.Path.{sym}
+use Prim.Native.Nat.{_-_}
+use native.Mathlib.Omega.{arith}
+use borrow.Author.Needs.{needs}
+use Rattle.iteration.proofs.States.{sheet-fits}
+use Rattle.runs.proofs.Runs.{next-answerable, going-more, going-done}
+use Rattle.runs.proofs.Keeping.{Kept, kept-start, few-here, best-here, room-here, shares-here, shared-end, shared-long, rescorable-here, pick-next, scores-here}
+use Rattle.runs.proofs.Memory.{slot-fits, slot-bytes-fit, slot-starts, slot-part}
+use Rattle.runs.proofs.run_from.Statement.{statement}
+use Rattle.runs.proofs.run_from.Tie as tie
+use Rattle.runs.proofs.run_from.Reads as reads
+use Rattle.runs.proofs.run_from.Lts as lts
+use Rattle.files.proofs.steps.Reads as steps-reads
+use Rattle.iteration.proofs.State.answer.Reads as answer-reads
+use Rattle.iteration.proofs.State.next.Reads as next-reads
+use Rattle.method.proofs.stops.Reads as stops-reads
+use Rattle.scoring.proofs.rescored.Reads as rescored-reads
+use Rattle.runs.proofs.add_shares.Reads as add-shares-reads
+use Rattle.runs.proofs.remember.Reads as remember-reads
+
+abbrev Inv-loop : tie.InvT-loop
+Inv-loop book sheet layout shares₀ scores₀ memory₀ steps boats tags₀ state₀ shares scores memory tags state =
+    Kept book sheet state shares₀ shares scores₀ scores tags memory₀ memory
+
+abbrev μ-loop : tie.MeasureT-loop
+μ-loop book sheet layout shares₀ scores₀ memory₀ steps boats tags₀ state₀ shares scores memory tags state =
+    steps - state .steps
+
+steps-requires : tie.Need-steps-requires Inv-loop μ-loop
+steps-requires c κs = sheet-fits _ _ (c .before .before .before .pre .0) .at-least
+
+loop-holds : tie.Need-loop-holds Inv-loop μ-loop
+loop-holds c = kept-start _ _ (c .before .before .before .before .pre .0) (c .before .before .before .before .pre .1 .1 .0) (c .before .before .before .before .pre .1 .1 .1 .0) (c .before .before .before .before .pre .1 .1 .1 .1 .0) (c .before .before .before .before .pre .1 .1 .1 .1 .1)
+
+add-k : tie.Need-add-k Inv-loop μ-loop
+add-k c = record { fits = omega (arith, few-here _ _ (c .before .before .before .before .before .before .pre .0) (c .before .loop .inv)) }
+
+add-shares-requires : tie.Need-add-shares-requires Inv-loop μ-loop
+add-shares-requires c κs = room-here _ _ (c .before .before .before .before .before .before .before .pre .0) (c .before .before .loop .inv)
+
+slice-aggregate-remember : tie.Need-slice-aggregate-remember Inv-loop μ-loop
+slice-aggregate-remember c = sym (c .before .before .before .before .before .before .loop .inv .remembered .slots)
+
+remember-requires : tie.Need-remember-requires Inv-loop μ-loop
+remember-requires c κs = (c .before .before .before .before .before .before .before .before .before .before .before .before .pre .0, (c .before .before .before .before .before .before .before .before .before .before .before .before .pre .1 .0, (best-here _ _ (c .before .before .before .before .before .before .before .before .before .before .before .before .pre .0) (c .before .before .before .before .before .before .before .loop .inv), c .before .before .before .before .before .before .before .loop .inv .remembered)))
+
+mul-at : tie.Need-mul-at Inv-loop μ-loop
+mul-at c = slot-fits _ _ (c .before .before .before .before .before .before .before .before .before .before .before .before .before .before .before .pre .0) (c .before .before .before .before .before .before .before .before .before .before .loop .inv .remembered) (best-here _ _ (c .before .before .before .before .before .before .before .before .before .before .before .before .before .before .before .pre .0) (c .before .before .before .before .before .before .before .before .before .before .loop .inv)) (c .before .before .before .before .before .before .before .before .before .before .before .before .before .before .before .pre .1 .0)
+
+mul-rescored : tie.Need-mul-rescored Inv-loop μ-loop
+mul-rescored c = slot-bytes-fit _ _ (c .before .before .before .before .before .before .before .before .before .before .before .before .before .before .before .before .pre .0) (c .before .before .before .remember .ensures .0) (best-here _ _ (c .before .before .before .before .before .before .before .before .before .before .before .before .before .before .before .before .pre .0) (c .before .before .before .before .before .before .before .before .before .before .before .loop .inv)) (c .before .before .before .before .before .before .before .before .before .before .before .before .before .before .before .before .pre .1 .0)
+
+sub-rescored : tie.Need-sub-rescored Inv-loop μ-loop
+sub-rescored c = slot-starts _ _ (c .before .before .before .before .before .before .before .before .before .before .before .before .before .before .before .before .pre .0) (c .before .before .before .remember .ensures .0) (best-here _ _ (c .before .before .before .before .before .before .before .before .before .before .before .before .before .before .before .before .pre .0) (c .before .before .before .before .before .before .before .before .before .before .before .loop .inv)) (c .before .before .before .before .before .before .before .before .before .before .before .before .before .before .before .before .pre .1 .0)
+
+part-rescored-start : tie.Need-part-rescored-start Inv-loop μ-loop
+part-rescored-start c = slot-starts _ _ (c .before .before .before .before .before .before .before .before .before .before .before .before .before .before .before .before .before .pre .0) (c .before .before .before .before .remember .ensures .0) (best-here _ _ (c .before .before .before .before .before .before .before .before .before .before .before .before .before .before .before .before .before .pre .0) (c .before .before .before .before .before .before .before .before .before .before .before .before .loop .inv)) (c .before .before .before .before .before .before .before .before .before .before .before .before .before .before .before .before .before .pre .1 .0)
+
+part-rescored-end : tie.Need-part-rescored-end Inv-loop μ-loop
+part-rescored-end c = search needs
+
+rescored-requires : tie.Need-rescored-requires Inv-loop μ-loop
+rescored-requires c κs =
+    let ok = c .before .before .before .before .before .before .before .before .before .before .before .before .before .before .before .before .before .before .pre .0 in
+    let l = c .before .before .before .before .before .before .before .before .before .before .before .before .before .before .before .before .before .before .pre .1 .0 in
+    let k = c .before .before .before .before .before .before .before .before .before .before .before .before .before .loop .inv in
+    rescorable-here _ _ ok l (k .going .held) (few-here _ _ ok k) (k .scored) (slot-part _ _ ok (c .before .before .before .before .before .remember .ensures .0) (best-here _ _ ok k) l (c .before .before .before .before .before .remember .ensures .1))
+
+next-requires : tie.Need-next-requires Inv-loop μ-loop
+next-requires c κs =
+    let ok = c .before .before .before .before .before .before .before .before .before .before .before .before .before .before .before .before .before .before .before .before .pre .0 in
+    let l = c .before .before .before .before .before .before .before .before .before .before .before .before .before .before .before .before .before .before .before .before .pre .1 .0 in
+    let k = c .before .before .before .before .before .before .before .before .before .before .before .before .before .before .before .loop .inv in
+    let p = slot-part _ _ ok (c .before .before .before .before .before .before .before .remember .ensures .0) (best-here _ _ ok k) l (c .before .before .before .before .before .before .before .remember .ensures .1) in
+    (ok, (l, (k .going .held, (few-here _ _ ok k, pick-next _ _ ok l (k .going .held) (few-here _ _ ok k) (k .scored) p (c .before .rescored .ensures .0)))))
+
+answer-requires : tie.Need-answer-requires Inv-loop μ-loop
+answer-requires c κs = next-answerable _ _ (c .before .before .before .before .before .before .before .before .before .before .before .before .before .before .before .before .before .before .before .before .before .pre .0) (c .before .before .before .before .before .before .before .before .before .before .before .before .before .before .before .before .loop .inv .going) (c .next .ensures) (c .before .before .before .before .before .before .before .before .before .before .before .before .before .before .before .before .before .before .before .before .before .pre .1 .0)
+
+stops-requires : tie.Need-stops-requires Inv-loop μ-loop
+stops-requires c κs = search needs
+
+same-length : tie.Need-same-length Inv-loop μ-loop
+same-length c = shared-long _ _ (c .before .before .before .before .before .before .before .before .before .before .before .before .before .before .before .before .before .before .before .before .before .before .before .before .pre .0) _ (c .before .before .before .before .before .before .before .before .before .before .before .before .before .before .before .before .before .before .before .before .before .before .before .before .pre .1 .1 .1 .0 .room) (shares-here _ _ (c .before .before .before .before .before .before .before .before .before .before .before .before .before .before .before .before .before .before .before .before .before .before .before .before .pre .0) (c .before .before .before .before .before .before .before .before .before .before .before .before .before .before .before .before .before .before .before .loop .inv) (c .before .before .before .next .ensures .steps-are) (c .before .before .before .before .before .before .before .before .before .before .before .before .before .before .before .before .add-shares .ensures))
+
+same-length-2 : tie.Need-same-length-2 Inv-loop μ-loop
+same-length-2 c = search (needs, c .before .before .before .before .before .rescored .ok, c .before .before .before .before .before .before .before .before .before .before .before .before .before .before .before .before .before .before .before .loop .inv .scores-long)
+
+same-length-3 : tie.Need-same-length-3 Inv-loop μ-loop
+same-length-3 c = search (needs, c .before .before .before .before .before .before .before .before .before .before .before .remember .ok, c .before .before .before .before .before .before .before .before .before .before .before .before .before .before .before .before .before .before .before .loop .inv .memory-long)
+
+returns : tie.Need-returns Inv-loop μ-loop
+returns c =
+    let ok = c .before .before .before .before .before .before .before .before .before .before .before .before .before .before .before .before .before .before .before .before .before .before .before .before .pre .0 in
+    let k = c .before .before .before .before .before .before .before .before .before .before .before .before .before .before .before .before .before .before .before .loop .inv in
+    let e = c .before .before .before .next .ensures .steps-are in
+    let d = going-done _ _ ok (k .going) (c .before .before .before .next .ensures) (c .before .before .before .before .before .before .before .before .before .before .before .before .before .before .before .before .before .before .before .before .before .before .before .before .pre .1 .0) (c .before .before .answer .ensures) (c .before .before .before .before .before .before .before .before .before .before .before .before .before .before .before .before .before .before .before .before .steps .ensures) (c .before .stops .ensures) (c .if1 .taken) in
+    (d .0, shared-end (shares-here _ _ ok k e (c .before .before .before .before .before .before .before .before .before .before .before .before .before .before .before .before .add-shares .ensures)) (d .1))
+
+loop-less : tie.Need-loop-less Inv-loop μ-loop
+loop-less c = omega (arith, c .before .before .before .next .ensures .steps-are, c .before .before .before .before .before .before .before .before .before .before .before .before .before .before .before .before .before .before .before .loop .inv .going .left, c .before .before .before .before .before .before .before .before .before .before .before .before .before .before .before .before .before .before .before .before .steps .ensures)
+
+loop-again : tie.Need-loop-again Inv-loop μ-loop
+loop-again c =
+    let ok = c .before .before .before .before .before .before .before .before .before .before .before .before .before .before .before .before .before .before .before .before .before .before .before .before .pre .0 in
+    let l = c .before .before .before .before .before .before .before .before .before .before .before .before .before .before .before .before .before .before .before .before .before .before .before .before .pre .1 .0 in
+    let k = c .before .before .before .before .before .before .before .before .before .before .before .before .before .before .before .before .before .before .before .loop .inv in
+    let e = c .before .before .before .next .ensures .steps-are in
+    let p = slot-part _ _ ok (c .before .before .before .before .before .before .before .before .before .before .before .remember .ensures .0) (best-here _ _ ok k) l (c .before .before .before .before .before .before .before .before .before .before .before .remember .ensures .1) in
+    record {
+      going = going-more _ _ ok (k .going) (c .before .before .before .next .ensures) l (c .before .before .answer .ensures) (c .before .before .before .before .before .before .before .before .before .before .before .before .before .before .before .before .before .before .before .before .steps .ensures) (c .before .stops .ensures) (c .if1 .left);
+      shared = shares-here _ _ ok k e (c .before .before .before .before .before .before .before .before .before .before .before .before .before .before .before .before .add-shares .ensures);
+      scored = scores-here _ _ ok k e l p (c .before .before .before .before .before .rescored .ensures .1);
+      scores-long = search (needs, c .before .before .before .before .before .rescored .ok, c .before .before .before .before .before .before .before .before .before .before .before .before .before .before .before .before .before .before .before .loop .inv .scores-long);
+      remembered = c .before .before .before .before .before .before .before .before .before .before .before .remember .ensures .0;
+      memory-long = search (needs, c .before .before .before .before .before .before .before .before .before .before .before .remember .ok, c .before .before .before .before .before .before .before .before .before .before .before .before .before .before .before .before .before .before .before .loop .inv .memory-long);
+    }
+
+pub run-from-spec : {M : Type 1} → statement M
+run-from-spec =
+    tie.close
+    (tie.spec
+    Inv-loop
+    μ-loop
+    steps-requires
+    loop-holds
+    add-k
+    add-shares-requires
+    slice-aggregate-remember
+    remember-requires
+    mul-at
+    mul-rescored
+    sub-rescored
+    part-rescored-start
+    part-rescored-end
+    rescored-requires
+    next-requires
+    answer-requires
+    stops-requires
+    same-length
+    same-length-2
+    same-length-3
+    returns
+    loop-less
+    loop-again)

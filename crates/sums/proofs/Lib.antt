@@ -1,0 +1,5 @@
+pub mod Sums
+pub mod Squares
+pub mod Moves
+pub mod Gaps
+pub mod Differences

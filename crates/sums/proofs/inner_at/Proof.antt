@@ -1,0 +1,80 @@
+-- `sums::inner_at` meets its contract; `Inv-loop` is what its loop keeps.
+use borrow.Author.Needs.{needs}
+use Prim.Native.Nat.{_-_}
+use native.Mathlib.Omega.{arith}
+use mir.Syntax.{w64}
+use Rattle.sums.proofs.Sums.{Summed, sum-start, sum-end, sum-more, sum-fits, product-fits, wide-product, entry-cast-fits, entry-cast-read, value-cast-fits, value-cast-read}
+use Rattle.sums.proofs.inner_at.Statement.{statement}
+use Rattle.sums.proofs.inner_at.Tie as tie
+use Rattle.sums.proofs.inner_at.Reads as reads
+use Rattle.sums.proofs.inner_at.Lts as lts
+use Rattle.files.proofs.value_at.Reads as value-at-reads
+
+abbrev Inv-loop : tie.InvT-loop
+Inv-loop r bytes at columns sum₀ i₀ sum i = Summed w64 8519680000000 r bytes at columns i sum
+
+abbrev μ-loop : tie.MeasureT-loop
+μ-loop r bytes at columns sum₀ i₀ sum i = columns - i
+
+loop-holds : tie.Need-loop-holds Inv-loop μ-loop
+loop-holds c = sum-start
+
+mul-sum : tie.Need-mul-sum Inv-loop μ-loop
+mul-sum c = search needs
+
+shared-slice-copy-out-sum : tie.Need-shared-slice-copy-out-sum Inv-loop μ-loop
+shared-slice-copy-out-sum c = omega (arith, c .before .before .before .pre .0 .few-columns)
+
+cast-sum : tie.Need-cast-sum Inv-loop μ-loop
+cast-sum c = search (needs, entry-cast-fits)
+
+mul-value-at : tie.Need-mul-value-at Inv-loop μ-loop
+mul-value-at c = search needs
+
+add-value-at : tie.Need-add-value-at Inv-loop μ-loop
+add-value-at c = search needs
+
+value-at-requires : tie.Need-value-at-requires Inv-loop μ-loop
+value-at-requires c κs = search needs
+
+cast-sum-2 : tie.Need-cast-sum-2 Inv-loop μ-loop
+cast-sum-2 c = search (needs, value-cast-fits)
+
+mul-sum-2 : tie.Need-mul-sum-2 Inv-loop μ-loop
+mul-sum-2 c = product-fits tt (c .before .before .before .loop .inv) (c .before .before .before .before .before .pre .0) (c .before .before .before .before .before .pre .1 .long) (c .before .before .loop-test .taken) (c .value-at .ensures) (entry-cast-read (c .before .before .before .before .before .pre .1) (c .before .before .loop-test .taken)) (value-cast-read _ (c .value-at .ensures)) (wide-product (c .before .before .before .before .before .pre .1) (c .before .before .loop-test .taken) _ (c .value-at .ensures) (entry-cast-read (c .before .before .before .before .before .pre .1) (c .before .before .loop-test .taken)) (value-cast-read _ (c .value-at .ensures)))
+
+add-sum : tie.Need-add-sum Inv-loop μ-loop
+add-sum c = sum-fits tt (c .before .before .before .loop .inv) (c .before .before .before .before .before .pre .0) (c .before .before .before .before .before .pre .1 .long) (c .before .before .loop-test .taken) (c .value-at .ensures) (entry-cast-read (c .before .before .before .before .before .pre .1) (c .before .before .loop-test .taken)) (value-cast-read _ (c .value-at .ensures)) (wide-product (c .before .before .before .before .before .pre .1) (c .before .before .loop-test .taken) _ (c .value-at .ensures) (entry-cast-read (c .before .before .before .before .before .pre .1) (c .before .before .loop-test .taken)) (value-cast-read _ (c .value-at .ensures)))
+
+add-i : tie.Need-add-i Inv-loop μ-loop
+add-i c = search needs
+
+loop-less : tie.Need-loop-less Inv-loop μ-loop
+loop-less c = search needs
+
+loop-again : tie.Need-loop-again Inv-loop μ-loop
+loop-again c = sum-more tt (c .before .before .before .loop .inv) (c .before .before .before .before .before .pre .0) (c .before .before .before .before .before .pre .1 .long) (c .before .before .loop-test .taken) (c .value-at .ensures) (entry-cast-read (c .before .before .before .before .before .pre .1) (c .before .before .loop-test .taken)) (value-cast-read _ (c .value-at .ensures)) (wide-product (c .before .before .before .before .before .pre .1) (c .before .before .loop-test .taken) _ (c .value-at .ensures) (entry-cast-read (c .before .before .before .before .before .pre .1) (c .before .before .loop-test .taken)) (value-cast-read _ (c .value-at .ensures)))
+
+returns : tie.Need-returns Inv-loop μ-loop
+returns c = sum-end tt (c .before .loop .inv) (c .before .before .before .pre .0) (c .loop-test .left)
+
+pub inner-at-spec : {M : Type 1} → statement M
+inner-at-spec =
+    tie.close
+    (tie.spec
+    Inv-loop
+    μ-loop
+    loop-holds
+    mul-sum
+    shared-slice-copy-out-sum
+    cast-sum
+    mul-value-at
+    add-value-at
+    value-at-requires
+    cast-sum-2
+    mul-sum-2
+    add-sum
+    add-i
+    loop-less
+    loop-again
+    returns)
