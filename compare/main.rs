@@ -437,27 +437,48 @@ fn hex(bytes: &[u8]) -> String {
     bytes.iter().map(|b| format!("{b:02x}")).collect()
 }
 
+/// A file as it was lent.
+struct Lent {
+    name: &'static str,
+    before: Vec<u8>,
+}
+
+fn lent(name: &'static str, file: &[u8]) -> Lent {
+    Lent { name, before: file.to_vec() }
+}
+
+/// A call held to the reference: the reply and the lent list of each, and the files, which must be as they were.
+fn compared<R: PartialEq + std::fmt::Debug, L: PartialEq + std::fmt::Debug>(
+    call: &'static str,
+    outcome: String,
+    files: &[(Lent, &[u8])],
+    wanted: (R, Vec<L>),
+    given: (R, Vec<L>),
+) -> Compared {
+    let kept = files.iter().all(|(lent, after)| lent.before == *after);
+    let same = wanted == given && kept;
+    let mut shown = String::new();
+    if !same {
+        for (lent, after) in files {
+            let state = if lent.before == *after { "" } else { " (changed by the call)" };
+            shown += &format!("{} {}{state}\n", lent.name, hex(&lent.before));
+        }
+        shown += &format!("wanted {wanted:?}\ngiven {given:?}");
+    }
+    Compared { call, outcome, same, shown }
+}
+
 fn compare_search(rng: &mut Random) -> Compared {
     let (book, sheet) = files(rng);
     let boats = boats_of(rng, &book);
     let slots = length_near(rng, boats);
     let whole: Vec<u16> = (0..slots + 2 * GUARD).map(|_| rng.next() as u16).collect();
     let (mut wanted, mut given) = (whole.clone(), whole);
-    let (kept_book, kept_sheet) = (book.clone(), sheet.clone());
-    let outcome = reference::search(&book, &sheet, &mut wanted[GUARD..GUARD + slots]);
+    let before = (lent("book", &book), lent("sheet", &sheet));
+    let expected = reply_of(&reference::search(&book, &sheet, &mut wanted[GUARD..GUARD + slots]));
     let reply = library_search(&book, &sheet, &mut given[GUARD..GUARD + slots]);
-    let expected = reply_of(&outcome);
-    let same = reply == expected && given == wanted && book == kept_book && sheet == kept_sheet;
-    let shown = if same {
-        String::new()
-    } else {
-        format!(
-            "book {}\nsheet {}\nslots {slots}\nwanted {expected:?}\n{wanted:?}\ngiven {reply:?}\n{given:?}",
-            hex(&book),
-            hex(&sheet)
-        )
-    };
-    Compared { call: "search", outcome: outcome_name(&expected), same, shown }
+    let files = [(before.0, &book[..]), (before.1, &sheet[..])];
+    compared("search", outcome_name(&expected), &files, (expected, wanted), (reply, given))
 }
 
 fn compare_write_card(rng: &mut Random) -> Compared {
@@ -469,26 +490,15 @@ fn compare_write_card(rng: &mut Random) -> Compared {
     let length = length_near(rng, needed);
     let whole = rng.bytes(length + 2 * GUARD);
     let (mut wanted, mut given) = (whole.clone(), whole);
-    let (kept_book, kept_sheet) = (book.clone(), sheet.clone());
+    let before = (lent("book", &book), lent("sheet", &sheet));
     let outcome = reference::write_card(&book, &sheet, &mut wanted[GUARD..GUARD + length]);
     let reply = library_write_card(&book, &sheet, &mut given[GUARD..GUARD + length]);
     let expected = CardReply {
         reply: reply_of(&outcome.map(|(answer, _)| answer)),
         bytes: outcome.map_or(0, |(_, bytes)| bytes),
     };
-    let same = reply == expected && given == wanted && book == kept_book && sheet == kept_sheet;
-    let shown = if same {
-        String::new()
-    } else {
-        format!(
-            "book {}\nsheet {}\nlength {length}\nwanted {expected:?}\n{}\ngiven {reply:?}\n{}",
-            hex(&book),
-            hex(&sheet),
-            hex(&wanted),
-            hex(&given)
-        )
-    };
-    Compared { call: "write_card", outcome: outcome_name(&expected.reply), same, shown }
+    let files = [(before.0, &book[..]), (before.1, &sheet[..])];
+    compared("write_card", outcome_name(&expected.reply), &files, (expected, wanted), (reply, given))
 }
 
 /// Shares of some mixture, not that of a search: the total of t steps, mostly on at most t boats.
@@ -544,23 +554,11 @@ fn compare_check_card(rng: &mut Random) -> Compared {
     let slots = if rng.one_in(3) { length_near(rng, boats) } else { boats + rng.below(4) };
     let whole: Vec<u16> = (0..slots + 2 * GUARD).map(|_| rng.next() as u16).collect();
     let (mut wanted, mut given) = (whole.clone(), whole);
-    let (kept_book, kept_sheet, kept_card) = (book.clone(), sheet.clone(), card.clone());
-    let outcome = reference::check_card(&book, &sheet, &card, &mut wanted[GUARD..GUARD + slots]);
+    let before = (lent("book", &book), lent("sheet", &sheet), lent("card", &card));
+    let expected = reply_of(&reference::check_card(&book, &sheet, &card, &mut wanted[GUARD..GUARD + slots]));
     let reply = library_check_card(&book, &sheet, &card, &mut given[GUARD..GUARD + slots]);
-    let expected = reply_of(&outcome);
-    let kept = book == kept_book && sheet == kept_sheet && card == kept_card;
-    let same = reply == expected && given == wanted && kept;
-    let shown = if same {
-        String::new()
-    } else {
-        format!(
-            "book {}\nsheet {}\ncard {}\nslots {slots}\nwanted {expected:?}\n{wanted:?}\ngiven {reply:?}\n{given:?}",
-            hex(&book),
-            hex(&sheet),
-            hex(&card)
-        )
-    };
-    Compared { call: "check_card", outcome: outcome_name(&expected), same, shown }
+    let files = [(before.0, &book[..]), (before.1, &sheet[..]), (before.2, &card[..])];
+    compared("check_card", outcome_name(&expected), &files, (expected, wanted), (reply, given))
 }
 
 fn compare_listing(rng: &mut Random) -> Compared {
@@ -572,28 +570,17 @@ fn compare_listing(rng: &mut Random) -> Compared {
     if text.len() <= length {
         wanted[GUARD..GUARD + text.len()].copy_from_slice(&text);
     }
+    let before = (lent("book", &book), lent("sheet", &sheet));
     let size = library_listing(&book, &sheet, &mut given[GUARD..GUARD + length]);
-    let same = size == text.len() && given == wanted;
-    let shown = if same {
-        String::new()
-    } else {
-        format!(
-            "book {}\nsheet {}\nlength {length}\nwanted {}\n{}\ngiven {size}\n{}",
-            hex(&book),
-            hex(&sheet),
-            text.len(),
-            hex(&wanted),
-            hex(&given)
-        )
-    };
     // The refusal is the only line; the verdict is the third line's first word.
-    let lines = String::from_utf8(text).unwrap();
+    let lines = String::from_utf8(text.clone()).unwrap();
     let outcome = if lines.starts_with("refused") {
         lines.trim_end().to_string()
     } else {
         lines.lines().nth(2).unwrap().split(' ').next().unwrap().to_string()
     };
-    Compared { call: "listing", outcome, same, shown }
+    let files = [(before.0, &book[..]), (before.1, &sheet[..])];
+    compared("listing", outcome, &files, (text.len(), wanted), (size, given))
 }
 
 // ------------------------------------------------------------------ the command

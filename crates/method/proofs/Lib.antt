@@ -14,4 +14,3 @@ pub mod Fractions
 pub mod Numerators
 pub mod Published
 pub mod Promise
-pub mod Marked

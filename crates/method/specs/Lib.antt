@@ -8,4 +8,3 @@ pub mod Fractions
 pub mod Published
 pub mod PublishedRun
 pub mod Promise
-pub mod Marked

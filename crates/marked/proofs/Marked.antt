@@ -5,9 +5,9 @@ use Rattle.files.specs.Bytes.{number-bytes, same, little-endian, number, value,
 use Rattle.files.specs.Book.{boats, columns, rows-from, rows, book-refusal}
 use Rattle.files.specs.Sheet.{sheet-columns, sheet, sheet-refusal, files-refusal}
 use Rattle.frank_wolfe.specs.Vectors.{add, subtract, scale, inner, squared-norm}
 use Rattle.method.specs.Iterates.{weight, start, residual, row, direction, scores, argmin-from, argmin, step, iterate, distance, gaps, maximum-from, maximum, signed-gap, natural, gap}
 use Rattle.method.specs.Answers.{outcome, verdict, stops, answer-at, steps-from, steps-used, run-iterate, run-answer, search-refusal, slots-after}
-use Rattle.method.specs.Marked.{value-bytes, body-bytes, book-bytes, sheet-bytes, fleet-P, fleet-origin, fleet-origin-twice, fleet-far, lent, Marked, marked-sheets, Marked-right, All-marked}
+use Rattle.marked.specs.Marked.{value-bytes, body-bytes, book-bytes, sheet-bytes, fleet-P, fleet-origin, fleet-origin-twice, fleet-far, lent, Marked, marked-sheets, Marked-right, All-marked}
 
 Each : List Marked → Type 0
 Each [] = Unit {0}

@@ -1,0 +1,1 @@
+// The marked sheets: ten small fleets and sheets with their answers, as theorems about the definitions. There is no code.
