@@ -47,11 +47,11 @@ pub fn products(d: &[i16], book: &[u8], at: usize, boats: usize, columns: usize,
     requires { ⌜ boats ≤ length (now to) ⌝ }
     ensures { λ _. ⌜ now (to .exit) ≡ scores (take columns (now (d .entry))) (rows-from boats columns (drop at (now (book .entry)))) ++ drop boats (now (to .entry)) ⌝ }
 {
-    let mut p = at;
+    let mut row = at;
     let mut i = 0;
     while i < boats {
-        to[i] = sums::narrow_inner(d, book, p, columns);
-        p += 2 * columns;
+        to[i] = sums::narrow_inner(d, book, row, columns);
+        row += 2 * columns;
         i += 1;
     }
 }

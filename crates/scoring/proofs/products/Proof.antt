@@ -13,10 +13,10 @@ use Rattle.scoring.proofs.products.Lts as lts
 use Rattle.sums.proofs.narrow_inner.Reads as narrow-inner-reads
 
 abbrev Inv-loop : tie.InvT-loop
-Inv-loop d book at boats columns to₀ p₀ i₀ to p i = Stored (take columns d) book at boats columns to₀ to p i
+Inv-loop d book at boats columns to₀ row₀ i₀ to row i = Stored (take columns d) book at boats columns to₀ to row i
 
 abbrev μ-loop : tie.MeasureT-loop
-μ-loop d book at boats columns to₀ p₀ i₀ to p i = boats - i
+μ-loop d book at boats columns to₀ row₀ i₀ to row i = boats - i
 
 loop-holds : tie.Need-loop-holds Inv-loop μ-loop
 loop-holds c = stored-start (c .before .pre .0)
@@ -30,11 +30,11 @@ mul-t11 c = search needs
 slice-set-from-to : tie.Need-slice-set-from-to Inv-loop μ-loop
 slice-set-from-to c = omega (arith, c .before .loop-test .taken, stored-long (c .before .before .before .before .pre .0) (c .before .before .loop .inv) (c .before .before .before .before .pre .1 .1 .1), c .before .before .before .before .pre .1 .1 .1)
 
-mul-p : tie.Need-mul-p Inv-loop μ-loop
-mul-p c = search needs
+mul-row : tie.Need-mul-row Inv-loop μ-loop
+mul-row c = search needs
 
-add-p : tie.Need-add-p Inv-loop μ-loop
-add-p c = omega (arith, row-span (c .before .before .before .before .pre .0) (c .before .loop-test .taken) (c .before .before .loop .inv .place))
+add-row : tie.Need-add-row Inv-loop μ-loop
+add-row c = omega (arith, row-span (c .before .before .before .before .pre .0) (c .before .loop-test .taken) (c .before .before .loop .inv .place))
 
 add-i : tie.Need-add-i Inv-loop μ-loop
 add-i c = search needs
@@ -61,8 +61,8 @@ products-spec =
     narrow-inner-requires
     mul-t11
     slice-set-from-to
-    mul-p
-    add-p
+    mul-row
+    add-row
     add-i
     loop-less
     loop-again
