@@ -85,15 +85,15 @@ pub struct State {
 impl State {
     pub const MOST_STEPS: u32 = 360;
 
-    // No step taken, r = 0. `pick` is the boat that the first step picks.
-    pub fn fresh(pick: Least) -> State
-        ensures { λ r. ⌜ r ≡ fresh-state pick ⌝ }
+    // No step taken, r = 0. `first` is the boat that the first step picks.
+    pub fn fresh(first: Least) -> State
+        ensures { λ r. ⌜ r ≡ fresh-state first ⌝ }
     {
         State {
             steps: 0,
             residual: [0i32; 64],
-            best: pick.boat,
-            least: pick.score,
+            best: first.boat,
+            least: first.score,
         }
     }
 
