@@ -1,3 +1,4 @@
+-- The laws behind the proofs of this crate: what the writer, the tests of a card and the card check need.
 pub mod Filing
 pub mod Testing
 pub mod Judging

@@ -1,3 +1,4 @@
+-- The definitions of this crate.
 pub mod Format
 pub mod Checks
 pub mod Truth

@@ -48,6 +48,7 @@ fn remember(
 }
 
 // A run from its fresh state, with the shares and scores of no step in the first slots; the memory has room for 64 boats' products.
+// What it leaves in `scores` and `memory` is not promised: both serve this run alone, and its caller drops them.
 pub fn run_from(
     start: State,
     book: &[u8],

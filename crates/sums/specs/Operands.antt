@@ -1,4 +1,4 @@
--- What the sums over columns ask of their operands. Definitions only. Assumes nothing.
+-- What the sums over columns and the passes over the boats ask of their operands. Definitions only. Assumes nothing.
 use mathlib.Core.List.{List, []}
 use Prim.Native.Nat.{ℕ, _+_, _*_, _≤_, _<_}
 use lib.ListN.{length, getD}
