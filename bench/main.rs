@@ -6,9 +6,12 @@
 //! repeats' ratios.
 
 mod plain;
+#[path = "../compare/encode.rs"]
+mod encode;
 #[path = "../compare/random.rs"]
 mod random;
 
+use encode::{book_of, sheet_of};
 use random::Random;
 use std::ffi::c_void;
 use std::hint::black_box;
@@ -104,20 +107,7 @@ struct Input {
 }
 
 fn input(rows: &[Vec<i16>], target: &[i16], steps: u16, tolerance: u32) -> Input {
-    let mut book: Vec<u8> = rows.iter().flatten().flat_map(|v| v.to_le_bytes()).collect();
-    let back = book.len() as u32;
-    book.extend_from_slice(&back.to_le_bytes());
-    book.extend_from_slice(&(rows.len() as u16).to_le_bytes());
-    book.extend_from_slice(&(target.len() as u16).to_le_bytes());
-    book.extend_from_slice(b"WBK1");
-    let mut sheet: Vec<u8> = target.iter().flat_map(|v| v.to_le_bytes()).collect();
-    let back = sheet.len() as u32;
-    sheet.extend_from_slice(&back.to_le_bytes());
-    sheet.extend_from_slice(&(target.len() as u16).to_le_bytes());
-    sheet.extend_from_slice(&steps.to_le_bytes());
-    sheet.extend_from_slice(&tolerance.to_le_bytes());
-    sheet.extend_from_slice(b"WSH1");
-    Input { book, sheet }
+    Input { book: book_of(rows), sheet: sheet_of(target, steps, tolerance) }
 }
 
 fn random_rows(rng: &mut Random, boats: usize, columns: usize) -> Vec<Vec<i16>> {

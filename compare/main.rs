@@ -3,9 +3,11 @@
 //!
 //! Use: compare [COUNT [SEED]]. The last line has the count; the exit status is 1 where a case differs, and the case is printed.
 
+mod encode;
 mod random;
 mod reference;
 
+use encode::{book_of, sheet_of};
 use random::Random;
 use reference::{Answer, Verdict};
 use std::collections::BTreeMap;
@@ -153,27 +155,6 @@ impl Random {
 }
 
 // ------------------------------------------------------------------- the files
-
-fn book_of(rows: &[Vec<i16>]) -> Vec<u8> {
-    let mut file: Vec<u8> = rows.iter().flatten().flat_map(|v| v.to_le_bytes()).collect();
-    let back = file.len() as u32;
-    file.extend_from_slice(&back.to_le_bytes());
-    file.extend_from_slice(&(rows.len() as u16).to_le_bytes());
-    file.extend_from_slice(&(rows[0].len() as u16).to_le_bytes());
-    file.extend_from_slice(b"WBK1");
-    file
-}
-
-fn sheet_of(target: &[i16], steps: u16, tolerance: u32) -> Vec<u8> {
-    let mut file: Vec<u8> = target.iter().flat_map(|v| v.to_le_bytes()).collect();
-    let back = file.len() as u32;
-    file.extend_from_slice(&back.to_le_bytes());
-    file.extend_from_slice(&(target.len() as u16).to_le_bytes());
-    file.extend_from_slice(&steps.to_le_bytes());
-    file.extend_from_slice(&tolerance.to_le_bytes());
-    file.extend_from_slice(b"WSH1");
-    file
-}
 
 /// Boats, columns and steps: mostly small, some at full size.
 fn sizes(rng: &mut Random) -> (usize, usize, u16) {
