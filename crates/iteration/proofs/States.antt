@@ -26,7 +26,7 @@ use Rattle.sums.specs.Operands.{Bounded, Span, Grid, Movable, Rows-bounded, Res
 use Rattle.scoring.specs.Scores.{least-of}
 use Rattle.scoring.specs.declared.Least.{Least}
 use Rattle.iteration.specs.declared.State.{State}
-use Rattle.iteration.specs.States.{iterate-of, scores-of, boat-products, fresh-state, Holds}
+use Rattle.iteration.specs.States.{iterate-of, scores-of, boat-difference, boat-products, fresh-state, Holds}
 
 -- ---- Scores are linear in the vector that they are taken with
 
@@ -120,18 +120,16 @@ module _ (b s : List ℕ) (ok : files-refusal b s ≡ 0) where
       Bounded 2000 (columns b) (values (columns b) (drop (rows-offset b + 2 * (i * columns b)) b)) × Bounded 2000 (columns b) (values (columns b) (drop (target-offset s) s))
   differable i h = rw (row-is i h, target-is) (row-bounded i h, target-bounded)
 
-  pub difference-count : (i : ℕ) → i < boats b →
-      length (subtract (values (columns b) (drop (rows-offset b + 2 * (i * columns b)) b)) (values (columns b) (drop (target-offset s) s))) ≡ columns b
-  difference-count i h = rw (row-is i h, target-is) (length-difference i h)
+  pub difference-is : (i : ℕ) → i < boats b → subtract (values (columns b) (drop (rows-offset b + 2 * (i * columns b)) b)) (values (columns b) (drop (target-offset s) s)) ≡ boat-difference b s i
+  difference-is i h = rw (row-is i h, target-is)
 
-  pub difference-front : (i : ℕ) → i < boats b → (d : List ℤ) → length d ≡ 64 →
-      take (columns b) d ≡ subtract (values (columns b) (drop (rows-offset b + 2 * (i * columns b)) b)) (values (columns b) (drop (target-offset s) s)) → Bounded 4000 (columns b) d
+  -- a list that starts with a boat's row less the target
+  pub difference-front : (i : ℕ) → i < boats b → (d : List ℤ) → length d ≡ 64 → take (columns b) d ≡ boat-difference b s i → Bounded 4000 (columns b) d
   difference-front i h d l e =
-      let f : take (columns b) d ≡ subtract (row (rows b) i) (sheet s .target) = e ∙ rw (row-is i h, target-is) in
       record {
         long = omega (arith, book-fits .most-columns);
         each = λ j k.
-            let p : getD d j (pos 0) ≡ getD (subtract (row (rows b) i) (sheet s .target)) j (pos 0) = sym (getD-take (columns b) d j (pos 0) k) ∙ ap (λ (z : List ℤ). getD z j (pos 0)) f in
+            let p : getD d j (pos 0) ≡ getD (boat-difference b s i) j (pos 0) = sym (getD-take (columns b) d j (pos 0) k) ∙ ap (λ (z : List ℤ). getD z j (pos 0)) e in
             rw p (difference-bounded i h j);
       }
 
@@ -139,10 +137,8 @@ module _ (b s : List ℕ) (ok : files-refusal b s ≡ 0) where
   unfolding row
   rows-bounded = rw (← rows-at b) (record { each-row = λ i h. row-bounded i (omega (arith, book-fits .row-count)) })
 
-  pub products-are : (i : ℕ) → i < boats b → (d : List ℤ) →
-      take (columns b) d ≡ subtract (values (columns b) (drop (rows-offset b + 2 * (i * columns b)) b)) (values (columns b) (drop (target-offset s) s)) →
-      M.scores (take (columns b) d) (rows-from (boats b) (columns b) (drop (rows-offset b) b)) ≡ boat-products b s i
-  products-are i h d e = rw (e, ← rows-at b, row-is i h, target-is)
+  pub products-are : (i : ℕ) (d : List ℤ) → take (columns b) d ≡ boat-difference b s i → M.scores (take (columns b) d) (rows-from (boats b) (columns b) (drop (rows-offset b) b)) ≡ boat-products b s i
+  products-are i d e = rw (e, ← rows-at b)
 
   pub product-count : (i : ℕ) → length (boat-products b s i) ≡ boats b
   product-count i = length-scores (subtract (row (rows b) i) (sheet s .target)) (rows b) ∙ book-fits .row-count

@@ -1,4 +1,4 @@
--- The needs of `products_of`, `least_product_of`, `fresh` and `next`, with the layout l of the files as the code has it. Assumes nothing.
+-- The needs of `difference_of`, `products_of`, `least_product_of`, `fresh` and `next`, with the layout l of the files as the code has it. Assumes nothing.
 use mathlib.Core.Path.{_≡_, sym, ap, _∙_}
 use mathlib.Core.List.{List, _++_}
 use Prim.Native.Nat.{ℕ, suc, _+_, _*_, _-_, _≤_, _<_}
@@ -22,11 +22,11 @@ use Rattle.scoring.specs.Scores.{least-of}
 use Rattle.scoring.specs.declared.Least.{Least}
 use Rattle.iteration.specs.declared.Layout.{Layout}
 use Rattle.iteration.specs.declared.State.{State}
-use Rattle.iteration.specs.States.{file-layout, iterate-of, scores-of, boat-products, Holds}
-use Rattle.iteration.proofs.States.{row-span, target-span, grid, movable, moved-is, differable, difference-front, difference-count, rows-bounded, products-are, best-below, next-holds}
+use Rattle.iteration.specs.States.{file-layout, iterate-of, scores-of, boat-difference, boat-products, Holds}
+use Rattle.iteration.proofs.States.{row-span, target-span, grid, movable, moved-is, differable, difference-front, difference-is, length-difference, rows-bounded, products-are, best-below, next-holds}
 
 module _ (b s : List ℕ) (ok : files-refusal b s ≡ 0) {l : Layout} (e : l ≡ file-layout b s) where
-  -- ---- products_of and least_product_of
+  -- ---- difference_of, products_of and least_product_of
 
   module _ {i : ℕ} (h : i < boats b) where
     row-inside : l .rows + 2 * (i * l .columns) + 2 * l .columns ≤ length b
@@ -47,10 +47,15 @@ module _ (b s : List ℕ) (ok : files-refusal b s ≡ 0) {l : Layout} (e : l ≡
     unfolding file-layout
     difference-asks = rw e (row-span b s ok i h, (target-span b s ok, differable b s ok i h))
 
-    module _ {d : List ℤ} (ed : d ≡ subtract (values (l .columns) (drop (l .rows + 2 * (i * l .columns)) b)) (values (l .columns) (drop (l .target) s)) ++ replicate (64 - l .columns) (pos 0)) where
-      front : take (columns b) d ≡ subtract (values (columns b) (drop (rows-offset b + 2 * (i * columns b)) b)) (values (columns b) (drop (target-offset s) s))
-      unfolding file-layout
-      front = ap (take (columns b)) (rw e at ed) ∙ take-at _ (replicate (64 - columns b) (pos 0)) (columns b) (difference-count b s ok i h)
+    pub difference-right : {d : List ℤ} →
+        d ≡ subtract (values (l .columns) (drop (l .rows + 2 * (i * l .columns)) b)) (values (l .columns) (drop (l .target) s)) ++ replicate (64 - l .columns) (pos 0) →
+        d ≡ boat-difference b s i ++ replicate (64 - columns b) (pos 0)
+    unfolding file-layout
+    difference-right f = (rw e at f) ∙ rw (difference-is b s ok i h)
+
+    module _ {d : List ℤ} (ed : d ≡ boat-difference b s i ++ replicate (64 - columns b) (pos 0)) where
+      front : take (columns b) d ≡ boat-difference b s i
+      front = ap (take (columns b)) ed ∙ take-at (boat-difference b s i) (replicate (64 - columns b) (pos 0)) (columns b) (length-difference b s ok i h)
 
       pub products-asks : length d ≡ 64 → Grid b (l .rows) (l .boats) (l .columns) × (Bounded 4000 (l .columns) d × Rows-bounded (rows-from (l .boats) (l .columns) (drop (l .rows) b)) (l .columns))
       unfolding file-layout
@@ -58,7 +63,7 @@ module _ (b s : List ℕ) (ok : files-refusal b s ≡ 0) {l : Layout} (e : l ≡
 
       products-right : M.scores (take (l .columns) d) (rows-from (l .boats) (l .columns) (drop (l .rows) b)) ≡ boat-products b s i
       unfolding file-layout
-      products-right = rw e (products-are b s ok i h d front)
+      products-right = rw e (products-are b s ok i d front)
 
       pub slots-right : (old : List ℤ) {new : List ℤ} → new ≡ M.scores (take (l .columns) d) (rows-from (l .boats) (l .columns) (drop (l .rows) b)) ++ drop (l .boats) old →
           new ≡ boat-products b s i ++ drop (boats b) old

@@ -24,9 +24,13 @@ iterate-of b s t = iterate (rows b) (sheet s .target) (columns b) t
 abbrev pub scores-of : (b s : List ℕ) → (t : ℕ) → List ℤ
 scores-of b s t = M.scores (direction (rows b) (sheet s .target) t (iterate-of b s t)) (rows b)
 
--- the products of a boat's row less the target with every row
+-- a boat's row less the target
+abbrev pub boat-difference : (b s : List ℕ) → (boat : ℕ) → List ℤ
+boat-difference b s i = subtract (row (rows b) i) (sheet s .target)
+
+-- its products with every row
 abbrev pub boat-products : (b s : List ℕ) → (boat : ℕ) → List ℤ
-boat-products b s i = M.scores (subtract (row (rows b) i) (sheet s .target)) (rows b)
+boat-products b s i = M.scores (boat-difference b s i) (rows b)
 
 -- the state before the first step, which picks p
 unfoldable pub fresh-state : (p : Least) → State

@@ -3,16 +3,17 @@
 // All functions are helpers for other crates, whose callers prove what they require.
 ghost use mathlib.Core.Path.{_≡_};
 ghost use mathlib.Core.List.{_++_};
-ghost use Prim.Native.Nat.{_+_, _≤_, _<_};
-ghost use lib.ListN.{length, take, drop};
-ghost use Rattle.files.specs.Book.{boats, rows};
+ghost use Prim.Native.Nat.{_+_, _-_, _≤_, _<_};
+ghost use lib.ListN.{length, take, drop, replicate};
+ghost use lib.IntN.{pos};
+ghost use Rattle.files.specs.Book.{boats, columns, rows};
 ghost use Rattle.files.specs.Sheet.{files-refusal};
 ghost use Rattle.files.specs.Sheet as Sheets;
 ghost use Rattle.files.specs.Bytes.{values};
 ghost use Rattle.method.specs.Iterates.{weight, argmin};
 ghost use Rattle.method.specs.Answers.{answer-at};
 ghost use Rattle.scoring.specs.Scores.{least-of};
-ghost use Rattle.iteration.specs.States.{file-layout, boat-products, iterate-of, scores-of, fresh-state, Holds};
+ghost use Rattle.iteration.specs.States.{file-layout, boat-difference, boat-products, iterate-of, scores-of, fresh-state, Holds};
 ghost use Rattle.iteration.specs.Measures.{measure, tolerance-of, Measurable, Answerable};
 use method::Answer;
 use scoring::Least;
@@ -40,6 +41,20 @@ pub fn layout_of(book: &[u8], sheet: &[u8]) -> Layout
     }
 }
 
+// A boat's row less the target.
+fn difference_of(boat: usize, book: &[u8], sheet: &[u8], layout: Layout) -> [i16; 64]
+    requires { ⌜ files-refusal (now book) (now sheet) ≡ 0 ⌝ }
+    requires { ⌜ layout ≡ file-layout (now book) (now sheet) ⌝ }
+    requires { ⌜ boat < boats (now book) ⌝ }
+    ensures { λ d. ⌜ d ≡ boat-difference (now (book .entry)) (now (sheet .entry)) boat ++ replicate (64 - columns (now (book .entry))) (pos 0) ⌝ }
+{
+    let rows = layout.rows;
+    let target = layout.target;
+    let columns = layout.columns;
+    let row = rows + 2 * (boat * columns);
+    sums::difference(book, row, sheet, target, columns)
+}
+
 // The products <v - u, w> of a boat's row v less the target with every row w, in the first slots of `to`.
 pub fn products_of(boat: usize, book: &[u8], sheet: &[u8], layout: Layout, to: &mut [i32])
     requires { ⌜ files-refusal (now book) (now sheet) ≡ 0 ⌝ }
@@ -49,11 +64,9 @@ pub fn products_of(boat: usize, book: &[u8], sheet: &[u8], layout: Layout, to: &
     ensures { λ _. ⌜ now (to .exit) ≡ boat-products (now (book .entry)) (now (sheet .entry)) boat ++ drop (boats (now (book .entry))) (now (to .entry)) ⌝ }
 {
     let rows = layout.rows;
-    let target = layout.target;
-    let columns = layout.columns;
     let boats = layout.boats;
-    let row = rows + 2 * (boat * columns);
-    let d = sums::difference(book, row, sheet, target, columns);
+    let columns = layout.columns;
+    let d = difference_of(boat, book, sheet, layout);
     scoring::products(&d, book, rows, boats, columns, to);
 }
 
@@ -65,11 +78,9 @@ pub fn least_product_of(boat: usize, book: &[u8], sheet: &[u8], layout: Layout) 
     ensures { λ x. ⌜ x ≡ least-of (boat-products (now (book .entry)) (now (sheet .entry)) boat) ⌝ }
 {
     let rows = layout.rows;
-    let target = layout.target;
-    let columns = layout.columns;
     let boats = layout.boats;
-    let row = rows + 2 * (boat * columns);
-    let d = sums::difference(book, row, sheet, target, columns);
+    let columns = layout.columns;
+    let d = difference_of(boat, book, sheet, layout);
     scoring::least_product(&d, book, rows, boats, columns)
 }
 
