@@ -1,12 +1,12 @@
 -- The outcomes of `check_card`: refused by the files, a short share list, the card's form or its numbers, or answered.
 use mathlib.Core.Path.{_≡_, refl, sym, ap, _∙_}
 use mathlib.Core.Bool.{Bool, true, false, _&&_, not, cond}
-use mathlib.Core.List.{List, [], _∷_, _++_}
+use mathlib.Core.List.{List, _∷_, _++_}
 use Prim.Native.Nat.{ℕ, zero, suc, _+_, _*_, _-_, _≤_, _<_}
 use native.Mathlib.Omega.{arith}
 use borrow.Author.Tests.{ltb-true, lt-ltb, le-ltb}
 use lib.Dec.{eqb, ltb, leb, eqb·suc-zero}
-use lib.ListN.{length, take, drop, set, replicate, length-replicate, length-set}
+use lib.ListN.{length, take, drop, set, replicate}
 use lib.Seq.{take-at, take-set-lt, length-take-le}
 use Rattle.files.specs.Bytes.{all-bytes, number, same, between, length-in-range, trailer}
 use Rattle.files.specs.Book.{boats, columns}
@@ -21,12 +21,14 @@ use Rattle.iteration.specs.States.{file-layout}
 use Rattle.iteration.proofs.States.{book-fits}
 use Rattle.card_format.specs.Format.{WCD1, card-fields, card-body, pair-count, shares-into, card-shares, card-answer}
 use Rattle.card_format.specs.Checks.{back-fits, pairs-in-order, card-refusal, check-refusal}
-use Rattle.card_format.specs.Truth.{Card-vouches, Accepted-vouches}
+use Rattle.card_format.specs.Truth.{Accepted-vouches}
 use Rattle.card_format.proofs.Vouches.{accepted-vouches}
 use Rattle.card_input.specs.Forms.{form-refusal, counts-agree, steps-fit}
-use Rattle.card_input.proofs.Reading.{boat-below, order-at, into-at, back-fours, into-more, order-more}
-use Rattle.card.specs.Checking.{truth-refusal, Check-right}
-use Rattle.card.proofs.Judging.{Formed, formed}
+use Rattle.card_pairs.proofs.Pairs.{boat-below, into-more, order-more}
+use Rattle.card_input.proofs.Reading.{order-at, into-at, back-fours}
+use Rattle.card_truth.specs.Truth.{truth-refusal}
+use Rattle.card.specs.Checking.{Check-right}
+use Rattle.card_truth.proofs.Judging.{Formed, formed}
 
 -- ---- A card's refusal: its form's, else its truth's
 

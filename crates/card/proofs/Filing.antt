@@ -1,12 +1,12 @@
 -- The outcomes of `write_card`, refused by the files, refused by a short buffer, or filed, are those of the definitions.
-use mathlib.Core.Path.{_≡_, refl, sym, ap, _∙_}
-use mathlib.Core.Bool.{Bool, true, false, cond}
+use mathlib.Core.Path.{_≡_, refl, ap, _∙_}
+use mathlib.Core.Bool.{true, false}
 use mathlib.Core.List.{List, [], _++_}
 use Prim.Native.Nat.{ℕ, zero, suc, _+_, _*_, _≤_, _<_}
 use native.Mathlib.Nat.{zero-add}
 use native.Mathlib.Omega.{arith}
-use borrow.Author.Tests.{eqb-true, lt-ltb, le-ltb}
-use lib.Dec.{eqb, ltb, eqb·suc-zero}
+use borrow.Author.Tests.{lt-ltb, le-ltb}
+use lib.Dec.{ltb, eqb·suc-zero}
 use lib.ListN.{length, take, drop}
 use lib.Seq.{take-at}
 use Rattle.files.specs.Book.{boats, columns}
@@ -16,8 +16,8 @@ use Rattle.method.specs.Iterates.{support}
 use Rattle.method.specs.Answers.{slots-after, run-answer, run-iterate}
 use Rattle.method.proofs.Promise.{run-right}
 use Rattle.method.proofs.Accepted.{share-count}
-use Rattle.card_format.specs.Format.{pairs, trailer-bytes, answer-fields, card-bytes, card-shares, run-card}
-use Rattle.card_format.specs.Checks.{write-refusal, card-refusal}
+use Rattle.card_format.specs.Format.{pairs, trailer-bytes, answer-fields, card-bytes, run-card}
+use Rattle.card_format.specs.Checks.{write-refusal}
 use Rattle.card_format.specs.Truth.{Written-accepted, Written-short}
 use Rattle.card_format.proofs.Written.{run-pairs-length, run-card-length, written-accepted, written-short}
 use Rattle.card_output.specs.Output.{placed}

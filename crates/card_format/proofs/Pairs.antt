@@ -1,16 +1,16 @@
 -- The pairs of a card's body: pairs in order are those of one share list, which is what they are read as; and the pairs of any
 -- share list are in order.
-use mathlib.Core.Path.{_≡_, refl, sym, ap, ap₂, _∙_}
-use mathlib.Core.Bool.{Bool, true, false, _&&_, cond}
+use mathlib.Core.Path.{_≡_, refl, ap, _∙_}
+use mathlib.Core.Bool.{Bool, true, false, _&&_}
 use mathlib.Core.List.{List, [], _∷_, _++_, append-assoc}
-use Prim.Native.Nat.{ℕ, zero, suc, _+_, _*_, _/_, _%_, _≤_, _<_}
+use Prim.Native.Nat.{ℕ, zero, suc, _+_, _*_, _≤_, _<_}
 use native.Mathlib.Nat.{zero-add}
 use native.Mathlib.Omega.{arith}
 use borrow.Author.Tests.{eqb-true, eqb-false, ne-eqb, leb-true, le-leb, ltb-true, ltb-false, lt-ltb}
 use lib.Dec.{eqb, leb, ltb}
 use lib.ListN.{length, getD, drop, set, replicate, length-append, length-drop}
 use lib.Seq.{append-snoc, set-at}
-use Rattle.files.specs.Bytes.{number-bytes, all-bytes, number, little-endian}
+use Rattle.files.specs.Bytes.{number-bytes, all-bytes, number}
 use Rattle.files.proofs.Refusal.{and-true}
 use Rattle.method.specs.Iterates.{support}
 use Rattle.card_format.specs.Format.{pair, pairs, shares-into}

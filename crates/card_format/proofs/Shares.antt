@@ -1,22 +1,21 @@
 -- Any shares of a total above zero, whether of the form t (t + 1) / 2 or not: the gap is not below 0, and how large E and G are.
-use mathlib.Core.Path.{_≡_, refl, sym, ap, _∙_}
+use mathlib.Core.Path.{_≡_, sym, ap, _∙_}
 use mathlib.Core.List.{List, [], _∷_}
-use Prim.Native.Nat.{ℕ, _+_, _*_, _≤_, _<_}
+use Prim.Native.Nat.{ℕ, _*_, _≤_, _<_}
 use native.Mathlib.Nat.{le-refl, le-trans, mul-le-mul, mul-le-mul-right, lt-of-le-of-lt}
 use native.Mathlib.Omega.{arith}
 use lib.Dec.{lit<}
 use lib.IntN.{ℤ, pos, natAbs, _-ℤ_, _*ℤ_}
 use lib.ListN.{length}
 use lib.Signed.{_≤ℤ_}
-use Rattle.integers.proofs.Solver.{con, _⊕_, _⊗_, _⊝_, x₀, x₁, x₂, x₃}
+use Rattle.integers.proofs.Solver.{con, _⊗_, _⊝_, x₀, x₁, x₂, x₃}
 use Rattle.integers.proofs.Order.{≤→≤ℤ}
 use Rattle.integers.proofs.Facts.{_≼_, known, _⊡_, derive}
 use Rattle.frank_wolfe.specs.Method.{Gap}
 use Rattle.frank_wolfe.specs.Vectors.{subtract, scale, inner, sum, combination, Among}
 use Rattle.frank_wolfe.proofs.Vectors.{plain, mixture-is, length-combination, length-scale, length-subtract}
 use Rattle.frank_wolfe.proofs.Theorem.{frank-wolfe}
-use Rattle.files.specs.Book.{rows, columns, boats}
-use Rattle.files.specs.Sheet.{sheet}
+use Rattle.files.specs.Book.{rows}
 use Rattle.files.proofs.Accepted.{files-accepted}
 use Rattle.method.specs.Iterates.{row, scores, argmin, mixture-distance}
 use Rattle.method.specs.Minimum.{minimum}

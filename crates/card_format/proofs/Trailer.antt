@@ -1,17 +1,17 @@
 -- A card's trailer, written and read back; and the parts of a file that is a front, pairs and a trailer.
 use mathlib.Core.Path.{_≡_, refl, sym, ap, ap₂, _∙_}
-use mathlib.Core.Bool.{Bool, true, false, _&&_}
+use mathlib.Core.Bool.{true}
 use mathlib.Core.List.{List, [], _∷_, _++_, append-assoc}
-use Prim.Native.Nat.{ℕ, zero, suc, _+_, _*_, _-_, _/_, _%_, _≤_, _<_}
+use Prim.Native.Nat.{ℕ, _+_, _-_, _≤_, _<_}
 use native.Mathlib.Omega.{arith}
-use borrow.Author.Tests.{eqb-true, eq-eqb}
-use lib.Dec.{eqb, ltb}
+use borrow.Author.Tests.{eqb-true}
+use lib.Dec.{eqb}
 use lib.ListN.{length, take, drop, length-append, take-append-drop}
 use lib.Seq.{drop-drop, drop-at, take-at}
 use Rattle.files.specs.Bytes.{number-bytes, all-bytes, little-endian, number, same, trailer, body}
 use Rattle.files.proofs.Refusal.{and-true}
 use Rattle.card_format.specs.Format.{Fields, WCD1, trailer-bytes, fields}
-use Rattle.card_format.proofs.Bytes.{length-bytes, read-bytes, field}
+use Rattle.card_format.proofs.Bytes.{read-bytes, field}
 
 -- ---- The same bytes
 

@@ -1,30 +1,30 @@
 -- A card is accepted exactly when it is well formed and true.
-use mathlib.Core.Path.{_≡_, refl, sym, ap, ap₂, _∙_}
+use mathlib.Core.Path.{_≡_, refl, sym, ap, _∙_}
 use mathlib.Core.Bool.{Bool, true, false, _&&_, not, cond}
-use mathlib.Core.List.{List, [], _∷_, _++_}
+use mathlib.Core.List.{List, [], _∷_}
 use Prim.Native.Nat.{ℕ, zero, suc, _+_, _*_, _-_, _/_, _%_, _≤_, _<_}
 use native.Mathlib.Nat.{le-refl, lt-of-le-of-lt}
 use native.Mathlib.Omega.{arith}
 use borrow.Author.Tests.{eqb-true, eq-eqb, ne-eqb, leb-true, le-leb, ltb-true, lt-ltb}
 use lib.Dec.{eqb, leb, ltb}
-use lib.ListN.{length, getD, take, drop, replicate, length-drop}
+use lib.ListN.{length, getD, take, drop, length-drop}
 use lib.Seq.{length-take-le}
 use Rattle.frank_wolfe.specs.Vectors.{sum}
-use Rattle.files.specs.Bytes.{all-bytes, number, same, between, length-in-range, trailer, body-offset, body, reaches}
+use Rattle.files.specs.Bytes.{all-bytes, same, between, length-in-range, trailer, body-offset, body, reaches}
 use Rattle.files.specs.Book.{rows, columns, boats}
 use Rattle.files.specs.Sheet.{sheet, files-refusal}
 use Rattle.files.proofs.Refusal.{and-true, between-true}
 use Rattle.files.proofs.Accepted.{files-accepted}
 use Rattle.method.specs.declared.Verdict.{Verdict}
 use Rattle.method.specs.declared.Verdict.the-variants.{Within, Beyond, Spent}
-use Rattle.method.specs.Iterates.{weight, support, distance, gap}
+use Rattle.method.specs.Iterates.{support, distance, gap}
 use Rattle.method.specs.Answers.{verdict-number, stops, answer-at}
 use Rattle.method.specs.Bounds.{mixture-iterate}
 use Rattle.method.proofs.Weights.{weight-most, weight-positive, weight-fits}
 use Rattle.method.proofs.Shares.{Mixed, share-most, shares-mixed}
 use Rattle.method.proofs.Mixtures.{distance-most, gap-most}
 use Rattle.method.proofs.Accepted.{problem, in-range}
-use Rattle.card_format.specs.Format.{Fields, WCD1, pairs, trailer-bytes, fields, card-fields, card-body, pair-count, shares-into, card-shares, card-answer}
+use Rattle.card_format.specs.Format.{Fields, WCD1, pairs, trailer-bytes, fields, card-fields, card-body, pair-count, card-shares, card-answer}
 use Rattle.card_format.specs.Checks.{back-fits, pairs-in-order, shares-total, numbers-agree, card-refusal}
 use Rattle.card_format.specs.Truth.{answer-of, Card-true}
 use Rattle.card_format.proofs.Bytes.{drop-bytes}

@@ -1,14 +1,11 @@
 -- A card is accepted exactly when it is true, and what an accepted card vouches for.
 use mathlib.Core.Path.{_≡_, refl, sym, ap, _∙_}
 use mathlib.Core.List.{List}
-use Prim.Native.Nat.{ℕ, _*_, _≤_, _<_}
-use native.Mathlib.Omega.{arith}
+use Prim.Native.Nat.{ℕ, _≤_}
 use lib.Dec.{lit≤}
-use Rattle.files.specs.Bytes.{all-bytes}
 use Rattle.files.specs.Book.{rows, columns, boats}
 use Rattle.files.specs.Sheet.{sheet, files-refusal}
 use Rattle.files.proofs.Accepted.{files-accepted}
-use Rattle.method.specs.declared.Answer.{Answer}
 use Rattle.method.specs.Iterates.{weight, distance, gap}
 use Rattle.method.specs.Answers.{answer-at}
 use Rattle.method.specs.Bounds.{mixture-iterate}
@@ -16,8 +13,6 @@ use Rattle.method.proofs.Weights.{weight-positive, weight-fits}
 use Rattle.method.proofs.Mixtures.{gap-is, distance-is, gap-bound, beyond-bound}
 use Rattle.method.proofs.Verdicts.{verdict-means, within-means, beyond-means, spent-means, stops-spent}
 use Rattle.method.proofs.Accepted.{problem}
-use Rattle.card_format.specs.Format.{card-fields, card-shares, card-answer}
-use Rattle.card_format.specs.Checks.{card-refusal}
 use Rattle.card_format.specs.Truth.{answer-of, Card-true, Card-vouches, Accepted-exactly, Accepted-vouches}
 use Rattle.card_format.proofs.Truth.{accepted-true, own-mixed, own-distance-fits, own-gap-fits, few-steps, fields-are, shares-back, answer-is, true-accepted}
 

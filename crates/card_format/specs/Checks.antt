@@ -1,7 +1,7 @@
 -- What refuses a card, 31 to 39, and the calls of the card writer and the card check.
-use mathlib.Core.Bool.{Bool, true, false, _&&_, not, cond}
-use mathlib.Core.List.{List, [], _∷_}
-use Prim.Native.Nat.{ℕ, zero, suc, _+_, _*_, _/_, _%_}
+use mathlib.Core.Bool.{Bool, true, _&&_, not, cond}
+use mathlib.Core.List.{List}
+use Prim.Native.Nat.{ℕ, zero, suc, _*_, _%_}
 use lib.Dec.{eqb, ltb, leb}
 use lib.ListN.{length, drop}
 use Rattle.frank_wolfe.specs.Vectors.{sum}
@@ -11,7 +11,7 @@ use Rattle.files.specs.Sheet.{sheet, files-refusal}
 use Rattle.method.specs.declared.Answer.{Answer}
 use Rattle.method.specs.Iterates.{weight}
 use Rattle.method.specs.Answers.{verdict-number, stops, search-refusal}
-use Rattle.card_format.specs.Format.{Fields, WCD1, card-fields, card-body, pair-count, card-shares, card-answer, run-card}
+use Rattle.card_format.specs.Format.{WCD1, card-fields, card-body, pair-count, card-shares, card-answer, run-card}
 
 -- whether a back count is above zero, a multiple of 4, at most 4 × boats, and starts inside the file
 unfoldable pub back-fits : (boats back : ℕ) → List ℕ → Bool

@@ -3,7 +3,7 @@
 -- Trailer, 36 bytes: back count (4), verdict (2), steps used (2), tolerance (4), E (8), G (8), boats (2) and columns (2) of the book, the letters WCD1.
 use mathlib.Core.Bool.{cond}
 use mathlib.Core.List.{List, [], _∷_, _++_}
-use Prim.Native.Nat.{ℕ, zero, suc, _+_, _*_, _/_}
+use Prim.Native.Nat.{ℕ, zero, suc, _+_, _/_}
 use lib.Dec.{eqb}
 use lib.ListN.{length, drop, set, replicate}
 use Rattle.files.specs.Bytes.{number-bytes, number, trailer, body}

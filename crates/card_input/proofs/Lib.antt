@@ -1,2 +1,2 @@
--- The laws behind the proofs of this crate: laws of the form of a card and of reading its shares.
+-- The laws behind the proofs of this crate.
 pub mod Reading

@@ -1,13 +1,12 @@
-// A card's form tested, and its shares read.
+// A card's form tested: refusals 31 to 36.
+//
+// Helpers for other crates, whose callers prove what they require: steps_used, pair_count, form_refusal.
 ghost use mathlib.Core.Path.{_≡_};
-ghost use mathlib.Core.Bool.{true, _&&_};
-ghost use Prim.Native.Nat.{_+_, _*_, _-_, _≤_, _<_};
-ghost use lib.Dec.{ltb, leb};
-ghost use lib.ListN.{length, take, drop, replicate};
-ghost use Rattle.frank_wolfe.specs.Vectors.{sum};
+ghost use Prim.Native.Nat.{_*_, _-_, _≤_, _<_};
+ghost use lib.ListN.{length, drop};
 ghost use Rattle.files.specs.Bytes.{same, trailer};
-ghost use Rattle.card_format.specs.Format.{WCD1, card-fields, pair-count, shares-into};
-ghost use Rattle.card_format.specs.Checks.{back-fits, pairs-in-order};
+ghost use Rattle.card_format.specs.Format.{WCD1, card-fields, pair-count};
+ghost use Rattle.card_format.specs.Checks.{back-fits};
 ghost use Rattle.card_input.specs.Forms.{counts-agree, steps-fit, form-refusal};
 
 // The letters WCD1 as a number.
@@ -80,38 +79,6 @@ pub fn pair_count(card: &[u8]) -> usize
     files::u32_at(card, card.len() - 36) as usize / 4
 }
 
-// Whether a pair's boat is from `next` on and below `boats`, and its share is not 0.
-fn pair_fits(next: usize, boats: usize, boat: usize, share: u32) -> bool
-    ensures { λ r. ⌜ r ≡ leb next boat && (ltb boat boats && ltb 0 share) ⌝ }
-{
-    if boat < next {
-        return false;
-    }
-    if boats <= boat {
-        return false;
-    }
-    0 < share
-}
-
-// Whether the `count` pairs from `at` on are of boats below `boats` in ascending order, with no share of 0.
-fn pairs_in_order(card: &[u8], at: usize, count: usize, boats: usize) -> bool
-    requires { ⌜ at + 4 * count ≤ length (now card) ⌝ }
-    ensures { λ r. ⌜ r ≡ pairs-in-order count 0 boats (drop at (now (card .entry))) ⌝ }
-{
-    let mut next = 0;
-    let mut i = 0;
-    while i < count {
-        let boat = files::u16_at(card, at + 4 * i) as usize;
-        let share = files::u16_at(card, at + 4 * i + 2);
-        if !pair_fits(next, boats, boat, share) {
-            return false;
-        }
-        next = boat + 1;
-        i += 1;
-    }
-    true
-}
-
 // The number, 31 to 36, that refuses a card's form, or 0.
 pub fn form_refusal(card: &[u8], boats: usize, columns: usize, steps: u32) -> u32
     requires { ⌜ boats ≤ 256 ⌝ }
@@ -133,46 +100,8 @@ pub fn form_refusal(card: &[u8], boats: usize, columns: usize, steps: u32) -> u3
         return 35;
     }
     let count = pair_count(card);
-    if !pairs_in_order(card, card.len() - 36 - 4 * count, count, boats) {
+    if !card_pairs::pairs_in_order(card, card.len() - 36 - 4 * count, count, boats) {
         return 36;
     }
     0
-}
-
-// The shares of the `count` pairs from `at` on, one a boat.
-pub fn shares_of(card: &[u8], at: usize, count: usize) -> [u16; 256]
-    requires { ⌜ at + 4 * count ≤ length (now card) ⌝ }
-    requires { ⌜ pairs-in-order count 0 256 (drop at (now card)) ≡ true ⌝ }
-    ensures { λ r. ⌜ r ≡ shares-into count (drop at (now (card .entry))) (replicate 256 0) ⌝ }
-{
-    let mut shares = [0u16; 256];
-    let mut i = 0;
-    while i < count {
-        let boat = files::u16_at(card, at + 4 * i) as usize;
-        shares[boat] = files::u16_at(card, at + 4 * i + 2) as u16;
-        i += 1;
-    }
-    shares
-}
-
-// A share in a wider type.
-pub fn wide(x: u16) -> u32
-    ensures { λ r. ⌜ r ≡ x ⌝ }
-    ensures { λ r. ⌜ r < 65536 ⌝ }
-{
-    x as u32
-}
-
-// The total of the first `boats` shares.
-pub fn total(shares: [u16; 256], boats: usize) -> u32
-    requires { ⌜ boats ≤ 256 ⌝ }
-    ensures { λ r. ⌜ r ≡ sum (take boats shares) ⌝ }
-{
-    let mut sum: u32 = 0;
-    let mut i = 0;
-    while i < boats {
-        sum += wide(shares[i]);
-        i += 1;
-    }
-    sum
 }

@@ -1,14 +1,14 @@
 -- Bytes put into a buffer one after the other.
-use mathlib.Core.Path.{_≡_, refl, sym, ap, ap₂, _∙_}
+use mathlib.Core.Path.{_≡_, refl, sym, ap, _∙_}
 use mathlib.Core.Bool.{Bool, true, false}
 use mathlib.Core.List.{List, [], _∷_, _++_, append-assoc}
-use Prim.Native.Nat.{ℕ, zero, suc, _+_, _*_, _-_, _/_, _%_, _≤_, _<_}
+use Prim.Native.Nat.{ℕ, zero, suc, _+_, _-_, _/_, _%_, _≤_, _<_}
 use native.Mathlib.Nat.{add-assoc}
 use native.Mathlib.Omega.{arith}
 use native.Mathlib.Numerals.{add-one}
 use borrow.Author.Tests.{eqb-true, eqb-false, ne-eqb}
 use lib.Dec.{eqb}
-use lib.ListN.{length, take, drop, set, getD, length-append, length-take, length-drop, length-set, take-append-drop, drop-of-length-le}
+use lib.ListN.{length, take, drop, set, getD, length-append, length-drop, length-set, take-append-drop, drop-of-length-le}
 use lib.Seq.{drop-drop, drop-append-add, drop-cons, getD-take, take-at, set-split, length-take-le}
 use Rattle.files.specs.Bytes.{number-bytes}
 use Rattle.method.specs.declared.Answer.{Answer}

@@ -4,12 +4,10 @@ ghost use mathlib.Core.List.{[], _∷_, _++_};
 ghost use Prim.Native.Nat.{_+_, _≤_};
 ghost use lib.ListN.{length, take};
 ghost use Rattle.files.specs.Bytes.{number-bytes};
-ghost use Rattle.method.specs.Answers.{verdict-number};
 ghost use Rattle.method.specs.Iterates.{support};
 ghost use Rattle.card_format.specs.Format.{pair, pairs, WCD1, trailer-bytes, answer-fields};
 ghost use Rattle.card_output.specs.Output.{placed};
 use method::Answer;
-use method::Verdict;
 
 // The letters WCD1 as a number.
 const LETTERS: u64 = 826557271;
@@ -79,17 +77,6 @@ pub fn holding(shares: [u16; 256], boats: usize) -> usize
     n
 }
 
-// The verdict's number on a card.
-pub fn verdict_number(v: Verdict) -> u64
-    ensures { λ r. ⌜ r ≡ verdict-number v ⌝ }
-{
-    match v {
-        Verdict::Within => 1,
-        Verdict::Beyond(_) => 2,
-        Verdict::Spent(_) => 3,
-    }
-}
-
 // The first 12 bytes of a trailer.
 fn put_head(output: &mut [u8], at: usize, back: u64, verdict: u64, steps: u64, tolerance: u64)
     requires { ⌜ at + 12 ≤ length (now output) ⌝ }
@@ -130,7 +117,7 @@ pub fn put_trailer(
         output,
         at,
         at as u64,
-        verdict_number(verdict),
+        verdicts::verdict_number(verdict) as u64,
         a.steps as u64,
         tolerance as u64,
     );

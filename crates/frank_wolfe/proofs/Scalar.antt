@@ -3,9 +3,9 @@
 -- p: <r, s - u>; c: <r, ρ>; q: Q; σ: |s - u|²; b: |w s - y|²; γ: G; τ: tolerance; t: steps.
 use mathlib.Core.Path.{_≡_}
 use mathlib.Core.List.{List, [], _∷_}
-use lib.IntN.{ℤ, pos, negsuc, negℤ, _+ℤ_, _-ℤ_, _*ℤ_}
+use lib.IntN.{ℤ, pos, _+ℤ_, _-ℤ_, _*ℤ_}
 use lib.Signed.{_≤ℤ_, _<ℤ_}
-use Rattle.integers.proofs.Solver.{Expr, con, _⊕_, _⊗_, ⊖_, _⊝_, x₀, x₁, x₂, x₃, x₄, x₅, x₆, x₇, x₈, x₉}
+use Rattle.integers.proofs.Solver.{Expr, con, _⊕_, _⊗_, _⊝_, x₀, x₁, x₂, x₃, x₄, x₅, x₆, x₇, x₈, x₉}
 use Rattle.integers.proofs.Facts.{Fact, _≼_, _≺_, known, nat, square, equation, _⊞_, _⊡_, derive, derive-times}
 
 abbrev O : Expr

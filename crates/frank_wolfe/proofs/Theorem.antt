@@ -1,17 +1,17 @@
 -- The Frank-Wolfe theorem: `frank-wolfe` proves every statement of specs/Theorem.antt. Assumes nothing.
-use mathlib.Core.Path.{_≡_, refl, sym, ap, ap₂, _∙_, subst}
-use mathlib.Core.List.{List, [], _∷_}
+use mathlib.Core.Path.{_≡_, refl, sym, ap, ap₂, _∙_}
+use mathlib.Core.List.{[], _∷_}
 use Prim.Native.Nat.{ℕ, zero, suc, _+_, _*_, _≤_, _<_}
 use native.Mathlib.Omega.{arith}
 use native.Mathlib.Numerals.{add-one}
 use native.Mathlib.Nat.{zero-add, le-trans, mul-le-mul-right}
-use lib.IntN.{ℤ, pos, negsuc, negℤ, _+ℤ_, _-ℤ_, _*ℤ_}
+use lib.IntN.{ℤ, pos, negsuc, _+ℤ_, _-ℤ_, _*ℤ_}
 use lib.Dec.{T, eqb, eqb→eq, lit≤, lit<}
 use lib.Signed.{_≤ℤ_, _<ℤ_}
 use Rattle.integers.proofs.Solver.{Expr, con, _⊕_, _⊗_, ⊖_, _⊝_, x₀, x₁, x₂, x₃, x₄, x₅, x₆, x₇, x₈, x₉, x₁₀, solve}
 use Rattle.integers.proofs.Order.{≤→≤ℤ, <→<ℤ}
-use Rattle.integers.proofs.Facts.{Fact, _≼_, _≺_, known, nat, square, equation, _⊞_, _⊡_, derive, derive-times}
-use Rattle.frank_wolfe.specs.Method.{Space, squared-distance, Zero, Plus, Residual, Mixture, none, more, Diameter, Argmin, Gap, total, Scored, at-start, at-iterate, Run, start, step}
+use Rattle.integers.proofs.Facts.{_≼_, known, nat, square, equation, _⊞_, _⊡_, derive, derive-times}
+use Rattle.frank_wolfe.specs.Method.{Space, squared-distance, Zero, Plus, Residual, Mixture, none, more, Diameter, Argmin, Gap, total, at-start, at-iterate, Run, start, step}
 use Rattle.frank_wolfe.specs.Theorem.{Compared, Frank-Wolfe}
 use Rattle.frank_wolfe.proofs.Scalar as scalar
 use Rattle.frank_wolfe.proofs.Mixtures.{nonneg, second-moment, sums, least-below, spread, between, diameter-nonneg, gap-over-mixture}

@@ -1,16 +1,16 @@
 -- Lists of integers, as vectors of the theorem: `factored f`, with a natural factor for each column, and `plain`, without, are spaces;
 -- sums, multiples and mixtures of lists are those of the theorem. Assumes nothing.
-use mathlib.Core.Path.{_≡_, refl, sym, ap, ap₂, _∙_, subst}
+use mathlib.Core.Path.{_≡_, refl, sym, ap, ap₂, _∙_}
 use mathlib.Core.List.{List, [], _∷_}
 use Prim.Native.Nat.{ℕ, zero, suc, _+_, _*_, _≤_, _<_}
 use native.Mathlib.Omega.{arith}
 use native.Mathlib.Nat.{add-comm}
-use lib.IntN.{ℤ, pos, negsuc, negℤ, natAbs, _+ℤ_, _-ℤ_, _*ℤ_, *ℤ-comm}
+use lib.IntN.{ℤ, pos, negsuc, _+ℤ_, _-ℤ_, _*ℤ_, *ℤ-comm}
 use lib.ListN.{length, getD, set, replicate, length-replicate}
 use lib.Signed.{_≤ℤ_}
 use Rattle.integers.proofs.Solver.{Expr, con, _⊕_, _⊗_, ⊖_, _⊝_, x₀, x₁, x₂, x₃, x₄, x₅, x₆, x₇, solve}
-use Rattle.integers.proofs.Facts.{Fact, _≼_, known, nat, square, equation, _⊞_, _⊡_, derive}
-use Rattle.frank_wolfe.specs.Method.{Space, Zero, Plus, Residual, Mixture, none, more}
+use Rattle.integers.proofs.Facts.{_≼_, known, nat, square, equation, _⊞_, _⊡_, derive}
+use Rattle.frank_wolfe.specs.Method.{Space, Plus, Residual, Mixture, none, more}
 use Rattle.frank_wolfe.specs.Theorem.{Compared}
 use Rattle.frank_wolfe.specs.Vectors.{add, subtract, scale, inner, weighted, squared-norm, Among, here, there, sum, combination}
 use Rattle.frank_wolfe.proofs.Mixtures.{nonneg}

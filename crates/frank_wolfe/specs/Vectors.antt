@@ -1,7 +1,7 @@
 -- Lists of integers as vectors: sums, multiples, inner products, mixtures of rows. Definitions only. Assumes nothing.
 -- Where two lists differ in length, what lies past the end of the shorter one counts for nothing.
 use mathlib.Core.List.{List, [], _∷_}
-use Prim.Native.Nat.{ℕ, zero, suc, _+_, _*_}
+use Prim.Native.Nat.{ℕ, suc, _+_, _*_}
 use lib.IntN.{ℤ, pos, natAbs, _+ℤ_, _-ℤ_, _*ℤ_}
 use lib.ListN.{replicate}
 

@@ -1,17 +1,17 @@
 -- How to use the solver and the facts. Copy the example that is nearest to your goal; each line here is checked with the crate.
 -- A goal is written twice: once as its type, once in the variables x₀, x₁, .. whose values the list ρ gives, in that order. Assumes nothing.
 use mathlib.Core.Path.{_≡_}
-use mathlib.Core.List.{List, [], _∷_}
+use mathlib.Core.List.{[], _∷_}
 use Prim.Native.Nat.{ℕ, _+_, _*_, _≤_}
 use native.Mathlib.Omega.{arith}
-use lib.IntN.{ℤ, pos, negsuc, natAbs, _+ℤ_, _-ℤ_, _*ℤ_}
+use lib.IntN.{ℤ, pos, natAbs, _+ℤ_, _*ℤ_}
 use lib.Signed.{_≤ℤ_, _<ℤ_}
 use mir.Syntax.{w64}
 use mir.Val.{SFits}
 use Rattle.integers.proofs.Bounds.{fits, abs-mul-le}
-use Rattle.integers.proofs.Solver.{Expr, con, _⊕_, _⊗_, ⊖_, _⊝_, x₀, x₁, x₂, x₃, solve}
+use Rattle.integers.proofs.Solver.{con, _⊕_, _⊗_, ⊖_, _⊝_, x₀, x₁, x₂, x₃, solve}
 use Rattle.integers.proofs.Order.{≤→≤ℤ, ≤ℤ→≤}
-use Rattle.integers.proofs.Facts.{_≼_, _≺_, known, nat, square, equation, _⊞_, _⊡_, derive, derive-times}
+use Rattle.integers.proofs.Facts.{_≼_, _≺_, known, square, equation, _⊞_, _⊡_, derive, derive-times}
 
 -- An equation: both sides, in the variables.
 binomial : (a b : ℤ) → (a +ℤ b) *ℤ (a +ℤ b) ≡ a *ℤ a +ℤ pos 2 *ℤ a *ℤ b +ℤ b *ℤ b

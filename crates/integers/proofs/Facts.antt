@@ -1,13 +1,13 @@
 -- Inequalities of integers from other inequalities: `derive ρ goal facts tt`. A fact is an expression that is not below 0;
 -- facts are added (⊞) and multiplied (⊡), and the goal follows where they multiply out to it. Laws that are used often follow. Assumes nothing.
-use mathlib.Core.Path.{_≡_, refl, sym, ap, _∙_, subst}
+use mathlib.Core.Path.{_≡_, refl, ap, _∙_}
 use mathlib.Core.Bool.{Bool, true, false, not}
 use mathlib.Core.List.{List, [], _∷_}
 use Prim.Native.Nat.{ℕ}
 use lib.Dec.{T, not-T}
-use lib.IntN.{ℤ, pos, negsuc, negℤ, _+ℤ_, _-ℤ_, _*ℤ_}
+use lib.IntN.{ℤ, pos, _+ℤ_, _-ℤ_, _*ℤ_}
 use lib.Signed.{_≤ℤ_, _<ℤ_, ltZ, leZ, ltZ-no, clashℤ}
-use Rattle.integers.proofs.Solver.{Expr, var, con, _⊕_, _⊗_, ⊖_, _⊝_, x₀, x₁, x₂, eval, Same, solve}
+use Rattle.integers.proofs.Solver.{Expr, con, _⊕_, _⊗_, ⊖_, _⊝_, x₀, x₁, x₂, eval, Same, solve}
 use Rattle.integers.proofs.Order.{Nonneg, is-nat, nonneg-by, nonneg-add, nonneg-mul, nonneg-square, nonneg-equation, ≤→nonneg, nonneg→≤, <→nonneg, nonneg→<, ≤ℤ-antisymmetric, cancel-nonneg, cancel-positive}
 
 -- what is claimed of two expressions: at most, or below

@@ -2,7 +2,7 @@
 -- a < b where b - a - 1 is not. The laws here are those that products and sums of inequalities need. Assumes nothing.
 use mathlib.Core.Path.{_≡_, refl, sym, ap, _∙_, subst}
 use mathlib.Core.Bool.{Bool, true, false, not}
-use mathlib.Core.List.{List, [], _∷_}
+use mathlib.Core.List.{[], _∷_}
 use Prim.Native.Nat.{ℕ, zero, suc, _+_, _*_, _-_, _≤_, _<_}
 use native.Mathlib.Nat.{le-antisymm}
 use native.Mathlib.Omega.{arith}
@@ -10,7 +10,7 @@ use native.Mathlib.Numerals.{unary-clauses}
 use lib.Dec.{T, leb, ltb, leb→le, le→leb, ltb→lt, lt→ltb}
 use lib.IntN.{ℤ, pos, negsuc, negℤ, natAbs, _+ℤ_, _-ℤ_, _*ℤ_, +ℤ-invr, *ℤ-zero, -ℤ-one, -ℤ-+ℤ-cancel}
 use lib.Signed.{_≤ℤ_, _<ℤ_, ltZ, ltZ-no, clashℤ}
-use Rattle.integers.proofs.Solver.{Expr, var, con, _⊕_, _⊗_, ⊖_, _⊝_, x₀, x₁, x₂, eval, Same, solve}
+use Rattle.integers.proofs.Solver.{con, _⊕_, _⊗_, ⊖_, _⊝_, x₀, x₁, x₂, solve}
 
 -- an integer that is not below 0
 pub data Nonneg : ℤ → Type 0 where

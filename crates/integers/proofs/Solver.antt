@@ -1,11 +1,11 @@
 -- A solver for equations in the ring of integers: both sides are expressions, and antt multiplies them out.
 -- `solve ρ a b tt`, where ρ lists the values of x₀, x₁, ..; Examples.antt shows its use. Assumes nothing.
-use mathlib.Core.Path.{_≡_, refl, sym, ap, ap₂, _∙_, subst}
-use mathlib.Core.Bool.{Bool, true, false, _&&_, not, cond}
+use mathlib.Core.Path.{_≡_, refl, sym, ap, ap₂, _∙_}
+use mathlib.Core.Bool.{Bool, true, false, _&&_, cond}
 use mathlib.Core.List.{List, [], _∷_}
 use Prim.Native.Nat.{ℕ, zero, suc, _+_, _*_}
 use lib.Dec.{T, ltb, eqb, eqb→eq}
-use lib.IntN.{ℤ, pos, negsuc, negℤ, _+ℤ_, _-ℤ_, _*ℤ_, +ℤ-comm, +ℤ-assoc, +ℤ-idl, +ℤ-idr, +ℤ-invl, +ℤ-invr, *ℤ-comm, zero-*ℤ, *ℤ-zero, *ℤ-one, negℤ-+ℤ, -ℤ-+ℤ-cancel}
+use lib.IntN.{ℤ, pos, negsuc, negℤ, _+ℤ_, _-ℤ_, _*ℤ_, +ℤ-assoc, +ℤ-idl, +ℤ-idr, *ℤ-comm, zero-*ℤ, *ℤ-zero, *ℤ-one, negℤ-+ℤ, -ℤ-+ℤ-cancel}
 use Rattle.integers.proofs.Ring.{*ℤ-distrib-r, *ℤ-distrib-l, *ℤ-assoc, neg-*ℤ, +ℤ-left-comm, *ℤ-left-comm}
 
 -- an expression in numbered variables

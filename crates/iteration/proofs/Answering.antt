@@ -1,31 +1,30 @@
 -- A state that holds an iterate after at least one step gives the answer of the definitions. Assumes nothing.
-use mathlib.Core.Path.{_≡_, refl, sym, ap, _∙_}
+use mathlib.Core.Path.{_≡_, sym, ap, _∙_}
 use mathlib.Core.List.{List}
-use Prim.Native.Nat.{ℕ, zero, suc, _+_, _-_, _*_, _≤_, _<_}
+use Prim.Native.Nat.{ℕ, suc, _-_, _*_, _≤_, _<_}
 use native.Mathlib.Nat.{le-refl, lt-of-le-of-lt}
 use native.Mathlib.Omega.{arith}
 use lib.ListN.{length, take, drop, replicate, length-append, length-replicate}
 use lib.Seq.{take-at}
-use lib.IntN.{ℤ, pos, natAbs, _+ℤ_, _-ℤ_, _*ℤ_}
+use lib.IntN.{ℤ, pos, natAbs}
 use lib.Signed.{_≤ℤ_}
 use Rattle.integers.proofs.Order.{≤→≤ℤ}
 use Rattle.files.specs.Bytes.{values}
-use Rattle.files.specs.Book.{boats, columns, rows}
+use Rattle.files.specs.Book.{columns, rows}
 use Rattle.files.specs.Sheet.{sheet, target-offset, files-refusal}
-use Rattle.frank_wolfe.specs.Vectors.{inner, squared-norm}
+use Rattle.frank_wolfe.specs.Vectors.{squared-norm}
 use Rattle.method.specs.Iterates as M
-use Rattle.method.specs.Iterates.{iterate, direction, residual, distance, gap, signed-gap, natural, weight, argmin, row}
-use Rattle.method.specs.Answers.{answer-at, verdict}
+use Rattle.method.specs.Iterates.{direction, residual, distance, gap, natural, weight, argmin, row}
+use Rattle.method.specs.Answers.{answer-at}
 use Rattle.method.specs.Minimum.{minimum}
 use Rattle.method.proofs.Weights.{weight-positive, weight-most, weight-fits}
 use Rattle.method.proofs.Argmin.{argmin-at, argmin-below, among-row, least-score}
 use Rattle.method.proofs.Shares.{mixed-length}
 use Rattle.method.proofs.Mixtures.{gap-by-distance, gap-is, score-most, distance-most, gap-most}
 use Rattle.method.proofs.Accepted.{problem, in-range, mixed, residual-entries, residual-length}
-use Rattle.sums.specs.Operands.{Span, Gap-sized}
 use Rattle.iteration.specs.declared.Layout.{Layout}
 use Rattle.iteration.specs.declared.State.{State}
-use Rattle.iteration.specs.States.{file-layout, iterate-of, scores-of, Holds}
+use Rattle.iteration.specs.States.{file-layout, iterate-of, Holds}
 use Rattle.iteration.specs.Measures.{gap-by, measure, Measurable, Answerable}
 use Rattle.iteration.proofs.States.{book-fits, sheet-fits, target-span, target-is, bounded-front}
 

@@ -6,8 +6,8 @@ use native.Mathlib.Omega.{arith}
 use lib.IntN.{ℤ, pos, natAbs}
 use lib.ListN.{getD, take, drop, replicate, getD-replicate}
 use Rattle.files.specs.Bytes.{values}
-use Rattle.files.specs.Book.{boats, columns, rows, rows-offset}
-use Rattle.files.specs.Sheet.{sheet, target-offset, files-refusal}
+use Rattle.files.specs.Book.{boats, columns, rows}
+use Rattle.files.specs.Sheet.{sheet, files-refusal}
 use Rattle.frank_wolfe.specs.Vectors.{add, subtract, scale}
 use Rattle.method.specs.declared.Answer.{Answer}
 use Rattle.method.specs.Iterates.{weight, argmin, residual}

@@ -1,5 +1,4 @@
--- The laws behind the proofs of this crate: the table of totals, what states hold, what the steps need, and the answer of a state.
-pub mod Table
+-- The laws behind the proofs of this crate: what states hold, what the steps need, and the answer of a state.
 pub mod States
 pub mod Steps
 pub mod Measuring

@@ -1,9 +1,9 @@
 -- The needs of `measured`: its callees' results put together are the definition's answer. Assumes nothing.
-use mathlib.Core.Path.{_≡_, refl, sym, ap, _∙_}
+use mathlib.Core.Path.{_≡_, ap, _∙_}
 use mathlib.Core.List.{List}
-use Prim.Native.Nat.{ℕ, _*_, _≤_, _<_}
+use Prim.Native.Nat.{ℕ, _*_}
 use native.Mathlib.Omega.{arith}
-use lib.ListN.{length, take, drop}
+use lib.ListN.{take, drop}
 use lib.IntN.{ℤ, pos, _+ℤ_, _-ℤ_, _*ℤ_}
 use mir.Syntax.{w64}
 use mir.Val.{toZ, ofZ}
@@ -13,7 +13,7 @@ use Rattle.files.specs.Sheet.{sheet}
 use Rattle.frank_wolfe.specs.Vectors.{inner, squared-norm}
 use Rattle.method.specs.Iterates.{natural}
 use Rattle.method.specs.Answers.{verdict}
-use Rattle.method.specs.Sizes.{Judgeable}
+use Rattle.verdicts.specs.Sizes.{Judgeable}
 use Rattle.method.specs.declared.Answer.{Answer}
 use Rattle.method.specs.declared.Verdict.{Verdict}
 use Rattle.sums.specs.Operands.{Gap-sized}

@@ -15,7 +15,7 @@ use Rattle.files.specs.Fits.{Book-fits, Sheet-fits}
 use Rattle.files.proofs.Accepted.{files-accepted}
 use Rattle.files.proofs.Access.{rows-at, row-at, target-at}
 use Rattle.frank_wolfe.specs.Vectors.{add, subtract, scale, inner}
-use Rattle.frank_wolfe.proofs.Vectors.{plain, length-add, length-scale, length-subtract, inner-add, inner-scale, inner-zero, scale-one}
+use Rattle.frank_wolfe.proofs.Vectors.{plain, length-scale, length-subtract, inner-add, inner-scale, inner-zero, scale-one}
 use Rattle.method.specs.Iterates as M
 use Rattle.method.specs.Iterates.{iterate, direction, step, start, argmin, row, residual}
 use Rattle.method.proofs.Argmin.{argmin-below, among-row, score-at, length-scores}

@@ -1,5 +1,5 @@
 -- The needs of `difference_of`, `products_of`, `least_product_of`, `fresh` and `next`, with the layout l of the files as the code has it. Assumes nothing.
-use mathlib.Core.Path.{_≡_, sym, ap, _∙_}
+use mathlib.Core.Path.{_≡_, ap, _∙_}
 use mathlib.Core.List.{List, _++_}
 use Prim.Native.Nat.{ℕ, suc, _+_, _*_, _-_, _≤_, _<_}
 use native.Mathlib.Omega.{arith}
@@ -10,8 +10,8 @@ use lib.Seq.{getD-take, take-at}
 use mir.Syntax.{w64}
 use mir.Val.{Fits}
 use Rattle.files.specs.Bytes.{values}
-use Rattle.files.specs.Book.{boats, columns, rows, rows-from, rows-offset}
-use Rattle.files.specs.Sheet.{sheet, target-offset, files-refusal}
+use Rattle.files.specs.Book.{boats, columns, rows, rows-from}
+use Rattle.files.specs.Sheet.{sheet, files-refusal}
 use Rattle.frank_wolfe.specs.Vectors.{add, subtract, scale}
 use Rattle.method.specs.Iterates as M
 use Rattle.method.specs.Iterates.{weight, residual}

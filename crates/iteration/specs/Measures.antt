@@ -1,5 +1,4 @@
 -- The answer of a residual: E, G and the verdict, as the code finds them. Assumes nothing.
-use mathlib.Core.Path.{_≡_}
 use mathlib.Core.List.{List}
 use Prim.Native.Nat.{ℕ, _≤_}
 use lib.ListN.{length, take, drop}
@@ -9,7 +8,7 @@ use Rattle.files.specs.Sheet.{sheet}
 use Rattle.frank_wolfe.specs.Vectors.{inner, squared-norm}
 use Rattle.method.specs.Iterates.{natural, weight}
 use Rattle.method.specs.Answers.{verdict}
-use Rattle.method.specs.Sizes.{Judgeable}
+use Rattle.verdicts.specs.Sizes.{Judgeable}
 use Rattle.method.specs.declared.Answer.{Answer}
 use Rattle.sums.specs.Operands.{Bounded, Span, Gap-sized}
 use Rattle.iteration.specs.declared.Layout.{Layout}

@@ -18,8 +18,6 @@ ghost use Rattle.iteration.specs.Measures.{measure, tolerance-of, Measur
 use method::Answer;
 use scoring::Least;
 
-mod totals;
-
 // Where the rows of a fleet book and the target of a sheet stand in their bytes: the offset of the first row, and of the target.
 pub struct Layout {
     pub boats: usize,
@@ -144,7 +142,7 @@ pub fn measured(steps: u32, w: u32, r: &[i32], least: i64, sheet: &[u8], layout:
     let e = sums::squared_norm(r, columns);
     let target_score = sums::inner_at(r, sheet, target, columns);
     let g = sums::gap_of(e, w, target_score, least);
-    let verdict = method::judge(files::tolerance(sheet), w, e, g);
+    let verdict = verdicts::judge(files::tolerance(sheet), w, e, g);
     Answer {
         steps,
         weight: w,

@@ -1,4 +1,4 @@
--- The laws of the method that the code and other crates use, and the proofs of what specs/ promises of a run.
+-- The laws of the method that other crates use, and the proofs of what specs/ promises of a run.
 pub mod Weights
 pub mod Argmin
 pub mod Entries
@@ -9,7 +9,6 @@ pub mod Verdicts
 pub mod Accepted
 pub mod Running
 pub mod Bounds
-pub mod Floor
 pub mod Fractions
 pub mod Numerators
 pub mod Published

@@ -1,12 +1,12 @@
 -- The Frank-Wolfe method in whole numbers: iterates, scores, E and G. Definitions only. Assumes nothing.
 -- rs: the rows of the boats (the vertices), all of c columns; u: the target.
 -- After t steps the shares total W; the sum over the boats of share times row is y, and the iterate is the point y / W.
-use mathlib.Core.Bool.{Bool, true, false, cond}
+use mathlib.Core.Bool.{cond}
 use mathlib.Core.List.{List, [], _∷_}
 use Prim.Native.Nat.{ℕ, zero, suc, _+_, _*_, _/_, max}
 use lib.Dec.{eqb}
 use lib.ListN.{length, getD, set, replicate}
-use lib.IntN.{ℤ, pos, negsuc, _+ℤ_, _-ℤ_, _*ℤ_}
+use lib.IntN.{ℤ, pos, negsuc}
 use lib.Signed.{ltZ}
 use Rattle.frank_wolfe.specs.Vectors.{add, subtract, scale, inner, squared-norm, sum, combination}
 

@@ -3,7 +3,6 @@ pub mod Iterates
 pub mod Answers
 pub mod Minimum
 pub mod Bounds
-pub mod Sizes
 pub mod Fractions
 pub mod Published
 pub mod PublishedRun

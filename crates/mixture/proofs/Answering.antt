@@ -1,27 +1,26 @@
 -- The answer of shares, one a boat, that total t (t + 1) / 2: what the residual and the scores give is that of the definitions.
-use mathlib.Core.Path.{_≡_, refl, sym, ap, _∙_}
+use mathlib.Core.Path.{_≡_, sym, ap, _∙_}
 use mathlib.Core.List.{List}
-use Prim.Native.Nat.{ℕ, _+_, _*_, _/_, _≤_, _<_}
-use native.Mathlib.Nat.{le-refl, lt-of-le-of-lt, mul-le-mul}
+use Prim.Native.Nat.{ℕ, _*_, _≤_, _<_}
+use native.Mathlib.Nat.{le-refl, lt-of-le-of-lt}
 use native.Mathlib.Omega.{arith}
-use lib.IntN.{ℤ, pos, natAbs, _+ℤ_, _-ℤ_, _*ℤ_}
+use lib.IntN.{ℤ, pos, natAbs}
 use lib.ListN.{length, take, drop}
 use lib.Seq.{length-take-le}
 use lib.Signed.{_≤ℤ_}
-use lib.Dec.{lit<}
-use mir.Syntax.{w32, w64}
-use mir.Val.{Fits, toZ, ofZ}
+use mir.Syntax.{w64}
+use mir.Val.{toZ, ofZ}
 use Rattle.integers.proofs.Bounds.{read}
 use Rattle.integers.proofs.Order.{≤→≤ℤ}
-use Rattle.frank_wolfe.specs.Vectors.{subtract, scale, inner, squared-norm, sum, combination}
+use Rattle.frank_wolfe.specs.Vectors.{subtract, scale, squared-norm, sum, combination}
 use Rattle.files.specs.Bytes.{values}
-use Rattle.files.specs.Book.{boats, columns, rows, rows-from, rows-offset}
-use Rattle.files.specs.Sheet.{sheet, target-offset, files-refusal}
+use Rattle.files.specs.Book.{boats, columns, rows, rows-from}
+use Rattle.files.specs.Sheet.{sheet, files-refusal}
 use Rattle.files.proofs.Access.{rows-at}
 use Rattle.method.specs.declared.Answer.{Answer}
 use Rattle.method.specs.Iterates as M
 use Rattle.method.specs.Iterates.{Iterate, residual, distance, gap, natural, weight, argmin, row}
-use Rattle.method.specs.Answers.{answer-at, verdict}
+use Rattle.method.specs.Answers.{answer-at}
 use Rattle.method.specs.Bounds.{mixture-iterate}
 use Rattle.method.specs.Minimum.{minimum}
 use Rattle.method.proofs.Weights.{weight-positive, weight-most, weight-fits}
@@ -30,20 +29,13 @@ use Rattle.method.proofs.Shares.{Mixed, shares-mixed, mixed-length}
 use Rattle.method.proofs.Mixtures.{gap-by-distance, gap-is, score-most, distance-most, gap-most, residual-bounded}
 use Rattle.method.proofs.Accepted.{problem, in-range}
 use Rattle.scoring.specs.declared.Least.{Least}
-use Rattle.sums.specs.Operands.{Bounded, Grid, Gap-sized}
+use Rattle.sums.specs.Operands.{Bounded, Grid}
 use Rattle.scoring.specs.Scores.{least-of}
 use Rattle.iteration.specs.declared.Layout.{Layout}
 use Rattle.iteration.specs.States.{file-layout}
 use Rattle.iteration.specs.Measures.{gap-by, measure, Measurable}
 use Rattle.iteration.proofs.States.{book-fits, sheet-fits, target-span, target-is, grid, bounded-front}
 use Rattle.card_format.specs.Truth.{answer-of}
-
--- t (t + 1) keeps to 32 bits
-pub product-fits : (t : ℕ) → t < 65536 → Fits w32 (t * (t + 1))
-product-fits t h =
-    let k : t ≤ 65535 = omega arith in
-    let l : t + 1 ≤ 65536 = omega arith in
-    record { fits = lt-of-le-of-lt (mul-le-mul k l) (lit< tt) }
 
 zero-≤ : (n : ℕ) → 0 ≤ n
 zero-≤ n = omega arith
@@ -117,8 +109,8 @@ module _ (b s : List ℕ) (ok : files-refusal b s ≡ 0) {l : Layout} (e : l ≡
         unfolding distance
         square = lt-of-le-of-lt (distance-most (problem b s ok) (in-range b s ok) mixed) (weight-fits few (le-refl 1024000000))
 
-        pub measurable : Measurable now (t * (t + 1) / 2) (toZ w64 (ofZ w64 (lo .score))) s l
-        unfolding file-layout natural weight
+        pub measurable : Measurable now (weight t) (toZ w64 (ofZ w64 (lo .score))) s l
+        unfolding file-layout natural
         measurable =
             rw (e, least-read)
             (record {
@@ -142,7 +134,7 @@ module _ (b s : List ℕ) (ok : files-refusal b s ≡ 0) {l : Layout} (e : l ≡
             })
 
         pub answered : {a : Answer} →
-            a ≡ measure t (t * (t + 1) / 2) (sheet s .tolerance) (take (l .columns) now) (values (l .columns) (drop (l .target) s)) (toZ w64 (ofZ w64 (lo .score))) →
+            a ≡ measure t (weight t) (sheet s .tolerance) (take (l .columns) now) (values (l .columns) (drop (l .target) s)) (toZ w64 (ofZ w64 (lo .score))) →
             a ≡ answer-of b s (take (boats b) shares) t
-        unfolding file-layout measure answer-at distance natural weight
+        unfolding file-layout measure answer-at distance natural
         answered f = f ∙ rw (e, least-read, residual-is, target-is b s ok, gap-integer)

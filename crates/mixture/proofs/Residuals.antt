@@ -2,17 +2,16 @@
 use mathlib.Core.Path.{_≡_, refl, sym, ap, ap₂, _∙_}
 use mathlib.Core.List.{List, [], _∷_, _++_}
 use Prim.Native.Nat.{ℕ, zero, suc, _+_, _*_, _-_, _≤_, _<_}
-use native.Mathlib.Nat.{mul-le-mul-right, suc-mul}
 use native.Mathlib.Omega.{arith}
 use native.Mathlib.Numerals.{add-one}
-use lib.IntN.{ℤ, pos, natAbs, _+ℤ_, _-ℤ_, _*ℤ_, +ℤ-idl}
+use lib.IntN.{ℤ, pos, natAbs}
 use lib.ListN.{length, getD, take, drop, replicate, length-replicate, drop-of-length-le, take-append-drop}
 use lib.Seq.{drop-cons, getD-take, length-take-le, take-at}
 use mir.Syntax.{w64}
 use mir.Val.{Fits}
 use Rattle.integers.proofs.Solver.{con, _⊕_, _⊗_, _⊝_, x₀, x₁, x₂, x₃, x₄, solve}
-use Rattle.frank_wolfe.specs.Vectors.{add, subtract, scale, sum, combination, Among, here, there}
-use Rattle.frank_wolfe.proofs.Vectors.{Wide, wide-rest, length-add, length-scale, length-subtract, length-combination}
+use Rattle.frank_wolfe.specs.Vectors.{add, subtract, scale, sum, combination, here}
+use Rattle.frank_wolfe.proofs.Vectors.{Wide, wide-rest, length-add, length-scale, length-subtract}
 use Rattle.files.specs.Bytes.{values}
 use Rattle.files.specs.Book.{boats, columns, rows, rows-offset}
 use Rattle.files.specs.Sheet.{sheet, target-offset, files-refusal}

@@ -29,7 +29,7 @@ fn residual_of(book: &[u8], sheet: &[u8], layout: Layout, shares: [u16; 256]) ->
     let mut i = 0;
     while i < boats {
         let row = rows + 2 * (i * columns);
-        let share = card_input::wide(shares[i]);
+        let share = card_pairs::wide(shares[i]);
         let next = sums::moved(r, book, row, sheet, target, columns, share);
         r = next;
         i += 1;
@@ -50,5 +50,5 @@ pub fn answer_of(book: &[u8], sheet: &[u8], layout: Layout, shares: [u16; 256], 
     let boats = layout.boats;
     let r = residual_of(book, sheet, layout, shares);
     let least = scoring::least_score(&r, book, rows, boats, columns);
-    iteration::measured(t, t * (t + 1) / 2, &r, least.score, sheet, layout)
+    iteration::measured(t, totals::total_after(t), &r, least.score, sheet, layout)
 }

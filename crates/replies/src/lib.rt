@@ -2,7 +2,6 @@
 //
 // Helpers, which ask nothing of their caller: reply_of, card_reply_of.
 ghost use mathlib.Core.Path.{_≡_};
-ghost use Rattle.method.specs.Answers.{verdict-number};
 ghost use Rattle.replies.specs.Replies.{floor-of, shortfall-of, reply-of, card-reply-of};
 use card::Written;
 use method::Searched;
@@ -28,17 +27,6 @@ pub struct Reply {
     pub floor: i64,
     // E - tolerance × W² of Spent, else 0
     pub shortfall: u64,
-}
-
-// The number of a verdict.
-fn verdict_number(v: Verdict) -> u32
-    ensures { λ r. ⌜ r ≡ verdict-number v ⌝ }
-{
-    match v {
-        Verdict::Within => 1,
-        Verdict::Beyond(_) => 2,
-        Verdict::Spent(_) => 3,
-    }
 }
 
 // What Beyond carries, 0 for the others.
@@ -82,7 +70,7 @@ pub fn reply_of(found: Searched) -> Reply
             let v = a.verdict;
             Reply {
                 refusal: 0,
-                verdict: verdict_number(v),
+                verdict: verdicts::verdict_number(v),
                 steps: a.steps,
                 weight: a.weight,
                 distance: a.distance,

@@ -1,17 +1,16 @@
 -- What a run keeps from step to step: shares, scores and the memory of products follow the state. Assumes nothing.
-use mathlib.Core.Path.{_≡_, refl, sym, ap, _∙_, subst}
+use mathlib.Core.Path.{_≡_, refl, sym, ap, _∙_}
 use mathlib.Core.List.{List, _++_}
-use Prim.Native.Nat.{ℕ, zero, suc, _+_, _*_, _-_, _≤_, _<_}
+use Prim.Native.Nat.{ℕ, suc, _+_, _*_, _-_, _≤_, _<_}
 use native.Mathlib.Omega.{arith}
 use native.Mathlib.Numerals.{add-one}
 use lib.IntN.{ℤ, pos, natAbs}
-use lib.ListN.{length, getD, set, take, drop, replicate, length-append, length-replicate, length-set, take-append-drop}
+use lib.ListN.{length, getD, set, take, drop, replicate, length-append, length-replicate, take-append-drop}
 use lib.Seq.{getD-take, take-at, drop-at, set-append-left, length-front, length-take-le}
 use Rattle.integers.proofs.Filling.{replicate-parts}
 use Rattle.files.specs.Book.{boats, columns, rows}
 use Rattle.files.specs.Sheet.{sheet, files-refusal}
 use Rattle.frank_wolfe.specs.Vectors.{add, scale}
-use Rattle.method.specs.Iterates as M
 use Rattle.method.specs.Iterates.{iterate, start, residual, direction, argmin, row, weight}
 use Rattle.method.proofs.Weights.{weight-most, weight-suc}
 use Rattle.method.proofs.Argmin.{among-row, score-at, length-scores}

@@ -1,17 +1,17 @@
 -- A run, state by state: it goes on until a step stops it, and then its answer and iterate are those of the definitions. Assumes nothing.
 use mathlib.Core.Path.{_≡_, refl, sym, ap, _∙_, subst}
-use mathlib.Core.Bool.{Bool, true, false, not}
+use mathlib.Core.Bool.{Bool, true, false}
 use mathlib.Core.List.{List}
-use Prim.Native.Nat.{ℕ, zero, suc, _+_, _≤_, _<_}
+use Prim.Native.Nat.{ℕ, suc, _+_, _≤_, _<_}
 use native.Mathlib.Omega.{arith}
 use native.Mathlib.Numerals.{add-one}
 use borrow.Author.Tests.{ltb-true, ltb-false}
 use lib.Dec.{ltb}
 use lib.ListN.{take, drop}
 use Rattle.files.specs.Bytes.{values}
-use Rattle.files.specs.Book.{boats, columns, rows}
+use Rattle.files.specs.Book.{columns, rows}
 use Rattle.files.specs.Sheet.{sheet, files-refusal}
-use Rattle.method.specs.Iterates.{iterate, start, step, direction, weight}
+use Rattle.method.specs.Iterates.{iterate, weight}
 use Rattle.method.specs.Answers.{answer-at, stops, run-answer, run-iterate}
 use Rattle.method.specs.declared.Answer.{Answer}
 use Rattle.method.specs.declared.Verdict.{Verdict}

@@ -81,7 +81,7 @@ pub fn run_from(
         state = state.next(book, sheet, layout, pick);
         let answer = state.answer(sheet, layout);
         let verdict = answer.verdict;
-        if method::stops(steps, state.steps, verdict) {
+        if verdicts::stops(steps, state.steps, verdict) {
             return answer;
         }
     }

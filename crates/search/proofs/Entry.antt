@@ -1,11 +1,10 @@
 -- The outcomes of `search`, refused by the files, refused by a short share list, or answered, are those of the definitions. Assumes nothing.
-use mathlib.Core.Path.{_≡_, refl, sym, ap, _∙_}
-use mathlib.Core.Bool.{Bool, true, false, cond}
+use mathlib.Core.Path.{_≡_, refl, ap, _∙_}
+use mathlib.Core.Bool.{true, false}
 use mathlib.Core.List.{List, _++_}
 use Prim.Native.Nat.{ℕ, zero, suc, _≤_, _<_}
-use native.Mathlib.Omega.{arith}
 use borrow.Author.Tests.{lt-ltb, le-ltb}
-use lib.Dec.{eqb, ltb, eqb·suc-zero}
+use lib.Dec.{ltb, eqb·suc-zero}
 use lib.ListN.{length, drop}
 use Rattle.files.specs.Book.{boats}
 use Rattle.files.specs.Sheet.{files-refusal}

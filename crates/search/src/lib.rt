@@ -40,7 +40,7 @@ pub fn run(book: &[u8], sheet: &[u8], shares: &mut [u16]) -> Answer
     let boat = pick.boat;
     let answer = iteration::first_answer(boat, book, sheet, layout);
     let verdict = answer.verdict;
-    if method::stops(files::steps(sheet), 1, verdict) {
+    if verdicts::stops(files::steps(sheet), 1, verdict) {
         runs::add_shares(shares, boat, 1);
         return answer;
     }

@@ -1,7 +1,7 @@
 -- A residual moved by k (v - u), entry by entry. Assumes nothing.
 use mathlib.Core.Path.{_≡_, refl, sym, ap, _∙_}
-use mathlib.Core.List.{List, [], _∷_, _++_, append-assoc, append-nil}
-use Prim.Native.Nat.{ℕ, zero, suc, _+_, _*_, _-_, _≤_, _<_}
+use mathlib.Core.List.{List, [], _∷_, _++_, append-assoc}
+use Prim.Native.Nat.{ℕ, suc, _+_, _*_, _-_, _≤_, _<_}
 use native.Mathlib.Nat.{le-refl}
 use native.Mathlib.Omega.{arith}
 use native.Mathlib.Numerals.{add-one}
@@ -13,10 +13,9 @@ use mir.Val.{SFits, toZ, ofZ}
 use mir.Facts.{toZ-ofZ, toZ-pos}
 use Rattle.integers.proofs.Bounds.{fits, read, abs-add, abs-sub, abs-mul-le}
 use Rattle.files.specs.Bytes.{values, value, number}
-use Rattle.files.proofs.Values.{value-bound, value-fits}
 use Rattle.files.proofs.Rows.{values-suc, value-of-values}
 use Rattle.frank_wolfe.specs.Vectors.{add, subtract, scale}
-use Rattle.sums.specs.Operands.{Bounded, Span, Movable}
+use Rattle.sums.specs.Operands.{Movable}
 
 -- ys is r with its first j entries moved; bs at `at` and ss at `from` hold v and u
 pub record Moving (bs : List ℕ) (at : ℕ) (ss : List ℕ) (from c k : ℕ) (r : List ℤ) (j : ℕ) (ys : List ℤ) : Type 0 where

@@ -1,7 +1,6 @@
 // Text under construction, given back by value with its length: bytes, decimal figures, and lines of a word and numbers.
 //
 // Helpers for other crates, whose callers prove that there is room: Text::empty, with_bytes, with_number, with_line, with_pair.
-ghost use mathlib.Core.Path.{_≡_};
 ghost use mathlib.Core.List.{[]};
 ghost use Prim.Native.Nat.{_+_, _≤_};
 ghost use lib.ListN.{length};

@@ -3,17 +3,17 @@ use mathlib.Core.Path.{refl, sym, _∙_}
 use denote.Ref.{now}
 use Rattle.iteration.proofs.States.{sheet-fits}
 use Rattle.card_input.proofs.Reading.{bytes-of}
-use Rattle.card.proofs.Judging.{formed}
+use Rattle.card_truth.proofs.Judging.{formed}
 use Rattle.card.proofs.Checking.{layout-boats, pairs-room, pairs-asked, found-are, refused-by-files, refused-short, refused-by-form, form-zero, refused-by-truth, answered}
 use borrow.Author.Needs.{needs}
 use Rattle.card.proofs.check_card.Statement.{statement}
 use Rattle.card.proofs.check_card.Tie as tie
 use Rattle.card.proofs.check_card.Reads as reads
 use Rattle.card.proofs.check_card.Lts as lts
-use Rattle.card.proofs.judged.Reads as judged-reads
+use Rattle.card_truth.proofs.judged.Reads as judged-reads
 use Rattle.card_input.proofs.form_refusal.Reads as form-refusal-reads
 use Rattle.card_input.proofs.pair_count.Reads as pair-count-reads
-use Rattle.card_input.proofs.shares_of.Reads as shares-of-reads
+use Rattle.card_pairs.proofs.shares_of.Reads as shares-of-reads
 use Rattle.validation.proofs.files_refusal.Reads as files-refusal-reads
 use Rattle.files.proofs.steps.Reads as steps-reads
 use Rattle.card.proofs.fill.Reads as fill-reads

@@ -7,13 +7,16 @@ use Rattle.card_output.proofs.put_trailer.Reads as reads
 use Rattle.card_output.proofs.put_trailer.Lts as lts
 use Rattle.card_output.proofs.put_head.Reads as put-head-reads
 use Rattle.card_output.proofs.put_rest.Reads as put-rest-reads
-use Rattle.card_output.proofs.verdict_number.Reads as verdict-number-reads
+use Rattle.verdicts.proofs.verdict_number.Reads as verdict-number-reads
 
 verdict-number-requires : tie.Need-verdict-number-requires
 verdict-number-requires c κs = search needs
 
 cast-put-head : tie.Need-cast-put-head
 cast-put-head c = search needs
+
+cast-put-head-2 : tie.Need-cast-put-head-2
+cast-put-head-2 c = search needs
 
 put-head-requires : tie.Need-put-head-requires
 put-head-requires c κs = search needs
@@ -36,6 +39,7 @@ put-trailer-spec =
     (tie.spec
     verdict-number-requires
     cast-put-head
+    cast-put-head-2
     put-head-requires
     add-put-rest
     put-rest-requires

@@ -1,7 +1,6 @@
 -- `iteration::layout_of` meets its contract.
 use Rattle.iteration.specs.States.{file-layout}
 use Rattle.iteration.proofs.States.{book-fits, sheet-fits}
-use borrow.Author.Needs.{needs}
 use Rattle.iteration.proofs.layout_of.Statement.{statement}
 use Rattle.iteration.proofs.layout_of.Tie as tie
 use Rattle.iteration.proofs.layout_of.Reads as reads

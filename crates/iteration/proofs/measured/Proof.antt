@@ -8,7 +8,7 @@ use Rattle.iteration.proofs.measured.Tie as tie
 use Rattle.iteration.proofs.measured.Reads as reads
 use Rattle.iteration.proofs.measured.Lts as lts
 use Rattle.files.proofs.tolerance.Reads as tolerance-reads
-use Rattle.method.proofs.judge.Reads as judge-reads
+use Rattle.verdicts.proofs.judge.Reads as judge-reads
 use Rattle.sums.proofs.gap_of.Reads as gap-of-reads
 use Rattle.sums.proofs.inner_at.Reads as inner-at-reads
 use Rattle.sums.proofs.squared_norm.Reads as squared-norm-reads

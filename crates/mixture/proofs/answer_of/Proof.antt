@@ -1,6 +1,6 @@
 -- `mixture::answer_of` meets its contract.
-use native.Mathlib.Omega.{arith}
-use Rattle.mixture.proofs.Answering.{product-fits, all-rows, few-shares, entries, measurable, answered}
+use mathlib.Core.Path.{_∙_}
+use Rattle.mixture.proofs.Answering.{all-rows, few-shares, entries, measurable, answered}
 use borrow.Author.Needs.{needs}
 use Rattle.mixture.proofs.answer_of.Statement.{statement}
 use Rattle.mixture.proofs.answer_of.Tie as tie
@@ -9,6 +9,7 @@ use Rattle.mixture.proofs.answer_of.Lts as lts
 use Rattle.mixture.proofs.residual_of.Reads as residual-of-reads
 use Rattle.iteration.proofs.measured.Reads as measured-reads
 use Rattle.scoring.proofs.least_score.Reads as least-score-reads
+use Rattle.totals.proofs.total_after.Reads as total-after-reads
 
 residual-of-requires : tie.Need-residual-of-requires
 residual-of-requires c κs = (c .before .before .pre .0, (c .before .before .pre .1 .0, few-shares _ _ (c .before .before .pre .0) (c .before .before .pre .1 .0) (c .before .before .args .shares) (c .before .before .pre .1 .1 .0 .0) (c .before .before .pre .1 .1 .0 .1) (c .before .before .pre .1 .1 .1)))
@@ -21,24 +22,23 @@ least-score-requires c κs =
     let p = c .before .before .before .before .pre in
     (all-rows _ _ (p .0) (p .1 .0), entries _ _ (p .0) (p .1 .0) (c .before .before .before .before .args .shares) (p .1 .1 .0 .0) (p .1 .1 .0 .1) (p .1 .1 .1) (search needs) (c .before .residual-of .result) (search needs) (c .before .residual-of .ensures))
 
-add-measured : tie.Need-add-measured
-add-measured c = search needs
-
-mul-measured : tie.Need-mul-measured
-mul-measured c = product-fits _ (omega (arith, c .before .before .before .before .before .pre .1 .1 .0 .1))
+total-after-requires : tie.Need-total-after-requires
+total-after-requires c κs = c .before .before .before .before .before .pre .1 .1 .0 .1
 
 slice-aggregate-measured : tie.Need-slice-aggregate-measured
 slice-aggregate-measured c = search needs
 
 measured-requires : tie.Need-measured-requires
 measured-requires c κs =
-    let p = c .before .before .before .before .before .before .before .pre in
-    measurable _ _ (p .0) (p .1 .0) (c .before .before .before .before .before .before .before .args .shares) (p .1 .1 .0 .0) (p .1 .1 .0 .1) (p .1 .1 .1) (search needs) (c .before .before .before .before .residual-of .result) (search needs) (c .before .before .before .before .residual-of .ensures) (c .before .before .least-score .ensures)
+    let p = c .before .before .before .before .before .before .before .before .pre in
+    rw (c .before .before .total-after .ensures)
+    (measurable _ _ (p .0) (p .1 .0) (c .before .before .before .before .before .before .before .before .args .shares) (p .1 .1 .0 .0) (p .1 .1 .0 .1) (p .1 .1 .1) (search needs) (c .before .before .before .before .before .residual-of .result) (search needs) (c .before .before .before .before .before .residual-of .ensures) (c .before .before .before .least-score .ensures))
 
 returns : tie.Need-returns
 returns c =
-    let p = c .before .before .before .before .before .before .before .before .pre in
-    answered _ _ (p .0) (p .1 .0) (c .before .before .before .before .before .before .before .before .args .shares) (p .1 .1 .0 .0) (p .1 .1 .0 .1) (p .1 .1 .1) (search needs) (c .before .before .before .before .before .residual-of .result) (search needs) (c .before .before .before .before .before .residual-of .ensures) (c .before .before .before .least-score .ensures) (c .measured .ensures)
+    let p = c .before .before .before .before .before .before .before .before .before .pre in
+    answered _ _ (p .0) (p .1 .0) (c .before .before .before .before .before .before .before .before .before .args .shares) (p .1 .1 .0 .0) (p .1 .1 .0 .1) (p .1 .1 .1) (search (needs, c .before .before .before .before .before .before .before .before .before .good)) (c .before .before .before .before .before .before .residual-of .result) (search needs) (c .before .before .before .before .before .before .residual-of .ensures) (c .before .before .before .before .least-score .ensures)
+    (c .measured .ensures ∙ rw (c .before .before .before .total-after .ensures))
 
 pub answer-of-spec : {M : Type 1} → statement M
 answer-of-spec =
@@ -47,8 +47,7 @@ answer-of-spec =
     residual-of-requires
     slice-aggregate-least-score
     least-score-requires
-    add-measured
-    mul-measured
+    total-after-requires
     slice-aggregate-measured
     measured-requires
     returns)

@@ -9,7 +9,7 @@ use Rattle.mixture.proofs.residual_of.Statement.{statement}
 use Rattle.mixture.proofs.residual_of.Tie as tie
 use Rattle.mixture.proofs.residual_of.Reads as reads
 use Rattle.mixture.proofs.residual_of.Lts as lts
-use Rattle.card_input.proofs.wide.Reads as wide-reads
+use Rattle.card_pairs.proofs.wide.Reads as wide-reads
 use Rattle.sums.proofs.moved.Reads as moved-reads
 
 abbrev Inv-loop : tie.InvT-loop

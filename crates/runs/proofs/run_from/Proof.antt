@@ -14,7 +14,7 @@ use Rattle.runs.proofs.run_from.Lts as lts
 use Rattle.files.proofs.steps.Reads as steps-reads
 use Rattle.iteration.proofs.State.answer.Reads as answer-reads
 use Rattle.iteration.proofs.State.next.Reads as next-reads
-use Rattle.method.proofs.stops.Reads as stops-reads
+use Rattle.verdicts.proofs.stops.Reads as stops-reads
 use Rattle.scoring.proofs.rescored.Reads as rescored-reads
 use Rattle.runs.proofs.add_shares.Reads as add-shares-reads
 use Rattle.runs.proofs.remember.Reads as remember-reads

@@ -1,8 +1,7 @@
 -- `scoring::products` meets its contract; `Inv-loop` is what its loop keeps.
 use borrow.Author.Needs.{needs, sfits-of}
 use Prim.Native.Nat.{_-_}
-use lib.ListN.{take, length}
-use mathlib.Core.Path.{_≡_, refl}
+use lib.ListN.{take}
 use native.Mathlib.Omega.{arith}
 use mir.Facts.{toZ-ofZ}
 use Rattle.scoring.proofs.Passes.{Stored, row-span, row-range, stored-start, stored-more, stored-end, stored-long}

@@ -1,6 +1,5 @@
 -- `scoring::rescored` meets its contract; `Inv-loop` is what its loop keeps.
 use mathlib.Core.Logic.{⊎-elim}
-use mathlib.Core.Path.{refl}
 use mir.Syntax.{w64}
 use mir.Facts.{toZ-ofZ}
 use borrow.Author.Needs.{needs, sfits-of}

@@ -14,7 +14,7 @@ use Rattle.iteration.proofs.State.fresh.Reads as fresh-reads
 use Rattle.iteration.proofs.first_answer.Reads as first-answer-reads
 use Rattle.iteration.proofs.layout_of.Reads as layout-of-reads
 use Rattle.iteration.proofs.least_product_of.Reads as least-product-of-reads
-use Rattle.method.proofs.stops.Reads as stops-reads
+use Rattle.verdicts.proofs.stops.Reads as stops-reads
 use Rattle.runs.proofs.add_shares.Reads as add-shares-reads
 use Rattle.search.proofs.clear.Reads as clear-reads
 use Rattle.runs.proofs.run_from.Reads as run-from-reads

@@ -1,6 +1,5 @@
 -- `sums::gap_of` meets its contract.
 use Rattle.sums.proofs.Gaps.{spread-fits, product-fits, gap-fits, gap-cast, gap-result}
-use native.Mathlib.Omega.{arith}
 use borrow.Author.Needs.{needs}
 use Rattle.sums.proofs.gap_of.Statement.{statement}
 use Rattle.sums.proofs.gap_of.Tie as tie

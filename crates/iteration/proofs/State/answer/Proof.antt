@@ -7,7 +7,7 @@ use Rattle.iteration.proofs.State.answer.Tie as tie
 use Rattle.iteration.proofs.State.answer.Reads as reads
 use Rattle.iteration.proofs.State.answer.Lts as lts
 use Rattle.iteration.proofs.measured.Reads as measured-reads
-use Rattle.iteration.proofs.totals.total_after.Reads as total-after-reads
+use Rattle.totals.proofs.total_after.Reads as total-after-reads
 
 total-after-requires : tie.Need-total-after-requires
 total-after-requires c κs = search needs
