@@ -38,25 +38,68 @@ form-refusal-requires : tie.Need-form-refusal-requires
 form-refusal-requires c κs = layout-boats _ _ (sym (c .before .before .before .before .files-refusal .ensures) ∙ c .before .before .before .if1 .left) (c .before .before .layout-of .ensures)
 
 returns-3 : tie.Need-returns-3
-returns-3 c = refused-by-form _ _ _ _ (sym (c .before .before .before .before .before .before .files-refusal .ensures) ∙ c .before .before .before .before .before .if1 .left) (c .before .before .before .before .layout-of .ensures) (c .before .before .before .if2 .left) refl (c .before .before .steps .ensures) (c .before .form-refusal .ensures) (c .if3 .taken)
+returns-3 c =
+    let at-layout-of = c .before .before .before .before in
+    let at-if1 = at-layout-of .before in
+    let at-files-refusal = at-if1 .before in
+    let accepted = sym (at-files-refusal .files-refusal .ensures) ∙ at-if1 .if1 .left in
+    refused-by-form _ _ _ _ accepted (at-layout-of .layout-of .ensures) (c .before .before .before .if2 .left) refl (c .before .before .steps .ensures) (c .before .form-refusal .ensures) (c .if3 .taken)
 
 pair-count-requires : tie.Need-pair-count-requires
-pair-count-requires c κs = formed _ _ _ _ (form-zero _ _ _ (now (c .before .before .before .before .before .before .before .before .before .before .before .args .shares)) (sym (c .before .before .before .before .before .before .files-refusal .ensures) ∙ c .before .before .before .before .before .if1 .left) (c .before .before .before .before .layout-of .ensures) (c .before .before .before .if2 .left) refl (c .before .before .steps .ensures) (c .before .form-refusal .ensures) (c .if3 .left)) .long
+pair-count-requires c κs =
+    let at-layout-of = c .before .before .before .before in
+    let at-if1 = at-layout-of .before in
+    let at-files-refusal = at-if1 .before in
+    let accepted = sym (at-files-refusal .files-refusal .ensures) ∙ at-if1 .if1 .left in
+    let start = at-files-refusal .before .before .before .before .before in
+    formed _ _ _ _ (form-zero _ _ _ (now (start .args .shares)) accepted (at-layout-of .layout-of .ensures) (c .before .before .before .if2 .left) refl (c .before .before .steps .ensures) (c .before .form-refusal .ensures) (c .if3 .left)) .long
 
 sub-shares-of : tie.Need-sub-shares-of
-sub-shares-of c = formed _ _ _ _ (form-zero _ _ _ (now (c .before .before .before .before .before .before .before .before .before .before .before .before .args .shares)) (sym (c .before .before .before .before .before .before .before .files-refusal .ensures) ∙ c .before .before .before .before .before .before .if1 .left) (c .before .before .before .before .before .layout-of .ensures) (c .before .before .before .before .if2 .left) refl (c .before .before .before .steps .ensures) (c .before .before .form-refusal .ensures) (c .before .if3 .left)) .long
+sub-shares-of c =
+    let at-if2 = c .before .before .before .before in
+    let at-layout-of = at-if2 .before in
+    let at-if1 = at-layout-of .before in
+    let at-files-refusal = at-if1 .before in
+    let accepted = sym (at-files-refusal .files-refusal .ensures) ∙ at-if1 .if1 .left in
+    let start = at-files-refusal .before .before .before .before .before in
+    formed _ _ _ _ (form-zero _ _ _ (now (start .args .shares)) accepted (at-layout-of .layout-of .ensures) (at-if2 .if2 .left) refl (c .before .before .before .steps .ensures) (c .before .before .form-refusal .ensures) (c .before .if3 .left)) .long
 
 mul-shares-of : tie.Need-mul-shares-of
 mul-shares-of c = search needs
 
 sub-shares-of-2 : tie.Need-sub-shares-of-2
-sub-shares-of-2 c = pairs-room _ _ _ (sym (c .before .before .before .before .before .before .before .files-refusal .ensures) ∙ c .before .before .before .before .before .before .if1 .left) (form-zero _ _ _ (now (c .before .before .before .before .before .before .before .before .before .before .before .before .args .shares)) (sym (c .before .before .before .before .before .before .before .files-refusal .ensures) ∙ c .before .before .before .before .before .before .if1 .left) (c .before .before .before .before .before .layout-of .ensures) (c .before .before .before .before .if2 .left) refl (c .before .before .before .steps .ensures) (c .before .before .form-refusal .ensures) (c .before .if3 .left)) (c .pair-count .ensures .0)
+sub-shares-of-2 c =
+    let at-if2 = c .before .before .before .before in
+    let at-layout-of = at-if2 .before in
+    let at-if1 = at-layout-of .before in
+    let at-files-refusal = at-if1 .before in
+    let accepted = sym (at-files-refusal .files-refusal .ensures) ∙ at-if1 .if1 .left in
+    let start = at-files-refusal .before .before .before .before .before in
+    pairs-room _ _ _ accepted (form-zero _ _ _ (now (start .args .shares)) accepted (at-layout-of .layout-of .ensures) (at-if2 .if2 .left) refl (c .before .before .before .steps .ensures) (c .before .before .form-refusal .ensures) (c .before .if3 .left)) (c .pair-count .ensures .0)
 
 shares-of-requires : tie.Need-shares-of-requires
-shares-of-requires c κs = pairs-asked _ _ _ (sym (c .before .before .before .before .before .before .before .files-refusal .ensures) ∙ c .before .before .before .before .before .before .if1 .left) (form-zero _ _ _ (now (c .before .before .before .before .before .before .before .before .before .before .before .before .args .shares)) (sym (c .before .before .before .before .before .before .before .files-refusal .ensures) ∙ c .before .before .before .before .before .before .if1 .left) (c .before .before .before .before .before .layout-of .ensures) (c .before .before .before .before .if2 .left) refl (c .before .before .before .steps .ensures) (c .before .before .form-refusal .ensures) (c .before .if3 .left)) (c .pair-count .ensures .0)
+shares-of-requires c κs =
+    let at-if2 = c .before .before .before .before in
+    let at-layout-of = at-if2 .before in
+    let at-if1 = at-layout-of .before in
+    let at-files-refusal = at-if1 .before in
+    let accepted = sym (at-files-refusal .files-refusal .ensures) ∙ at-if1 .if1 .left in
+    let start = at-files-refusal .before .before .before .before .before in
+    pairs-asked _ _ _ accepted (form-zero _ _ _ (now (start .args .shares)) accepted (at-layout-of .layout-of .ensures) (at-if2 .if2 .left) refl (c .before .before .before .steps .ensures) (c .before .before .form-refusal .ensures) (c .before .if3 .left)) (c .pair-count .ensures .0)
 
 judged-requires : tie.Need-judged-requires
-judged-requires c κs = ((sym (c .before .before .before .before .before .before .before .before .files-refusal .ensures) ∙ c .before .before .before .before .before .before .before .if1 .left), (c .before .before .before .before .before .before .layout-of .ensures, ((form-zero _ _ _ (now (c .before .before .before .before .before .before .before .before .before .before .before .before .before .args .shares)) (sym (c .before .before .before .before .before .before .before .before .files-refusal .ensures) ∙ c .before .before .before .before .before .before .before .if1 .left) (c .before .before .before .before .before .before .layout-of .ensures) (c .before .before .before .before .before .if2 .left) refl (c .before .before .before .before .steps .ensures) (c .before .before .before .form-refusal .ensures) (c .before .before .if3 .left)), (found-are _ _ _ (sym (c .before .before .before .before .before .before .before .before .files-refusal .ensures) ∙ c .before .before .before .before .before .before .before .if1 .left) (form-zero _ _ _ (now (c .before .before .before .before .before .before .before .before .before .before .before .before .before .args .shares)) (sym (c .before .before .before .before .before .before .before .before .files-refusal .ensures) ∙ c .before .before .before .before .before .before .before .if1 .left) (c .before .before .before .before .before .before .layout-of .ensures) (c .before .before .before .before .before .if2 .left) refl (c .before .before .before .before .steps .ensures) (c .before .before .before .form-refusal .ensures) (c .before .before .if3 .left)) (c .before .pair-count .ensures .0) (c .shares-of .ensures)))))
+judged-requires c κs =
+    let at-if3 = c .before .before in
+    let at-form-refusal = at-if3 .before in
+    let at-steps = at-form-refusal .before in
+    let at-if2 = at-steps .before in
+    let at-layout-of = at-if2 .before in
+    let at-if1 = at-layout-of .before in
+    let at-files-refusal = at-if1 .before in
+    let accepted = sym (at-files-refusal .files-refusal .ensures) ∙ at-if1 .if1 .left in
+    let start = at-files-refusal .before .before .before .before .before in
+    let well-formed = form-zero _ _ _ (now (start .args .shares)) accepted (at-layout-of .layout-of .ensures) (at-if2 .if2 .left) refl (at-steps .steps .ensures) (at-form-refusal .form-refusal .ensures) (at-if3 .if3 .left) in
+    (accepted, (at-layout-of .layout-of .ensures, (well-formed, (found-are _ _ _ accepted well-formed (c .before .pair-count .ensures .0) (c .shares-of .ensures)))))
 
 enum-known-n : tie.Need-enum-known-n
 enum-known-n c = search needs
@@ -65,16 +108,47 @@ enum-known-answer : tie.Need-enum-known-answer
 enum-known-answer c = search needs
 
 fill-requires : tie.Need-fill-requires
-fill-requires c κs = (layout-boats _ _ (sym (c .before .before .before .before .before .before .before .before .before .before .before .before .before .files-refusal .ensures) ∙ c .before .before .before .before .before .before .before .before .before .before .before .before .if1 .left) (c .before .before .before .before .before .before .before .before .before .before .before .layout-of .ensures), c .before .before .before .before .before .before .before .before .before .before .if2 .left)
+fill-requires c κs =
+    let at-if2 = c .before .before .before .before .before .before .before .before .before .before in
+    let at-layout-of = at-if2 .before in
+    let at-if1 = at-layout-of .before in
+    let at-files-refusal = at-if1 .before in
+    let accepted = sym (at-files-refusal .files-refusal .ensures) ∙ at-if1 .if1 .left in
+    (layout-boats _ _ accepted (at-layout-of .layout-of .ensures), at-if2 .if2 .left)
 
 returns-4 : tie.Need-returns-4
-returns-4 c = refused-by-truth _ _ _ _ (sym (c .before .before .before .before .before .before .before .before .before .before .before .before .files-refusal .ensures) ∙ c .before .before .before .before .before .before .before .before .before .before .before .if1 .left) (c .before .before .before .before .before .before .before .before .before .before .layout-of .ensures) (c .before .before .before .before .before .before .before .before .before .if2 .left) refl (c .before .before .before .before .before .before .before .before .steps .ensures) (c .before .before .before .before .before .before .before .form-refusal .ensures) (c .before .before .before .before .before .before .if3 .left) _ (sym (c .before .n .given .1) ∙ c .before .before .before .judged .ensures)
+returns-4 c =
+    let at-if3 = c .before .before .before .before .before .before in
+    let at-form-refusal = at-if3 .before in
+    let at-steps = at-form-refusal .before in
+    let at-if2 = at-steps .before in
+    let at-layout-of = at-if2 .before in
+    let at-if1 = at-layout-of .before in
+    let at-files-refusal = at-if1 .before in
+    let accepted = sym (at-files-refusal .files-refusal .ensures) ∙ at-if1 .if1 .left in
+    refused-by-truth _ _ _ _ accepted (at-layout-of .layout-of .ensures) (at-if2 .if2 .left) refl (at-steps .steps .ensures) (at-form-refusal .form-refusal .ensures) (at-if3 .if3 .left) _ (sym (c .before .n .given .1) ∙ c .before .before .before .judged .ensures)
 
 same-length : tie.Need-same-length
 same-length c = search needs
 
 returns-5 : tie.Need-returns-5
-returns-5 c = answered _ _ _ _ (sym (c .before .before .before .before .before .before .before .before .before .before .before .before .before .before .before .before .files-refusal .ensures) ∙ c .before .before .before .before .before .before .before .before .before .before .before .before .before .before .before .if1 .left) (c .before .before .before .before .before .before .before .before .before .before .before .before .before .before .layout-of .ensures) (c .before .before .before .before .before .before .before .before .before .before .before .before .before .if2 .left) refl (c .before .before .before .before .before .before .before .before .before .before .before .before .steps .ensures) (c .before .before .before .before .before .before .before .before .before .before .before .form-refusal .ensures) (c .before .before .before .before .before .before .before .before .before .before .if3 .left) (bytes-of _ (c .before .before .before .before .before .before .before .before .before .before .before .before .before .before .before .before .before .before .shared-slice-known3 .given)) _ (found-are _ _ _ (sym (c .before .before .before .before .before .before .before .before .before .before .before .before .before .before .before .before .files-refusal .ensures) ∙ c .before .before .before .before .before .before .before .before .before .before .before .before .before .before .before .if1 .left) (form-zero _ _ _ (now (c .before .before .before .before .before .before .before .before .before .before .before .before .before .before .before .before .before .before .before .before .before .args .shares)) (sym (c .before .before .before .before .before .before .before .before .before .before .before .before .before .before .before .before .files-refusal .ensures) ∙ c .before .before .before .before .before .before .before .before .before .before .before .before .before .before .before .if1 .left) (c .before .before .before .before .before .before .before .before .before .before .before .before .before .before .layout-of .ensures) (c .before .before .before .before .before .before .before .before .before .before .before .before .before .if2 .left) refl (c .before .before .before .before .before .before .before .before .before .before .before .before .steps .ensures) (c .before .before .before .before .before .before .before .before .before .before .before .form-refusal .ensures) (c .before .before .before .before .before .before .before .before .before .before .if3 .left)) (c .before .before .before .before .before .before .before .before .before .pair-count .ensures .0) (c .before .before .before .before .before .before .before .before .shares-of .ensures)) (search needs) (c .before .before .fill .ensures) _ (sym (c .before .before .before .before .before .answer .given .1) ∙ c .before .before .before .before .before .before .before .judged .ensures)
+returns-5 c =
+    let at-answer = c .before .before .before .before .before in
+    let at-judged = at-answer .before .before in
+    let at-shares-of = at-judged .before in
+    let at-pair-count = at-shares-of .before in
+    let at-if3 = at-pair-count .before in
+    let at-form-refusal = at-if3 .before in
+    let at-steps = at-form-refusal .before in
+    let at-if2 = at-steps .before in
+    let at-layout-of = at-if2 .before in
+    let at-if1 = at-layout-of .before in
+    let at-files-refusal = at-if1 .before in
+    let accepted = sym (at-files-refusal .files-refusal .ensures) ∙ at-if1 .if1 .left in
+    let at-shared-slice-known3 = at-files-refusal .before .before in
+    let start = at-shared-slice-known3 .before .before .before in
+    let well-formed = form-zero _ _ _ (now (start .args .shares)) accepted (at-layout-of .layout-of .ensures) (at-if2 .if2 .left) refl (at-steps .steps .ensures) (at-form-refusal .form-refusal .ensures) (at-if3 .if3 .left) in
+    answered _ _ _ _ accepted (at-layout-of .layout-of .ensures) (at-if2 .if2 .left) refl (at-steps .steps .ensures) (at-form-refusal .form-refusal .ensures) (at-if3 .if3 .left) (bytes-of _ (at-shared-slice-known3 .shared-slice-known3 .given)) _ (found-are _ _ _ accepted well-formed (at-pair-count .pair-count .ensures .0) (at-shares-of .shares-of .ensures)) (search (needs, at-shares-of .shares-of .ok)) (c .before .before .fill .ensures) _ (sym (at-answer .answer .given .1) ∙ at-judged .judged .ensures)
 
 pub check-card-spec : {M : Type 1} → statement M
 check-card-spec =

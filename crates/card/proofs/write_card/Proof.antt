@@ -44,18 +44,34 @@ add-if2 : tie.Need-add-if2
 add-if2 c = search needs
 
 returns-2 : tie.Need-returns-2
-returns-2 c = refused-short _ _ _ (sym (c .before .before .before .before .before .before .before .files-refusal .ensures) ∙ c .before .before .before .before .before .before .if1 .left) (c .before .before .before .before .before .boats .ensures) (c .before .before .before .run .ensures .0) _ (c .before .before .before .run .ensures .1) _ (c .before .holding .ensures .0) (c .if2 .taken)
+returns-2 c =
+    let at-run = c .before .before .before in
+    let at-boats = at-run .before .before in
+    let at-if1 = at-boats .before in
+    let at-files-refusal = at-if1 .before in
+    refused-short _ _ _ (sym (at-files-refusal .files-refusal .ensures) ∙ at-if1 .if1 .left) (at-boats .boats .ensures) (at-run .run .ensures .0) _ (at-run .run .ensures .1) _ (c .before .holding .ensures .0) (c .if2 .taken)
 
 put-pairs-requires : tie.Need-put-pairs-requires
 put-pairs-requires c κs =
-    let ok = sym (c .before .before .before .before .before .before .before .before .files-refusal .ensures) ∙ c .before .before .before .before .before .before .before .if1 .left in
-    (rw (c .before .before .before .before .before .before .boats .ensures) (book-fits _ _ ok .most-boats), pairs-fit _ _ (now (c .before .before .before .before .before .before .before .before .before .before .before .before .args .output)) ok (c .before .before .before .before .before .before .boats .ensures) (c .before .before .before .before .run .ensures .0) _ (c .before .before .before .before .run .ensures .1) _ (c .before .before .holding .ensures .0) (c .before .if2 .left))
+    let at-run = c .before .before .before .before in
+    let at-boats = at-run .before .before in
+    let at-if1 = at-boats .before in
+    let at-files-refusal = at-if1 .before in
+    let start = at-files-refusal .before .before .before .before in
+    let ok = sym (at-files-refusal .files-refusal .ensures) ∙ at-if1 .if1 .left in
+    (rw (at-boats .boats .ensures) (book-fits _ _ ok .most-boats), pairs-fit _ _ (now (start .args .output)) ok (at-boats .boats .ensures) (at-run .run .ensures .0) _ (at-run .run .ensures .1) _ (c .before .before .holding .ensures .0) (c .before .if2 .left))
 
 tolerance-requires : tie.Need-tolerance-requires
-tolerance-requires c κs = sheet-fits _ _ (sym (c .before .before .before .before .before .before .before .before .before .before .before .before .files-refusal .ensures) ∙ c .before .before .before .before .before .before .before .before .before .before .before .if1 .left) .at-least
+tolerance-requires c κs =
+    let at-if1 = c .before .before .before .before .before .before .before .before .before .before .before in
+    let at-files-refusal = at-if1 .before in
+    sheet-fits _ _ (sym (at-files-refusal .files-refusal .ensures) ∙ at-if1 .if1 .left) .at-least
 
 columns-requires : tie.Need-columns-requires
-columns-requires c κs = book-fits _ _ (sym (c .before .before .before .before .before .before .before .before .before .before .before .before .before .files-refusal .ensures) ∙ c .before .before .before .before .before .before .before .before .before .before .before .before .if1 .left) .at-least
+columns-requires c κs =
+    let at-if1 = c .before .before .before .before .before .before .before .before .before .before .before .before in
+    let at-files-refusal = at-if1 .before in
+    book-fits _ _ (sym (at-files-refusal .files-refusal .ensures) ∙ at-if1 .if1 .left) .at-least
 
 put-trailer-requires : tie.Need-put-trailer-requires
 put-trailer-requires c κs = search needs
@@ -68,8 +84,16 @@ same-length c = search needs
 
 returns-3 : tie.Need-returns-3
 returns-3 c =
-    let ok = sym (c .before .before .before .before .before .before .before .before .before .before .before .before .before .before .before .before .before .files-refusal .ensures) ∙ c .before .before .before .before .before .before .before .before .before .before .before .before .before .before .before .before .if1 .left in
-    filed _ _ _ ok (c .before .before .before .before .before .before .before .before .before .before .before .before .before .before .before .boats .ensures) (c .before .before .before .before .before .before .before .before .before .before .before .before .before .run .ensures .0) _ (c .before .before .before .before .before .before .before .before .before .before .before .before .before .run .ensures .1) _ (c .before .before .before .before .before .before .before .before .before .before .before .holding .ensures .0) (c .before .before .before .before .before .before .before .before .before .before .if2 .left) _ _ (c .before .before .before .before .before .before .before .before .put-pairs .ensures) _ _ (c .before .before .before .before .tolerance .ensures) (c .before .before .before .columns .ensures .0) (c .before .before .put-trailer .ensures)
+    let at-tolerance = c .before .before .before .before in
+    let at-put-pairs = at-tolerance .before .before .before .before in
+    let at-if2 = at-put-pairs .before .before in
+    let at-holding = at-if2 .before in
+    let at-run = at-holding .before .before in
+    let at-boats = at-run .before .before in
+    let at-if1 = at-boats .before in
+    let at-files-refusal = at-if1 .before in
+    let ok = sym (at-files-refusal .files-refusal .ensures) ∙ at-if1 .if1 .left in
+    filed _ _ _ ok (at-boats .boats .ensures) (at-run .run .ensures .0) _ (at-run .run .ensures .1) _ (at-holding .holding .ensures .0) (at-if2 .if2 .left) _ _ (at-put-pairs .put-pairs .ensures) _ _ (at-tolerance .tolerance .ensures) (c .before .before .before .columns .ensures .0) (c .before .before .put-trailer .ensures)
 
 pub write-card-spec : {M : Type 1} → statement M
 write-card-spec =

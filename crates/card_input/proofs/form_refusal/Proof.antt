@@ -70,10 +70,14 @@ mul-pairs-in-order : tie.Need-mul-pairs-in-order
 mul-pairs-in-order c = search needs
 
 sub-pairs-in-order-2 : tie.Need-sub-pairs-in-order-2
-sub-pairs-in-order-2 c = body-room (c .before .before .before .before .before .before .before .before .before .before .before .before .args .boats) (now (c .before .before .before .before .before .before .before .before .before .before .before .before .args .card)) _ (c .before .before .back-fits .ensures) (c .before .if5 .left) _ (c .pair-count .ensures .0)
+sub-pairs-in-order-2 c =
+    let start = c .before .before .before .before .before .before .before .before .before .before .before .before in
+    body-room (start .args .boats) (now (start .args .card)) _ (c .before .before .back-fits .ensures) (c .before .if5 .left) _ (c .pair-count .ensures .0)
 
 pairs-in-order-requires : tie.Need-pairs-in-order-requires
-pairs-in-order-requires c κs = omega (arith, body-room (c .before .before .before .before .before .before .before .before .before .before .before .before .args .boats) (now (c .before .before .before .before .before .before .before .before .before .before .before .before .args .card)) _ (c .before .before .back-fits .ensures) (c .before .if5 .left) _ (c .pair-count .ensures .0))
+pairs-in-order-requires c κs =
+    let start = c .before .before .before .before .before .before .before .before .before .before .before .before in
+    omega (arith, body-room (start .args .boats) (now (start .args .card)) _ (c .before .before .back-fits .ensures) (c .before .if5 .left) _ (c .pair-count .ensures .0))
 
 returns-6 : tie.Need-returns-6
 returns-6 c =

@@ -18,7 +18,10 @@ add-put : tie.Need-add-put
 add-put c = search needs
 
 put-requires-2 : tie.Need-put-requires-2
-put-requires-2 c κs = omega (arith, pair-long (c .before .before .before .before .before .before .before .args .boat) (c .before .before .before .before .before .before .before .args .share) (c .before .before .before .before .before .if1 .left), c .before .before .before .before .before .before .before .pre, c .before .before .before .put .kept)
+put-requires-2 c κs =
+    let at-if1 = c .before .before .before .before .before in
+    let start = at-if1 .before .before in
+    omega (arith, pair-long (start .args .boat) (start .args .share) (at-if1 .if1 .left), start .pre, c .before .before .before .put .kept)
 
 add-result : tie.Need-add-result
 add-result c = search needs
@@ -27,7 +30,11 @@ same-length : tie.Need-same-length
 same-length c = search needs
 
 returns-2 : tie.Need-returns-2
-returns-2 c = pair-placed _ _ _ _ (c .before .before .before .before .before .before .before .before .if1 .left) (c .before .before .before .before .before .before .before .before .before .before .pre) (c .before .before .before .before .before .before .put .ensures) (c .before .before .put2 .ensures)
+returns-2 c =
+    let at-put = c .before .before .before .before .before .before in
+    let at-if1 = at-put .before .before in
+    let start = at-if1 .before .before in
+    pair-placed _ _ _ _ (at-if1 .if1 .left) (start .pre) (at-put .put .ensures) (c .before .before .put2 .ensures)
 
 pub put-pair-spec : {M : Type 1} → statement M
 put-pair-spec =

@@ -39,8 +39,12 @@ loop-less c = search needs
 
 loop-again : tie.Need-loop-again Inv-loop μ-loop
 loop-again c =
-    let l : length (c .before .before .before .before .before .before .before .args .t2) ≡ 256 = search needs in
-    pairing-more (c .before .before .before .before .before .loop .inv) (omega arith) (c .before .before .before .before .loop-test .taken) (c .before .before .before .before .before .before .before .pre .1) _ _ (c .before .before .put-pair .ensures .0) (c .before .before .put-pair .ensures .1)
+    let at-put-pair = c .before .before in
+    let at-loop-test = at-put-pair .before .before in
+    let at-loop = at-loop-test .before in
+    let start = at-loop .before .before in
+    let l : length (start .args .t2) ≡ 256 = search needs in
+    pairing-more (at-loop .loop .inv) (omega arith) (at-loop-test .loop-test .taken) (start .pre .1) _ _ (at-put-pair .put-pair .ensures .0) (at-put-pair .put-pair .ensures .1)
 
 same-length : tie.Need-same-length Inv-loop μ-loop
 same-length c = search needs

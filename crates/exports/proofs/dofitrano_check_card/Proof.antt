@@ -16,7 +16,9 @@ same-length : tie.Need-same-length
 same-length c = search needs
 
 returns : tie.Need-returns
-returns c = (c .reply-of .ensures ∙ ap reply-of (c .before .before .before .check-card .ensures .0), (c .before .before .before .check-card .ensures .1 .0, checked-right _ _ _ (c .before .before .before .check-card .ensures .0) (c .before .before .before .check-card .ensures .1 .0) (c .before .before .before .check-card .ensures .1 .1)))
+returns c =
+    let at-check-card = c .before .before .before in
+    (c .reply-of .ensures ∙ ap reply-of (at-check-card .check-card .ensures .0), (at-check-card .check-card .ensures .1 .0, checked-right _ _ _ (at-check-card .check-card .ensures .0) (at-check-card .check-card .ensures .1 .0) (at-check-card .check-card .ensures .1 .1)))
 
 pub dofitrano-check-card-spec : {M : Type 1} → statement M
 dofitrano-check-card-spec =

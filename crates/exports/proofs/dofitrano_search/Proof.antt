@@ -16,7 +16,9 @@ same-length : tie.Need-same-length
 same-length c = search needs
 
 returns : tie.Need-returns
-returns c = (c .reply-of .ensures ∙ ap reply-of (c .before .before .before .search .ensures .0), (c .before .before .before .search .ensures .1 .0, searched-right _ _ (c .before .before .before .search .ensures .0) (c .before .before .before .search .ensures .1 .0) (c .before .before .before .search .ensures .1 .1)))
+returns c =
+    let at-search = c .before .before .before in
+    (c .reply-of .ensures ∙ ap reply-of (at-search .search .ensures .0), (at-search .search .ensures .1 .0, searched-right _ _ (at-search .search .ensures .0) (at-search .search .ensures .1 .0) (at-search .search .ensures .1 .1)))
 
 pub dofitrano-search-spec : {M : Type 1} → statement M
 dofitrano-search-spec = tie.close (tie.spec search-requires reply-of-requires same-length returns)

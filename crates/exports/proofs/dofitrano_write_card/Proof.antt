@@ -16,7 +16,9 @@ same-length : tie.Need-same-length
 same-length c = search needs
 
 returns : tie.Need-returns
-returns c = (c .card-reply-of .ensures ∙ ap card-reply-of (c .before .before .before .write-card .ensures .0), (c .before .before .before .write-card .ensures .1 .0, filed-right _ _ (c .before .before .before .write-card .ensures .0) (c .before .before .before .write-card .ensures .1 .0) (c .before .before .before .write-card .ensures .1 .1)))
+returns c =
+    let at-write-card = c .before .before .before in
+    (c .card-reply-of .ensures ∙ ap card-reply-of (at-write-card .write-card .ensures .0), (at-write-card .write-card .ensures .1 .0, filed-right _ _ (at-write-card .write-card .ensures .0) (at-write-card .write-card .ensures .1 .0) (at-write-card .write-card .ensures .1 .1)))
 
 pub dofitrano-write-card-spec : {M : Type 1} → statement M
 dofitrano-write-card-spec =

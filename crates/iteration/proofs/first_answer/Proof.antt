@@ -30,10 +30,15 @@ slice-aggregate-measured : tie.Need-slice-aggregate-measured
 slice-aggregate-measured c = search needs
 
 measured-requires : tie.Need-measured-requires
-measured-requires c κs = first-measurable _ _ (c .before .before .before .before .before .before .pre .0) (c .before .before .before .before .before .before .pre .1 .1) (c .before .before .before .before .before .before .pre .1 .0) (c .before .before .moved .ensures) (c .before .before .before .least-product-of .ensures) (toZ-ofZ (search (needs, c .struct-told .given)))
+measured-requires c κs =
+    let start = c .before .before .before .before .before .before in
+    first-measurable _ _ (start .pre .0) (start .pre .1 .1) (start .pre .1 .0) (c .before .before .moved .ensures) (c .before .before .before .least-product-of .ensures) (toZ-ofZ (search (needs, c .struct-told .given)))
 
 returns : tie.Need-returns
-returns c = first-right _ _ (c .before .before .before .before .before .before .before .pre .0) (c .before .before .before .before .before .before .before .pre .1 .1) (c .before .before .before .before .before .before .before .pre .1 .0) (c .before .before .before .moved .ensures) (c .before .before .before .before .least-product-of .ensures) (toZ-ofZ (search (needs, c .before .struct-told .given))) (c .measured .ensures)
+returns c =
+    let at-least-product-of = c .before .before .before .before in
+    let start = at-least-product-of .before .before .before in
+    first-right _ _ (start .pre .0) (start .pre .1 .1) (start .pre .1 .0) (c .before .before .before .moved .ensures) (at-least-product-of .least-product-of .ensures) (toZ-ofZ (search (needs, c .before .struct-told .given))) (c .measured .ensures)
 
 pub first-answer-spec : {M : Type 1} → statement M
 first-answer-spec =

@@ -18,7 +18,9 @@ least-product-requires : tie.Need-least-product-requires
 least-product-requires c κs = products-asks _ _ (c .before .before .before .before .pre .0) (c .before .before .before .before .pre .1 .0) (c .before .before .before .before .pre .1 .1) (c .before .difference-of .ensures) (search needs)
 
 returns : tie.Need-returns
-returns c = least-right _ _ (c .before .before .before .before .before .pre .0) (c .before .before .before .before .before .pre .1 .0) (c .before .before .before .before .before .pre .1 .1) (c .before .before .difference-of .ensures) (c .least-product .ensures)
+returns c =
+    let start = c .before .before .before .before .before in
+    least-right _ _ (start .pre .0) (start .pre .1 .0) (start .pre .1 .1) (c .before .before .difference-of .ensures) (c .least-product .ensures)
 
 pub least-product-of-spec : {M : Type 1} → statement M
 least-product-of-spec =

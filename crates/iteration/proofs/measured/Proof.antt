@@ -26,10 +26,17 @@ tolerance-requires : tie.Need-tolerance-requires
 tolerance-requires c κs = search needs
 
 judge-requires : tie.Need-judge-requires
-judge-requires c κs = judgeable (c .before .before .before .before .before .pre) (c .before .before .before .squared-norm .ensures) (c .before .before .inner-at .ensures) (toZ-ofZ (sfits-of (c .before .before .inner-at .ok))) refl (c .before .gap-of .ensures) (c .tolerance .ensures)
+judge-requires c κs =
+    let at-inner-at = c .before .before in
+    let start = at-inner-at .before .before .before in
+    judgeable (start .pre) (at-inner-at .before .squared-norm .ensures) (at-inner-at .inner-at .ensures) (toZ-ofZ (sfits-of (at-inner-at .inner-at .ok))) refl (c .before .gap-of .ensures) (c .tolerance .ensures)
 
 returns : tie.Need-returns
-returns c = answer-is (c .before .before .before .before .before .before .pre) (c .before .before .before .before .squared-norm .ensures) (c .before .before .before .inner-at .ensures) (toZ-ofZ (sfits-of (c .before .before .before .inner-at .ok))) refl (c .before .before .gap-of .ensures) (c .before .tolerance .ensures) (c .before .before .before .before .before .before .args .steps) (c .judge .ensures)
+returns c =
+    let at-inner-at = c .before .before .before in
+    let at-squared-norm = at-inner-at .before in
+    let start = at-squared-norm .before .before in
+    answer-is (start .pre) (at-squared-norm .squared-norm .ensures) (at-inner-at .inner-at .ensures) (toZ-ofZ (sfits-of (at-inner-at .inner-at .ok))) refl (c .before .before .gap-of .ensures) (c .before .tolerance .ensures) (start .args .steps) (c .judge .ensures)
 
 pub measured-spec : {M : Type 1} → statement M
 measured-spec =

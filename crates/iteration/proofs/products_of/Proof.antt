@@ -16,14 +16,18 @@ slice-aggregate-products c = search needs
 
 products-requires : tie.Need-products-requires
 products-requires c κs =
-    let p = products-asks _ _ (c .before .before .before .before .before .pre .0) (c .before .before .before .before .before .pre .1 .0) (c .before .before .before .before .before .pre .1 .1 .0) (c .before .before .difference-of .ensures) (search needs) in
-    (p .0, (p .1 .0, (p .1 .1, slots-enough _ _ (c .before .before .before .before .before .pre .0) (c .before .before .before .before .before .pre .1 .0) (c .before .before .before .before .before .pre .1 .1 .1))))
+    let start = c .before .before .before .before .before in
+    let p = products-asks _ _ (start .pre .0) (start .pre .1 .0) (start .pre .1 .1 .0) (c .before .before .difference-of .ensures) (search needs) in
+    (p .0, (p .1 .0, (p .1 .1, slots-enough _ _ (start .pre .0) (start .pre .1 .0) (start .pre .1 .1 .1))))
 
 same-length : tie.Need-same-length
 same-length c = search needs
 
 returns : tie.Need-returns
-returns c = slots-right _ _ (c .before .before .before .before .before .before .before .pre .0) (c .before .before .before .before .before .before .before .pre .1 .0) (c .before .before .before .before .before .before .before .pre .1 .1 .0) (c .before .before .before .before .difference-of .ensures) _ (c .before .products .ensures)
+returns c =
+    let at-difference-of = c .before .before .before .before in
+    let start = at-difference-of .before .before .before in
+    slots-right _ _ (start .pre .0) (start .pre .1 .0) (start .pre .1 .1 .0) (at-difference-of .difference-of .ensures) _ (c .before .products .ensures)
 
 pub products-of-spec : {M : Type 1} → statement M
 products-of-spec =

@@ -9,15 +9,21 @@ use Rattle.listing.proofs.with_verdict.Tie as tie
 
 returns : tie.Need-returns
 unfolding verdict-word
-returns c = verdict-added (c .before .before .before .before .args .v) (c .before .before .before .before .args .steps) (c .before .before .before .before .args .weight) (ap verdict-word (c .before .before .enum-told .given .1)) (omega arith) (c .with-pair .ensures)
+returns c =
+    let start = c .before .before .before .before in
+    verdict-added (start .args .v) (start .args .steps) (start .args .weight) (ap verdict-word (c .before .before .enum-told .given .1)) (omega arith) (c .with-pair .ensures)
 
 returns-2 : tie.Need-returns-2
 unfolding verdict-word
-returns-2 c = verdict-added (c .before .before .before .before .args .v) (c .before .before .before .before .args .steps) (c .before .before .before .before .args .weight) (ap verdict-word (c .before .before .enum-told2 .given .1)) (omega arith) (c .with-pair2 .ensures)
+returns-2 c =
+    let start = c .before .before .before .before in
+    verdict-added (start .args .v) (start .args .steps) (start .args .weight) (ap verdict-word (c .before .before .enum-told2 .given .1)) (omega arith) (c .with-pair2 .ensures)
 
 returns-3 : tie.Need-returns-3
 unfolding verdict-word
-returns-3 c = verdict-added (c .before .before .before .before .args .v) (c .before .before .before .before .args .steps) (c .before .before .before .before .args .weight) (ap verdict-word (c .before .before .enum-told3 .given .1)) (omega arith) (c .with-pair3 .ensures)
+returns-3 c =
+    let start = c .before .before .before .before in
+    verdict-added (start .args .v) (start .args .steps) (start .args .weight) (ap verdict-word (c .before .before .enum-told3 .given .1)) (omega arith) (c .with-pair3 .ensures)
 
 pub with-verdict-spec : {M : Type 1} → statement M
 with-verdict-spec =

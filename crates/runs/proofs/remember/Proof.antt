@@ -20,22 +20,32 @@ slice-read-if1 : tie.Need-slice-read-if1
 slice-read-if1 c = search needs
 
 mul-at : tie.Need-mul-at
-mul-at c = slot-fits _ _ (c .before .before .before .before .before .before .pre .0) (c .before .before .before .before .before .before .pre .1 .1 .1) (c .before .before .before .before .before .before .pre .1 .1 .0) (c .before .before .before .before .before .before .pre .1 .0)
+mul-at c =
+    let start = c .before .before .before .before .before .before in
+    slot-fits _ _ (start .pre .0) (start .pre .1 .1 .1) (start .pre .1 .1 .0) (start .pre .1 .0)
 
 mul-products-of : tie.Need-mul-products-of
-mul-products-of c = slot-bytes-fit _ _ (c .before .before .before .before .before .before .pre .0) (c .before .before .before .before .before .before .pre .1 .1 .1) (c .before .before .before .before .before .before .pre .1 .1 .0) (c .before .before .before .before .before .before .pre .1 .0)
+mul-products-of c =
+    let start = c .before .before .before .before .before .before in
+    slot-bytes-fit _ _ (start .pre .0) (start .pre .1 .1 .1) (start .pre .1 .1 .0) (start .pre .1 .0)
 
 sub-products-of : tie.Need-sub-products-of
-sub-products-of c = slot-starts _ _ (c .before .before .before .before .before .before .pre .0) (c .before .before .before .before .before .before .pre .1 .1 .1) (c .before .before .before .before .before .before .pre .1 .1 .0) (c .before .before .before .before .before .before .pre .1 .0)
+sub-products-of c =
+    let start = c .before .before .before .before .before .before in
+    slot-starts _ _ (start .pre .0) (start .pre .1 .1 .1) (start .pre .1 .1 .0) (start .pre .1 .0)
 
 part-products-of-start : tie.Need-part-products-of-start
-part-products-of-start c = slot-starts _ _ (c .before .before .before .before .before .before .pre .0) (c .before .before .before .before .before .before .pre .1 .1 .1) (c .before .before .before .before .before .before .pre .1 .1 .0) (c .before .before .before .before .before .before .pre .1 .0)
+part-products-of-start c =
+    let start = c .before .before .before .before .before .before in
+    slot-starts _ _ (start .pre .0) (start .pre .1 .1 .1) (start .pre .1 .1 .0) (start .pre .1 .0)
 
 part-products-of-end : tie.Need-part-products-of-end
 part-products-of-end c = search needs
 
 products-of-requires : tie.Need-products-of-requires
-products-of-requires c κs = (c .before .before .before .before .before .before .before .pre .0, (c .before .before .before .before .before .before .before .pre .1 .0, (c .before .before .before .before .before .before .before .pre .1 .1 .0, part-room _ _ (c .before .before .before .before .before .before .before .pre .0) (c .before .before .before .before .before .before .before .pre .1 .1 .1) (c .before .before .before .before .before .before .before .pre .1 .1 .0) (c .before .before .before .before .before .before .before .pre .1 .0))))
+products-of-requires c κs =
+    let start = c .before .before .before .before .before .before .before in
+    (start .pre .0, (start .pre .1 .0, (start .pre .1 .1 .0, part-room _ _ (start .pre .0) (start .pre .1 .1 .1) (start .pre .1 .1 .0) (start .pre .1 .0))))
 
 mul-tags : tie.Need-mul-tags
 mul-tags c = search needs
@@ -50,7 +60,9 @@ same-length-2 : tie.Need-same-length-2
 same-length-2 c = search needs
 
 returns : tie.Need-returns
-returns c = learnt _ _ (c .before .before .before .before .before .before .before .before .before .pre .0) (c .before .before .before .before .before .before .before .before .before .pre .1 .1 .1) (c .before .before .before .before .before .before .before .before .before .pre .1 .1 .0) (c .before .before .before .before .before .before .before .before .before .pre .1 .0) (c .before .products-of .ensures)
+returns c =
+    let start = c .before .before .before .before .before .before .before .before .before in
+    learnt _ _ (start .pre .0) (start .pre .1 .1 .1) (start .pre .1 .1 .0) (start .pre .1 .0) (c .before .products-of .ensures)
 
 returns-2 : tie.Need-returns-2
 returns-2 c = kept _ _ (c .before .before .before .before .before .pre .0) (c .before .before .before .before .before .pre .1 .1 .1) (c .before .before .before .before .before .pre .1 .1 .0) (c .if1 .left)

@@ -31,7 +31,9 @@ steps-requires : tie.Need-steps-requires Inv-loop μ-loop
 steps-requires c κs = sheet-fits _ _ (c .before .before .before .pre .0) .at-least
 
 loop-holds : tie.Need-loop-holds Inv-loop μ-loop
-loop-holds c = kept-start _ _ (c .before .before .before .before .pre .0) (c .before .before .before .before .pre .1 .1 .0) (c .before .before .before .before .pre .1 .1 .1 .0) (c .before .before .before .before .pre .1 .1 .1 .1 .0) (c .before .before .before .before .pre .1 .1 .1 .1 .1)
+loop-holds c =
+    let start = c .before .before .before .before in
+    kept-start _ _ (start .pre .0) (start .pre .1 .1 .0) (start .pre .1 .1 .1 .0) (start .pre .1 .1 .1 .1 .0) (start .pre .1 .1 .1 .1 .1)
 
 add-k : tie.Need-add-k Inv-loop μ-loop
 add-k c = record { fits = omega (arith, few-here _ _ (c .before .before .before .before .before .before .pre .0) (c .before .loop .inv)) }
@@ -43,29 +45,48 @@ slice-aggregate-remember : tie.Need-slice-aggregate-remember Inv-loop μ-loop
 slice-aggregate-remember c = sym (c .before .before .before .before .before .before .loop .inv .remembered .slots)
 
 remember-requires : tie.Need-remember-requires Inv-loop μ-loop
-remember-requires c κs = (c .before .before .before .before .before .before .before .before .before .before .before .before .pre .0, (c .before .before .before .before .before .before .before .before .before .before .before .before .pre .1 .0, (best-here _ _ (c .before .before .before .before .before .before .before .before .before .before .before .before .pre .0) (c .before .before .before .before .before .before .before .loop .inv), c .before .before .before .before .before .before .before .loop .inv .remembered)))
+remember-requires c κs =
+    let at-loop = c .before .before .before .before .before .before .before in
+    let start = at-loop .before .before .before .before .before in
+    (start .pre .0, (start .pre .1 .0, (best-here _ _ (start .pre .0) (at-loop .loop .inv), at-loop .loop .inv .remembered)))
 
 mul-at : tie.Need-mul-at Inv-loop μ-loop
-mul-at c = slot-fits _ _ (c .before .before .before .before .before .before .before .before .before .before .before .before .before .before .before .pre .0) (c .before .before .before .before .before .before .before .before .before .before .loop .inv .remembered) (best-here _ _ (c .before .before .before .before .before .before .before .before .before .before .before .before .before .before .before .pre .0) (c .before .before .before .before .before .before .before .before .before .before .loop .inv)) (c .before .before .before .before .before .before .before .before .before .before .before .before .before .before .before .pre .1 .0)
+mul-at c =
+    let at-loop = c .before .before .before .before .before .before .before .before .before .before in
+    let start = at-loop .before .before .before .before .before in
+    slot-fits _ _ (start .pre .0) (at-loop .loop .inv .remembered) (best-here _ _ (start .pre .0) (at-loop .loop .inv)) (start .pre .1 .0)
 
 mul-rescored : tie.Need-mul-rescored Inv-loop μ-loop
-mul-rescored c = slot-bytes-fit _ _ (c .before .before .before .before .before .before .before .before .before .before .before .before .before .before .before .before .pre .0) (c .before .before .before .remember .ensures .0) (best-here _ _ (c .before .before .before .before .before .before .before .before .before .before .before .before .before .before .before .before .pre .0) (c .before .before .before .before .before .before .before .before .before .before .before .loop .inv)) (c .before .before .before .before .before .before .before .before .before .before .before .before .before .before .before .before .pre .1 .0)
+mul-rescored c =
+    let at-loop = c .before .before .before .before .before .before .before .before .before .before .before in
+    let start = at-loop .before .before .before .before .before in
+    slot-bytes-fit _ _ (start .pre .0) (c .before .before .before .remember .ensures .0) (best-here _ _ (start .pre .0) (at-loop .loop .inv)) (start .pre .1 .0)
 
 sub-rescored : tie.Need-sub-rescored Inv-loop μ-loop
-sub-rescored c = slot-starts _ _ (c .before .before .before .before .before .before .before .before .before .before .before .before .before .before .before .before .pre .0) (c .before .before .before .remember .ensures .0) (best-here _ _ (c .before .before .before .before .before .before .before .before .before .before .before .before .before .before .before .before .pre .0) (c .before .before .before .before .before .before .before .before .before .before .before .loop .inv)) (c .before .before .before .before .before .before .before .before .before .before .before .before .before .before .before .before .pre .1 .0)
+sub-rescored c =
+    let at-loop = c .before .before .before .before .before .before .before .before .before .before .before in
+    let start = at-loop .before .before .before .before .before in
+    slot-starts _ _ (start .pre .0) (c .before .before .before .remember .ensures .0) (best-here _ _ (start .pre .0) (at-loop .loop .inv)) (start .pre .1 .0)
 
 part-rescored-start : tie.Need-part-rescored-start Inv-loop μ-loop
-part-rescored-start c = slot-starts _ _ (c .before .before .before .before .before .before .before .before .before .before .before .before .before .before .before .before .before .pre .0) (c .before .before .before .before .remember .ensures .0) (best-here _ _ (c .before .before .before .before .before .before .before .before .before .before .before .before .before .before .before .before .before .pre .0) (c .before .before .before .before .before .before .before .before .before .before .before .before .loop .inv)) (c .before .before .before .before .before .before .before .before .before .before .before .before .before .before .before .before .before .pre .1 .0)
+part-rescored-start c =
+    let at-remember = c .before .before .before .before in
+    let at-loop = at-remember .before .before .before .before .before .before .before .before in
+    let start = at-loop .before .before .before .before .before in
+    slot-starts _ _ (start .pre .0) (at-remember .remember .ensures .0) (best-here _ _ (start .pre .0) (at-loop .loop .inv)) (start .pre .1 .0)
 
 part-rescored-end : tie.Need-part-rescored-end Inv-loop μ-loop
 part-rescored-end c = search needs
 
 rescored-requires : tie.Need-rescored-requires Inv-loop μ-loop
 rescored-requires c κs =
-    let ok = c .before .before .before .before .before .before .before .before .before .before .before .before .before .before .before .before .before .before .pre .0 in
-    let l = c .before .before .before .before .before .before .before .before .before .before .before .before .before .before .before .before .before .before .pre .1 .0 in
-    let k = c .before .before .before .before .before .before .before .before .before .before .before .before .before .loop .inv in
-    rescorable-here _ _ ok l (k .going .held) (few-here _ _ ok k) (k .scored) (slot-part _ _ ok (c .before .before .before .before .before .remember .ensures .0) (best-here _ _ ok k) l (c .before .before .before .before .before .remember .ensures .1))
+    let at-remember = c .before .before .before .before .before in
+    let at-loop = at-remember .before .before .before .before .before .before .before .before in
+    let start = at-loop .before .before .before .before .before in
+    let ok = start .pre .0 in
+    let l = start .pre .1 .0 in
+    let k = at-loop .loop .inv in
+    rescorable-here _ _ ok l (k .going .held) (few-here _ _ ok k) (k .scored) (slot-part _ _ ok (at-remember .remember .ensures .0) (best-here _ _ ok k) l (at-remember .remember .ensures .1))
 
 next-requires : tie.Need-next-requires Inv-loop μ-loop
 next-requires c κs =
@@ -76,45 +97,73 @@ next-requires c κs =
     (ok, (l, (k .going .held, (few-here _ _ ok k, pick-next _ _ ok l (k .going .held) (few-here _ _ ok k) (k .scored) p (c .before .rescored .ensures .0)))))
 
 answer-requires : tie.Need-answer-requires Inv-loop μ-loop
-answer-requires c κs = next-answerable _ _ (c .before .before .before .before .before .before .before .before .before .before .before .before .before .before .before .before .before .before .before .before .before .pre .0) (c .before .before .before .before .before .before .before .before .before .before .before .before .before .before .before .before .loop .inv .going) (c .next .ensures) (c .before .before .before .before .before .before .before .before .before .before .before .before .before .before .before .before .before .before .before .before .before .pre .1 .0)
+answer-requires c κs =
+    let at-loop = c .before .before .before .before .before .before .before .before .before .before .before .before .before .before .before .before in
+    let start = at-loop .before .before .before .before .before in
+    next-answerable _ _ (start .pre .0) (at-loop .loop .inv .going) (c .next .ensures) (start .pre .1 .0)
 
 stops-requires : tie.Need-stops-requires Inv-loop μ-loop
 stops-requires c κs = search needs
 
 same-length : tie.Need-same-length Inv-loop μ-loop
-same-length c = shared-long _ _ (c .before .before .before .before .before .before .before .before .before .before .before .before .before .before .before .before .before .before .before .before .before .before .before .before .pre .0) _ (c .before .before .before .before .before .before .before .before .before .before .before .before .before .before .before .before .before .before .before .before .before .before .before .before .pre .1 .1 .1 .0 .room) (shares-here _ _ (c .before .before .before .before .before .before .before .before .before .before .before .before .before .before .before .before .before .before .before .before .before .before .before .before .pre .0) (c .before .before .before .before .before .before .before .before .before .before .before .before .before .before .before .before .before .before .before .loop .inv) (c .before .before .before .next .ensures .steps-are) (c .before .before .before .before .before .before .before .before .before .before .before .before .before .before .before .before .add-shares .ensures))
+same-length c =
+    let at-add-shares = c .before .before .before .before .before .before .before .before .before .before .before .before .before .before .before .before in
+    let at-loop = at-add-shares .before .before .before in
+    let start = at-loop .before .before .before .before .before in
+    shared-long _ _ (start .pre .0) _ (start .pre .1 .1 .1 .0 .room) (shares-here _ _ (start .pre .0) (at-loop .loop .inv) (c .before .before .before .next .ensures .steps-are) (at-add-shares .add-shares .ensures))
 
 same-length-2 : tie.Need-same-length-2 Inv-loop μ-loop
-same-length-2 c = search (needs, c .before .before .before .before .before .rescored .ok, c .before .before .before .before .before .before .before .before .before .before .before .before .before .before .before .before .before .before .before .loop .inv .scores-long)
+same-length-2 c =
+    let at-rescored = c .before .before .before .before .before in
+    let at-loop = at-rescored .before .before .before .before .before .before .before .before .before .before .before .before .before .before in
+    search (needs, at-rescored .rescored .ok, at-loop .loop .inv .scores-long)
 
 same-length-3 : tie.Need-same-length-3 Inv-loop μ-loop
-same-length-3 c = search (needs, c .before .before .before .before .before .before .before .before .before .before .before .remember .ok, c .before .before .before .before .before .before .before .before .before .before .before .before .before .before .before .before .before .before .before .loop .inv .memory-long)
+same-length-3 c =
+    let at-remember = c .before .before .before .before .before .before .before .before .before .before .before in
+    let at-loop = at-remember .before .before .before .before .before .before .before .before in
+    search (needs, at-remember .remember .ok, at-loop .loop .inv .memory-long)
 
 returns : tie.Need-returns Inv-loop μ-loop
 returns c =
-    let ok = c .before .before .before .before .before .before .before .before .before .before .before .before .before .before .before .before .before .before .before .before .before .before .before .before .pre .0 in
-    let k = c .before .before .before .before .before .before .before .before .before .before .before .before .before .before .before .before .before .before .before .loop .inv in
-    let e = c .before .before .before .next .ensures .steps-are in
-    let d = going-done _ _ ok (k .going) (c .before .before .before .next .ensures) (c .before .before .before .before .before .before .before .before .before .before .before .before .before .before .before .before .before .before .before .before .before .before .before .before .pre .1 .0) (c .before .before .answer .ensures) (c .before .before .before .before .before .before .before .before .before .before .before .before .before .before .before .before .before .before .before .before .steps .ensures) (c .before .stops .ensures) (c .if1 .taken) in
-    (d .0, shared-end (shares-here _ _ ok k e (c .before .before .before .before .before .before .before .before .before .before .before .before .before .before .before .before .add-shares .ensures)) (d .1))
+    let at-next = c .before .before .before in
+    let at-add-shares = at-next .before .before .before .before .before .before .before .before .before .before .before .before .before in
+    let at-loop = at-add-shares .before .before .before in
+    let at-steps = at-loop .before in
+    let start = at-steps .before .before .before .before in
+    let ok = start .pre .0 in
+    let k = at-loop .loop .inv in
+    let e = at-next .next .ensures .steps-are in
+    let d = going-done _ _ ok (k .going) (at-next .next .ensures) (start .pre .1 .0) (c .before .before .answer .ensures) (at-steps .steps .ensures) (c .before .stops .ensures) (c .if1 .taken) in
+    (d .0, shared-end (shares-here _ _ ok k e (at-add-shares .add-shares .ensures)) (d .1))
 
 loop-less : tie.Need-loop-less Inv-loop μ-loop
-loop-less c = omega (arith, c .before .before .before .next .ensures .steps-are, c .before .before .before .before .before .before .before .before .before .before .before .before .before .before .before .before .before .before .before .loop .inv .going .left, c .before .before .before .before .before .before .before .before .before .before .before .before .before .before .before .before .before .before .before .before .steps .ensures)
+loop-less c =
+    let at-loop = c .before .before .before .before .before .before .before .before .before .before .before .before .before .before .before .before .before .before .before in
+    let at-steps = at-loop .before in
+    omega (arith, c .before .before .before .next .ensures .steps-are, at-loop .loop .inv .going .left, at-steps .steps .ensures)
 
 loop-again : tie.Need-loop-again Inv-loop μ-loop
 loop-again c =
-    let ok = c .before .before .before .before .before .before .before .before .before .before .before .before .before .before .before .before .before .before .before .before .before .before .before .before .pre .0 in
-    let l = c .before .before .before .before .before .before .before .before .before .before .before .before .before .before .before .before .before .before .before .before .before .before .before .before .pre .1 .0 in
-    let k = c .before .before .before .before .before .before .before .before .before .before .before .before .before .before .before .before .before .before .before .loop .inv in
-    let e = c .before .before .before .next .ensures .steps-are in
-    let p = slot-part _ _ ok (c .before .before .before .before .before .before .before .before .before .before .before .remember .ensures .0) (best-here _ _ ok k) l (c .before .before .before .before .before .before .before .before .before .before .before .remember .ensures .1) in
+    let at-next = c .before .before .before in
+    let at-rescored = at-next .before .before in
+    let at-remember = at-rescored .before .before .before .before .before .before in
+    let at-add-shares = at-remember .before .before .before .before .before in
+    let at-loop = at-add-shares .before .before .before in
+    let at-steps = at-loop .before in
+    let start = at-steps .before .before .before .before in
+    let ok = start .pre .0 in
+    let l = start .pre .1 .0 in
+    let k = at-loop .loop .inv in
+    let e = at-next .next .ensures .steps-are in
+    let p = slot-part _ _ ok (at-remember .remember .ensures .0) (best-here _ _ ok k) l (at-remember .remember .ensures .1) in
     record {
-      going = going-more _ _ ok (k .going) (c .before .before .before .next .ensures) l (c .before .before .answer .ensures) (c .before .before .before .before .before .before .before .before .before .before .before .before .before .before .before .before .before .before .before .before .steps .ensures) (c .before .stops .ensures) (c .if1 .left);
-      shared = shares-here _ _ ok k e (c .before .before .before .before .before .before .before .before .before .before .before .before .before .before .before .before .add-shares .ensures);
-      scored = scores-here _ _ ok k e l p (c .before .before .before .before .before .rescored .ensures .1);
-      scores-long = search (needs, c .before .before .before .before .before .rescored .ok, c .before .before .before .before .before .before .before .before .before .before .before .before .before .before .before .before .before .before .before .loop .inv .scores-long);
-      remembered = c .before .before .before .before .before .before .before .before .before .before .before .remember .ensures .0;
-      memory-long = search (needs, c .before .before .before .before .before .before .before .before .before .before .before .remember .ok, c .before .before .before .before .before .before .before .before .before .before .before .before .before .before .before .before .before .before .before .loop .inv .memory-long);
+      going = going-more _ _ ok (k .going) (at-next .next .ensures) l (c .before .before .answer .ensures) (at-steps .steps .ensures) (c .before .stops .ensures) (c .if1 .left);
+      shared = shares-here _ _ ok k e (at-add-shares .add-shares .ensures);
+      scored = scores-here _ _ ok k e l p (at-rescored .rescored .ensures .1);
+      scores-long = search (needs, at-rescored .rescored .ok, at-loop .loop .inv .scores-long);
+      remembered = at-remember .remember .ensures .0;
+      memory-long = search (needs, at-remember .remember .kept .1 .1 .1 .1 .1 .0, at-loop .loop .inv .memory-long);
     }
 
 pub run-from-spec : {M : Type 1} → statement M

@@ -35,7 +35,9 @@ loop-holds c =
     (passed-start (c .before .before .pre .0) (c .narrow-inner .ensures) f, rw f (sfits-of (c .narrow-inner .ok)))
 
 narrow-inner-requires-2 : tie.Need-narrow-inner-requires-2 Inv-loop μ-loop
-narrow-inner-requires-2 c κs = (row-span (c .before .before .before .before .pre .0) (c .loop-test .taken) (c .before .loop .inv .0 .place), (c .before .before .before .before .pre .1 .0, row-range (c .before .before .before .before .pre .0) (c .loop-test .taken) (c .before .loop .inv .0 .place) (c .before .before .before .before .pre .1 .1)))
+narrow-inner-requires-2 c κs =
+    let start = c .before .before .before .before in
+    (row-span (start .pre .0) (c .loop-test .taken) (c .before .loop .inv .0 .place), (start .pre .1 .0, row-range (start .pre .0) (c .loop-test .taken) (c .before .loop .inv .0 .place) (start .pre .1 .1)))
 
 mul-p-2 : tie.Need-mul-p-2 Inv-loop μ-loop
 mul-p-2 c = search needs

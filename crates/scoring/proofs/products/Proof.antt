@@ -21,13 +21,17 @@ loop-holds : tie.Need-loop-holds Inv-loop μ-loop
 loop-holds c = stored-start (c .before .pre .0)
 
 narrow-inner-requires : tie.Need-narrow-inner-requires Inv-loop μ-loop
-narrow-inner-requires c κs = (row-span (c .before .before .before .pre .0) (c .loop-test .taken) (c .before .loop .inv .place), (c .before .before .before .pre .1 .0, row-range (c .before .before .before .pre .0) (c .loop-test .taken) (c .before .loop .inv .place) (c .before .before .before .pre .1 .1 .0)))
+narrow-inner-requires c κs =
+    let start = c .before .before .before in
+    (row-span (start .pre .0) (c .loop-test .taken) (c .before .loop .inv .place), (start .pre .1 .0, row-range (start .pre .0) (c .loop-test .taken) (c .before .loop .inv .place) (start .pre .1 .1 .0)))
 
 mul-t11 : tie.Need-mul-t11 Inv-loop μ-loop
 mul-t11 c = search needs
 
 slice-set-from-to : tie.Need-slice-set-from-to Inv-loop μ-loop
-slice-set-from-to c = omega (arith, c .before .loop-test .taken, stored-long (c .before .before .before .before .pre .0) (c .before .before .loop .inv) (c .before .before .before .before .pre .1 .1 .1), c .before .before .before .before .pre .1 .1 .1)
+slice-set-from-to c =
+    let start = c .before .before .before .before in
+    omega (arith, c .before .loop-test .taken, stored-long (start .pre .0) (c .before .before .loop .inv) (start .pre .1 .1 .1), start .pre .1 .1 .1)
 
 mul-row : tie.Need-mul-row Inv-loop μ-loop
 mul-row c = search needs
@@ -42,7 +46,9 @@ loop-less : tie.Need-loop-less Inv-loop μ-loop
 loop-less c = search needs
 
 loop-again : tie.Need-loop-again Inv-loop μ-loop
-loop-again c = stored-more (c .before .before .before .before .pre .0) (c .before .before .loop .inv) (c .before .before .before .before .pre .1 .1 .1) (c .before .loop-test .taken) (c .narrow-inner .ensures) (toZ-ofZ (sfits-of (c .narrow-inner .ok)))
+loop-again c =
+    let start = c .before .before .before .before in
+    stored-more (start .pre .0) (c .before .before .loop .inv) (start .pre .1 .1 .1) (c .before .loop-test .taken) (c .narrow-inner .ensures) (toZ-ofZ (sfits-of (c .narrow-inner .ok)))
 
 same-length : tie.Need-same-length Inv-loop μ-loop
 same-length c = stored-long (c .before .before .before .pre .0) (c .before .loop .inv) (c .before .before .before .pre .1 .1 .1)

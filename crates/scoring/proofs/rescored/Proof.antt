@@ -49,7 +49,10 @@ mul-score : tie.Need-mul-score Inv-loop μ-loop
 mul-score c = search needs
 
 slice-set-from-score : tie.Need-slice-set-from-score Inv-loop μ-loop
-slice-set-from-score c = omega (arith, c .before .before .before .loop-test .taken, rescored-long (c .before .before .before .before .before .before .before .before .pre) (c .before .before .before .before .loop .inv), c .before .before .before .before .before .before .before .before .pre .in-scores)
+slice-set-from-score c =
+    let at-loop = c .before .before .before .before in
+    let start = at-loop .before .before .before .before in
+    omega (arith, c .before .before .before .loop-test .taken, rescored-long (start .pre) (at-loop .loop .inv), start .pre .in-scores)
 
 add-i : tie.Need-add-i Inv-loop μ-loop
 add-i c = search needs

@@ -26,10 +26,16 @@ clear-requires : tie.Need-clear-requires
 clear-requires c κs = boats-fit _ _ (c .before .before .before .before .before .pre .0) (c .before .layout-of .ensures) (c .before .before .before .before .before .pre .1)
 
 least-product-of-requires : tie.Need-least-product-of-requires
-least-product-of-requires c κs = (c .before .before .before .before .before .before .before .before .pre .0, (c .before .before .before .before .layout-of .ensures, book-fits _ _ (c .before .before .before .before .before .before .before .before .pre .0) .some-boats))
+least-product-of-requires c κs =
+    let at-layout-of = c .before .before .before .before in
+    let start = at-layout-of .before .before .before .before in
+    (start .pre .0, (at-layout-of .layout-of .ensures, book-fits _ _ (start .pre .0) .some-boats))
 
 first-answer-requires : tie.Need-first-answer-requires
-first-answer-requires c κs = (c .before .before .before .before .before .before .before .before .before .pre .0, (c .before .before .before .before .before .layout-of .ensures, picks _ _ (c .before .before .before .before .before .before .before .before .before .pre .0) (c .least-product-of .ensures)))
+first-answer-requires c κs =
+    let at-layout-of = c .before .before .before .before .before in
+    let start = at-layout-of .before .before .before .before in
+    (start .pre .0, (at-layout-of .layout-of .ensures, picks _ _ (start .pre .0) (c .least-product-of .ensures)))
 
 steps-requires : tie.Need-steps-requires
 steps-requires c κs = sheet-fits _ _ (c .before .before .before .before .before .before .before .before .before .before .pre .0) .at-least
@@ -38,16 +44,29 @@ stops-requires : tie.Need-stops-requires
 stops-requires c κs = search needs
 
 add-shares-requires : tie.Need-add-shares-requires
-add-shares-requires c κs = first-room _ _ (c .before .before .before .before .before .before .before .before .before .before .before .before .before .before .pre .0) (c .before .before .before .before .before .least-product-of .ensures) (cleared _ _ (c .before .before .before .before .before .before .before .before .before .before .before .before .before .before .pre .0) (c .before .before .before .before .before .before .before .before .before .before .layout-of .ensures) _ (c .before .before .before .before .before .before .before .before .before .before .before .before .before .before .pre .1) (c .before .before .before .before .before .before .before .before .clear .ensures))
+add-shares-requires c κs =
+    let at-least-product-of = c .before .before .before .before .before in
+    let at-clear = at-least-product-of .before .before .before in
+    let at-layout-of = at-clear .before .before in
+    let start = at-layout-of .before .before .before .before in
+    first-room _ _ (start .pre .0) (at-least-product-of .least-product-of .ensures) (cleared _ _ (start .pre .0) (at-layout-of .layout-of .ensures) _ (start .pre .1) (at-clear .clear .ensures))
 
 same-length : tie.Need-same-length
 same-length c = search needs
 
 returns : tie.Need-returns
 returns c =
-    let ok = c .before .before .before .before .before .before .before .before .before .before .before .before .before .before .before .before .before .pre .0 in
-    let d = first-done _ _ ok (c .before .before .before .before .before .before .before .first-answer .ensures) (c .before .before .before .before .before .before .steps .ensures) (c .before .before .before .before .before .stops .ensures) (c .before .before .before .before .if1 .taken) in
-    (d .0, shared-end (first-shares _ _ ok (c .before .before .before .before .before .before .before .before .least-product-of .ensures) (cleared _ _ ok (c .before .before .before .before .before .before .before .before .before .before .before .before .before .layout-of .ensures) _ (c .before .before .before .before .before .before .before .before .before .before .before .before .before .before .before .before .before .pre .1) (c .before .before .before .before .before .before .before .before .before .before .before .clear .ensures)) (c .before .before .add-shares .ensures)) (d .1))
+    let at-if1 = c .before .before .before .before in
+    let at-stops = at-if1 .before in
+    let at-steps = at-stops .before in
+    let at-first-answer = at-steps .before in
+    let at-least-product-of = at-first-answer .before in
+    let at-clear = at-least-product-of .before .before .before in
+    let at-layout-of = at-clear .before .before in
+    let start = at-layout-of .before .before .before .before in
+    let ok = start .pre .0 in
+    let d = first-done _ _ ok (at-first-answer .first-answer .ensures) (at-steps .steps .ensures) (at-stops .stops .ensures) (at-if1 .if1 .taken) in
+    (d .0, shared-end (first-shares _ _ ok (at-least-product-of .least-product-of .ensures) (cleared _ _ ok (at-layout-of .layout-of .ensures) _ (start .pre .1) (at-clear .clear .ensures)) (c .before .before .add-shares .ensures)) (d .1))
 
 fresh-requires : tie.Need-fresh-requires
 fresh-requires c κs = search needs
@@ -60,15 +79,26 @@ slice-aggregate-run-from-2 c = search needs
 
 run-from-requires : tie.Need-run-from-requires
 run-from-requires c κs =
-    let ok = c .before .before .before .before .before .before .before .before .before .before .before .before .before .before .before .before .before .before .pre .0 in
-    let l = c .before .before .before .before .before .before .before .before .before .before .before .before .before .before .layout-of .ensures in
-    (ok, (l, (first-held _ _ ok (c .before .before .before .before .before .before .before .before .before .least-product-of .ensures) (c .before .before .before .before .fresh .ensures), (cleared-shares _ _ ok l _ (c .before .before .before .before .before .before .before .before .before .before .before .before .before .before .before .before .before .before .pre .1) (c .before .before .before .before .before .before .before .before .before .before .before .before .clear .ensures), (scores-for _ _ ok 16 l (c .before .before .before .if2 .taken), room-for _ _ 16 l (c .before .before .before .if2 .taken))))))
+    let at-if2 = c .before .before .before in
+    let at-fresh = at-if2 .before in
+    let at-least-product-of = at-fresh .before .before .before .before .before in
+    let at-clear = at-least-product-of .before .before .before in
+    let at-layout-of = at-clear .before .before in
+    let start = at-layout-of .before .before .before .before in
+    let ok = start .pre .0 in
+    let l = at-layout-of .layout-of .ensures in
+    (ok, (l, (first-held _ _ ok (at-least-product-of .least-product-of .ensures) (at-fresh .fresh .ensures), (cleared-shares _ _ ok l _ (start .pre .1) (at-clear .clear .ensures), (scores-for _ _ ok 16 l (at-if2 .if2 .taken), room-for _ _ 16 l (at-if2 .if2 .taken))))))
 
 same-length-2 : tie.Need-same-length-2
 same-length-2 c = search needs
 
 returns-2 : tie.Need-returns-2
-returns-2 c = (c .before .before .before .before .run-from .ensures .0, behind (run-iterate (c .before .before .before .before .before .before .before .before .before .before .before .before .before .before .before .before .before .before .before .before .before .before .before .args .book .now) (c .before .before .before .before .before .before .before .before .before .before .before .before .before .before .before .before .before .before .before .before .before .before .before .args .sheet .now) .shares) (c .before .before .before .before .run-from .ensures .1) (cleared-rest _ _ (c .before .before .before .before .before .before .before .before .before .before .before .before .before .before .before .before .before .before .before .before .before .before .before .pre .0) (c .before .before .before .before .before .before .before .before .before .before .before .before .before .before .before .before .before .before .before .layout-of .ensures) _ (c .before .before .before .before .before .before .before .before .before .before .before .before .before .before .before .before .before .before .before .before .before .before .before .pre .1) (c .before .before .before .before .before .before .before .before .before .before .before .before .before .before .before .before .before .clear .ensures)))
+returns-2 c =
+    let at-run-from = c .before .before .before .before in
+    let at-clear = at-run-from .before .before .before .before .before .before .before .before .before .before .before .before .before in
+    let at-layout-of = at-clear .before .before in
+    let start = at-layout-of .before .before .before .before in
+    (at-run-from .run-from .ensures .0, behind (run-iterate (start .args .book .now) (start .args .sheet .now) .shares) (at-run-from .run-from .ensures .1) (cleared-rest _ _ (start .pre .0) (at-layout-of .layout-of .ensures) _ (start .pre .1) (at-clear .clear .ensures)))
 
 slice-aggregate-run-from-3 : tie.Need-slice-aggregate-run-from-3
 slice-aggregate-run-from-3 c = search needs
@@ -78,15 +108,26 @@ slice-aggregate-run-from-4 c = search needs
 
 run-from-requires-2 : tie.Need-run-from-requires-2
 run-from-requires-2 c κs =
-    let ok = c .before .before .before .before .before .before .before .before .before .before .before .before .before .before .before .before .before .before .before .pre .0 in
-    let l = c .before .before .before .before .before .before .before .before .before .before .before .before .before .before .before .layout-of .ensures in
-    (ok, (l, (first-held _ _ ok (c .before .before .before .before .before .before .before .before .before .before .least-product-of .ensures) (c .before .before .before .before .before .fresh .ensures), (cleared-shares _ _ ok l _ (c .before .before .before .before .before .before .before .before .before .before .before .before .before .before .before .before .before .before .before .pre .1) (c .before .before .before .before .before .before .before .before .before .before .before .before .before .clear .ensures), (scores-for _ _ ok 64 l (c .before .before .before .if3 .taken), room-for _ _ 64 l (c .before .before .before .if3 .taken))))))
+    let at-if3 = c .before .before .before in
+    let at-fresh = at-if3 .before .before in
+    let at-least-product-of = at-fresh .before .before .before .before .before in
+    let at-clear = at-least-product-of .before .before .before in
+    let at-layout-of = at-clear .before .before in
+    let start = at-layout-of .before .before .before .before in
+    let ok = start .pre .0 in
+    let l = at-layout-of .layout-of .ensures in
+    (ok, (l, (first-held _ _ ok (at-least-product-of .least-product-of .ensures) (at-fresh .fresh .ensures), (cleared-shares _ _ ok l _ (start .pre .1) (at-clear .clear .ensures), (scores-for _ _ ok 64 l (at-if3 .if3 .taken), room-for _ _ 64 l (at-if3 .if3 .taken))))))
 
 same-length-3 : tie.Need-same-length-3
 same-length-3 c = search needs
 
 returns-3 : tie.Need-returns-3
-returns-3 c = (c .before .before .before .before .run-from2 .ensures .0, behind (run-iterate (c .before .before .before .before .before .before .before .before .before .before .before .before .before .before .before .before .before .before .before .before .before .before .before .before .args .book .now) (c .before .before .before .before .before .before .before .before .before .before .before .before .before .before .before .before .before .before .before .before .before .before .before .before .args .sheet .now) .shares) (c .before .before .before .before .run-from2 .ensures .1) (cleared-rest _ _ (c .before .before .before .before .before .before .before .before .before .before .before .before .before .before .before .before .before .before .before .before .before .before .before .before .pre .0) (c .before .before .before .before .before .before .before .before .before .before .before .before .before .before .before .before .before .before .before .before .layout-of .ensures) _ (c .before .before .before .before .before .before .before .before .before .before .before .before .before .before .before .before .before .before .before .before .before .before .before .before .pre .1) (c .before .before .before .before .before .before .before .before .before .before .before .before .before .before .before .before .before .before .clear .ensures)))
+returns-3 c =
+    let at-run-from2 = c .before .before .before .before in
+    let at-clear = at-run-from2 .before .before .before .before .before .before .before .before .before .before .before .before .before .before in
+    let at-layout-of = at-clear .before .before in
+    let start = at-layout-of .before .before .before .before in
+    (at-run-from2 .run-from2 .ensures .0, behind (run-iterate (start .args .book .now) (start .args .sheet .now) .shares) (at-run-from2 .run-from2 .ensures .1) (cleared-rest _ _ (start .pre .0) (at-layout-of .layout-of .ensures) _ (start .pre .1) (at-clear .clear .ensures)))
 
 slice-aggregate-run-from-5 : tie.Need-slice-aggregate-run-from-5
 slice-aggregate-run-from-5 c = search needs
@@ -96,15 +137,25 @@ slice-aggregate-run-from-6 c = search needs
 
 run-from-requires-3 : tie.Need-run-from-requires-3
 run-from-requires-3 c κs =
-    let ok = c .before .before .before .before .before .before .before .before .before .before .before .before .before .before .before .before .before .before .before .pre .0 in
-    let l = c .before .before .before .before .before .before .before .before .before .before .before .before .before .before .before .layout-of .ensures in
-    (ok, (l, (first-held _ _ ok (c .before .before .before .before .before .before .before .before .before .before .least-product-of .ensures) (c .before .before .before .before .before .fresh .ensures), (cleared-shares _ _ ok l _ (c .before .before .before .before .before .before .before .before .before .before .before .before .before .before .before .before .before .before .before .pre .1) (c .before .before .before .before .before .before .before .before .before .before .before .before .before .clear .ensures), (scores-start _ _ ok 256 (book-fits _ _ ok .most-boats), room-always _ _ ok)))))
+    let at-fresh = c .before .before .before .before .before in
+    let at-least-product-of = at-fresh .before .before .before .before .before in
+    let at-clear = at-least-product-of .before .before .before in
+    let at-layout-of = at-clear .before .before in
+    let start = at-layout-of .before .before .before .before in
+    let ok = start .pre .0 in
+    let l = at-layout-of .layout-of .ensures in
+    (ok, (l, (first-held _ _ ok (at-least-product-of .least-product-of .ensures) (at-fresh .fresh .ensures), (cleared-shares _ _ ok l _ (start .pre .1) (at-clear .clear .ensures), (scores-start _ _ ok 256 (book-fits _ _ ok .most-boats), room-always _ _ ok)))))
 
 same-length-4 : tie.Need-same-length-4
 same-length-4 c = search needs
 
 returns-4 : tie.Need-returns-4
-returns-4 c = (c .before .before .before .before .run-from3 .ensures .0, behind (run-iterate (c .before .before .before .before .before .before .before .before .before .before .before .before .before .before .before .before .before .before .before .before .before .before .before .before .args .book .now) (c .before .before .before .before .before .before .before .before .before .before .before .before .before .before .before .before .before .before .before .before .before .before .before .before .args .sheet .now) .shares) (c .before .before .before .before .run-from3 .ensures .1) (cleared-rest _ _ (c .before .before .before .before .before .before .before .before .before .before .before .before .before .before .before .before .before .before .before .before .before .before .before .before .pre .0) (c .before .before .before .before .before .before .before .before .before .before .before .before .before .before .before .before .before .before .before .before .layout-of .ensures) _ (c .before .before .before .before .before .before .before .before .before .before .before .before .before .before .before .before .before .before .before .before .before .before .before .before .pre .1) (c .before .before .before .before .before .before .before .before .before .before .before .before .before .before .before .before .before .before .clear .ensures)))
+returns-4 c =
+    let at-run-from3 = c .before .before .before .before in
+    let at-clear = at-run-from3 .before .before .before .before .before .before .before .before .before .before .before .before .before .before in
+    let at-layout-of = at-clear .before .before in
+    let start = at-layout-of .before .before .before .before in
+    (at-run-from3 .run-from3 .ensures .0, behind (run-iterate (start .args .book .now) (start .args .sheet .now) .shares) (at-run-from3 .run-from3 .ensures .1) (cleared-rest _ _ (start .pre .0) (at-layout-of .layout-of .ensures) _ (start .pre .1) (at-clear .clear .ensures)))
 
 pub run-spec : {M : Type 1} → statement M
 run-spec =

@@ -31,7 +31,13 @@ same-length : tie.Need-same-length
 same-length c = search needs
 
 returns-3 : tie.Need-returns-3
-returns-3 c = answered _ _ _ (sym (c .before .before .before .before .before .before .before .files-refusal .ensures) ∙ c .before .before .before .before .before .before .if1 .left) (c .before .before .before .before .before .boats .ensures) (c .before .before .before .before .if2 .left) (c .before .before .run .ensures .0) (c .before .before .run .ensures .1)
+returns-3 c =
+    let at-run = c .before .before in
+    let at-if2 = at-run .before .before in
+    let at-boats = at-if2 .before in
+    let at-if1 = at-boats .before in
+    let at-files-refusal = at-if1 .before in
+    answered _ _ _ (sym (at-files-refusal .files-refusal .ensures) ∙ at-if1 .if1 .left) (at-boats .boats .ensures) (at-if2 .if2 .left) (at-run .run .ensures .0) (at-run .run .ensures .1)
 
 pub search-spec : {M : Type 1} → statement M
 search-spec =

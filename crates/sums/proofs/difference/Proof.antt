@@ -37,10 +37,14 @@ value-at-requires-2 : tie.Need-value-at-requires-2 Inv-loop μ-loop
 value-at-requires-2 c κs = search needs
 
 sub-d : tie.Need-sub-d Inv-loop μ-loop
-sub-d c = wide-fits (c .before .before .before .loop .inv) (c .before .before .before .before .before .before .pre .0 .few-columns) (c .before .before .before .before .before .before .pre .1 .1 .0) (c .before .before .before .before .before .before .pre .1 .1 .1) (c .before .before .loop-test .taken) (c .before .value-at .ensures) (c .value-at2 .ensures)
+sub-d c =
+    let start = c .before .before .before .before .before .before in
+    wide-fits (c .before .before .before .loop .inv) (start .pre .0 .few-columns) (start .pre .1 .1 .0) (start .pre .1 .1 .1) (c .before .before .loop-test .taken) (c .before .value-at .ensures) (c .value-at2 .ensures)
 
 cast-d : tie.Need-cast-d Inv-loop μ-loop
-cast-d c = narrow-fits (c .before .before .before .loop .inv) (c .before .before .before .before .before .before .pre .0 .few-columns) (c .before .before .before .before .before .before .pre .1 .1 .0) (c .before .before .before .before .before .before .pre .1 .1 .1) (c .before .before .loop-test .taken) (c .before .value-at .ensures) (c .value-at2 .ensures)
+cast-d c =
+    let start = c .before .before .before .before .before .before in
+    narrow-fits (c .before .before .before .loop .inv) (start .pre .0 .few-columns) (start .pre .1 .1 .0) (start .pre .1 .1 .1) (c .before .before .loop-test .taken) (c .before .value-at .ensures) (c .value-at2 .ensures)
 
 mul-d : tie.Need-mul-d Inv-loop μ-loop
 mul-d c = search needs
@@ -55,7 +59,9 @@ loop-less : tie.Need-loop-less Inv-loop μ-loop
 loop-less c = search needs
 
 loop-again : tie.Need-loop-again Inv-loop μ-loop
-loop-again c = differing-more (c .before .before .before .loop .inv) (c .before .before .before .before .before .before .pre .0 .few-columns) (c .before .before .before .before .before .before .pre .1 .1 .0) (c .before .before .before .before .before .before .pre .1 .1 .1) (c .before .before .loop-test .taken) (c .before .value-at .ensures) (c .value-at2 .ensures)
+loop-again c =
+    let start = c .before .before .before .before .before .before in
+    differing-more (c .before .before .before .loop .inv) (start .pre .0 .few-columns) (start .pre .1 .1 .0) (start .pre .1 .1 .1) (c .before .before .loop-test .taken) (c .before .value-at .ensures) (c .value-at2 .ensures)
 
 returns : tie.Need-returns Inv-loop μ-loop
 returns c = differing-end (c .before .loop .inv) (c .before .before .before .before .pre .0 .few-columns) (c .loop-test .left)

@@ -37,13 +37,17 @@ value-at-requires-2 : tie.Need-value-at-requires-2 Inv-loop μ-loop
 value-at-requires-2 c κs = search needs
 
 sub-d : tie.Need-sub-d Inv-loop μ-loop
-sub-d c = difference-fits (c .before .before .before .loop .inv) (c .before .before .before .before .before .before .pre .0 .few-columns) (c .before .before .before .before .before .before .pre .1 .1) (c .before .before .loop-test .taken) (c .before .value-at .ensures) (c .value-at2 .ensures)
+sub-d c =
+    let start = c .before .before .before .before .before .before in
+    difference-fits (c .before .before .before .loop .inv) (start .pre .0 .few-columns) (start .pre .1 .1) (c .before .before .loop-test .taken) (c .before .value-at .ensures) (c .value-at2 .ensures)
 
 cast-next : tie.Need-cast-next Inv-loop μ-loop
 cast-next c = search needs
 
 mul-next : tie.Need-mul-next Inv-loop μ-loop
-mul-next c = change-fits (c .before .before .before .loop .inv) (c .before .before .before .before .before .before .pre .0 .few-columns) (c .before .before .before .before .before .before .pre .1 .1) (c .before .before .loop-test .taken) (c .before .value-at .ensures) (c .value-at2 .ensures)
+mul-next c =
+    let start = c .before .before .before .before .before .before in
+    change-fits (c .before .before .before .loop .inv) (start .pre .0 .few-columns) (start .pre .1 .1) (c .before .before .loop-test .taken) (c .before .value-at .ensures) (c .value-at2 .ensures)
 
 mul-next-2 : tie.Need-mul-next-2 Inv-loop μ-loop
 mul-next-2 c = search needs
@@ -52,7 +56,10 @@ array-copy-out-next : tie.Need-array-copy-out-next Inv-loop μ-loop
 array-copy-out-next c = omega (arith, c .before .before .before .before .before .before .pre .0 .few-columns)
 
 add-next : tie.Need-add-next Inv-loop μ-loop
-add-next c = entry-fits (c .before .before .before .before .loop .inv) (c .before .before .before .before .before .before .before .pre .0 .few-columns) (c .before .before .before .before .before .before .before .pre .1 .1) (c .before .before .before .loop-test .taken) (c .before .before .value-at .ensures) (c .before .value-at2 .ensures)
+add-next c =
+    let at-loop = c .before .before .before .before in
+    let start = at-loop .before .before .before in
+    entry-fits (at-loop .loop .inv) (start .pre .0 .few-columns) (start .pre .1 .1) (c .before .before .before .loop-test .taken) (c .before .before .value-at .ensures) (c .before .value-at2 .ensures)
 
 array-set-from-next : tie.Need-array-set-from-next Inv-loop μ-loop
 array-set-from-next c = omega (arith, c .before .before .before .before .before .before .before .pre .0 .few-columns)
@@ -64,7 +71,10 @@ loop-less : tie.Need-loop-less Inv-loop μ-loop
 loop-less c = search needs
 
 loop-again : tie.Need-loop-again Inv-loop μ-loop
-loop-again c = move-more (c .before .before .before .before .loop .inv) (c .before .before .before .before .before .before .before .pre .0 .few-columns) (c .before .before .before .before .before .before .before .pre .1 .1) (c .before .before .before .loop-test .taken) (c .before .before .value-at .ensures) (c .before .value-at2 .ensures)
+loop-again c =
+    let at-loop = c .before .before .before .before in
+    let start = at-loop .before .before .before in
+    move-more (at-loop .loop .inv) (start .pre .0 .few-columns) (start .pre .1 .1) (c .before .before .before .loop-test .taken) (c .before .before .value-at .ensures) (c .before .value-at2 .ensures)
 
 returns : tie.Need-returns Inv-loop μ-loop
 returns c = move-end (c .before .loop .inv) (c .loop-test .left)

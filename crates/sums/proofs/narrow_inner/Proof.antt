@@ -38,10 +38,16 @@ value-at-requires : tie.Need-value-at-requires Inv-loop μ-loop
 value-at-requires c κs = search needs
 
 mul-sum-2 : tie.Need-mul-sum-2 Inv-loop μ-loop
-mul-sum-2 c = product-fits tt (c .before .before .before .loop .inv) (c .before .before .before .before .before .pre .0) (c .before .before .before .before .before .pre .1 .0 .long) (c .before .before .loop-test .taken) (c .value-at .ensures) (narrow-cast-read (c .before .before .before .before .before .pre .1 .0) (c .before .before .loop-test .taken)) (value-read _ (c .value-at .ensures)) (narrow-product (c .before .before .before .before .before .pre .1 .0) (c .before .before .loop-test .taken) _ _ (c .before .before .before .before .before .pre .1 .1) (c .value-at .ensures) (narrow-cast-read (c .before .before .before .before .before .pre .1 .0) (c .before .before .loop-test .taken)) (value-read _ (c .value-at .ensures)))
+mul-sum-2 c =
+    let at-loop-test = c .before .before in
+    let start = at-loop-test .before .before .before in
+    product-fits tt (at-loop-test .before .loop .inv) (start .pre .0) (start .pre .1 .0 .long) (at-loop-test .loop-test .taken) (c .value-at .ensures) (narrow-cast-read (start .pre .1 .0) (at-loop-test .loop-test .taken)) (value-read _ (c .value-at .ensures)) (narrow-product (start .pre .1 .0) (at-loop-test .loop-test .taken) _ _ (start .pre .1 .1) (c .value-at .ensures) (narrow-cast-read (start .pre .1 .0) (at-loop-test .loop-test .taken)) (value-read _ (c .value-at .ensures)))
 
 add-sum : tie.Need-add-sum Inv-loop μ-loop
-add-sum c = sum-fits tt (c .before .before .before .loop .inv) (c .before .before .before .before .before .pre .0) (c .before .before .before .before .before .pre .1 .0 .long) (c .before .before .loop-test .taken) (c .value-at .ensures) (narrow-cast-read (c .before .before .before .before .before .pre .1 .0) (c .before .before .loop-test .taken)) (value-read _ (c .value-at .ensures)) (narrow-product (c .before .before .before .before .before .pre .1 .0) (c .before .before .loop-test .taken) _ _ (c .before .before .before .before .before .pre .1 .1) (c .value-at .ensures) (narrow-cast-read (c .before .before .before .before .before .pre .1 .0) (c .before .before .loop-test .taken)) (value-read _ (c .value-at .ensures)))
+add-sum c =
+    let at-loop-test = c .before .before in
+    let start = at-loop-test .before .before .before in
+    sum-fits tt (at-loop-test .before .loop .inv) (start .pre .0) (start .pre .1 .0 .long) (at-loop-test .loop-test .taken) (c .value-at .ensures) (narrow-cast-read (start .pre .1 .0) (at-loop-test .loop-test .taken)) (value-read _ (c .value-at .ensures)) (narrow-product (start .pre .1 .0) (at-loop-test .loop-test .taken) _ _ (start .pre .1 .1) (c .value-at .ensures) (narrow-cast-read (start .pre .1 .0) (at-loop-test .loop-test .taken)) (value-read _ (c .value-at .ensures)))
 
 add-i : tie.Need-add-i Inv-loop μ-loop
 add-i c = search needs
@@ -50,7 +56,10 @@ loop-less : tie.Need-loop-less Inv-loop μ-loop
 loop-less c = search needs
 
 loop-again : tie.Need-loop-again Inv-loop μ-loop
-loop-again c = sum-more tt (c .before .before .before .loop .inv) (c .before .before .before .before .before .pre .0) (c .before .before .before .before .before .pre .1 .0 .long) (c .before .before .loop-test .taken) (c .value-at .ensures) (narrow-cast-read (c .before .before .before .before .before .pre .1 .0) (c .before .before .loop-test .taken)) (value-read _ (c .value-at .ensures)) (narrow-product (c .before .before .before .before .before .pre .1 .0) (c .before .before .loop-test .taken) _ _ (c .before .before .before .before .before .pre .1 .1) (c .value-at .ensures) (narrow-cast-read (c .before .before .before .before .before .pre .1 .0) (c .before .before .loop-test .taken)) (value-read _ (c .value-at .ensures)))
+loop-again c =
+    let at-loop-test = c .before .before in
+    let start = at-loop-test .before .before .before in
+    sum-more tt (at-loop-test .before .loop .inv) (start .pre .0) (start .pre .1 .0 .long) (at-loop-test .loop-test .taken) (c .value-at .ensures) (narrow-cast-read (start .pre .1 .0) (at-loop-test .loop-test .taken)) (value-read _ (c .value-at .ensures)) (narrow-product (start .pre .1 .0) (at-loop-test .loop-test .taken) _ _ (start .pre .1 .1) (c .value-at .ensures) (narrow-cast-read (start .pre .1 .0) (at-loop-test .loop-test .taken)) (value-read _ (c .value-at .ensures)))
 
 returns : tie.Need-returns Inv-loop μ-loop
 returns c = sum-end tt (c .before .loop .inv) (c .before .before .before .pre .0) (c .loop-test .left)

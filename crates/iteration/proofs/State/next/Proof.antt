@@ -25,7 +25,9 @@ moved-requires : tie.Need-moved-requires
 moved-requires c κs = next-moved _ _ (c .before .before .before .before .pre .0) (c .before .before .before .before .pre .1 .0) (c .before .before .before .before .pre .1 .1 .0) (c .before .before .before .before .pre .1 .1 .1 .0)
 
 returns : tie.Need-returns
-returns c = next-result _ _ (c .before .before .before .before .before .before .pre .0) (c .before .before .before .before .before .before .pre .1 .0) (c .before .before .before .before .before .before .pre .1 .1 .0) (c .before .before .before .before .before .before .pre .1 .1 .1 .0) (c .before .moved .ensures) (c .before .before .before .before .before .before .pre .1 .1 .1 .1) (toZ-ofZ (search (needs, c .struct-told .given)))
+returns c =
+    let start = c .before .before .before .before .before .before in
+    next-result _ _ (start .pre .0) (start .pre .1 .0) (start .pre .1 .1 .0) (start .pre .1 .1 .1 .0) (c .before .moved .ensures) (start .pre .1 .1 .1 .1) (toZ-ofZ (search (needs, c .struct-told .given)))
 
 pub next-spec : {M : Type 1} → statement M
 next-spec = tie.close (tie.spec add-k mul-at mul-at-2 add-at moved-requires returns)
