@@ -1,30 +1,6 @@
 // A marked sheet, and calls that are refused before a card is looked at.
 use buffers::between;
-use card::Written;
-
-// What the writer gives back; its length.
-fn print_written(written: Written) -> usize {
-    match written {
-        Written::Refused(n) => {
-            printing::refused(n);
-            0
-        }
-        Written::Filed(a, len) => {
-            printing::answer(a);
-            printing::line(b"bytes", len as u64);
-            len
-        }
-    }
-}
-
-// Writes the card of two files to the first `room` bytes of a buffer.
-fn written(book: &[u8], sheet: &[u8], buffer: &mut [u8], room: usize) -> usize {
-    if buffer.len() < room {
-        return 0;
-    }
-    let start = 0;
-    print_written(card::write_card(book, sheet, &mut buffer[start..room]))
-}
+use card_printing::written;
 
 // Writes to `room` bytes of a buffer of 80 that hold 9, and prints a sum over the whole buffer.
 fn roomed(book: &[u8], sheet: &[u8], room: usize) {

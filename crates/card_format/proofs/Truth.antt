@@ -3,7 +3,6 @@ use mathlib.Core.Path.{_≡_, refl, sym, ap, _∙_}
 use mathlib.Core.Bool.{Bool, true, false, _&&_, not, cond}
 use mathlib.Core.List.{List, [], _∷_}
 use Prim.Native.Nat.{ℕ, zero, suc, _+_, _*_, _-_, _/_, _%_, _≤_, _<_}
-use native.Mathlib.Nat.{le-refl, lt-of-le-of-lt}
 use native.Mathlib.Omega.{arith}
 use borrow.Author.Tests.{eqb-true, eq-eqb, ne-eqb, leb-true, le-leb, ltb-true, lt-ltb}
 use lib.Dec.{eqb, leb, ltb}
@@ -11,22 +10,21 @@ use lib.ListN.{length, getD, take, drop, length-drop}
 use lib.Seq.{length-take-le}
 use Rattle.frank_wolfe.specs.Vectors.{sum}
 use Rattle.files.specs.Bytes.{all-bytes, same, between, length-in-range, trailer, body-offset, body, reaches}
-use Rattle.files.specs.Book.{rows, columns, boats}
+use Rattle.files.specs.Book.{columns, boats}
 use Rattle.files.specs.Sheet.{sheet, files-refusal}
 use Rattle.files.proofs.Refusal.{and-true, between-true}
 use Rattle.files.proofs.Accepted.{files-accepted}
 use Rattle.method.specs.declared.Verdict.{Verdict}
 use Rattle.method.specs.declared.Verdict.the-variants.{Within, Beyond, Spent}
 use Rattle.method.specs.Iterates.{support, distance, gap}
-use Rattle.method.specs.Answers.{verdict-number, stops, answer-at}
-use Rattle.method.specs.Bounds.{mixture-iterate}
-use Rattle.method.proofs.Weights.{weight-most, weight-positive, weight-fits}
-use Rattle.method.proofs.Shares.{Mixed, share-most, shares-mixed}
-use Rattle.method.proofs.Mixtures.{distance-most, gap-most}
-use Rattle.method.proofs.Accepted.{problem, in-range}
+use Rattle.method.specs.Answers.{verdict-number, stops}
+use Rattle.method.specs.Bounds.{answer-of, Answer-bounds}
+use Rattle.method.proofs.Bounds.{answer-bounds}
+use Rattle.method.proofs.Weights.{weight-most, weight-positive}
+use Rattle.method.proofs.Shares.{share-most}
 use Rattle.card_format.specs.Format.{Fields, WCD1, pairs, trailer-bytes, fields, card-fields, card-body, pair-count, card-shares, card-answer}
 use Rattle.card_format.specs.Checks.{back-fits, pairs-in-order, shares-total, numbers-agree, card-refusal}
-use Rattle.card_format.specs.Truth.{answer-of, Card-true}
+use Rattle.card_format.specs.Truth.{Card-true}
 use Rattle.card_format.proofs.Bytes.{drop-bytes}
 use Rattle.card_format.proofs.Pairs.{Parsed, parse, Readable, readable}
 use Rattle.card_format.proofs.Trailer.{same-eq, Fields-fit, length-trailer, letters-written, fields-read, fields-written, file-length, file-trailer, file-body, file-parts}
@@ -211,7 +209,7 @@ support-some (zero ∷ qs) h = omega (arith, support-some qs (omega arith))
 support-some (suc q ∷ qs) h = rw (ne-eqb (suc q) 0 (λ e. omega arith)) (omega arith)
 
 module _ (b s w : List ℕ) (ok : files-refusal b s ≡ 0) (c : Card-true b s w) where
-  pub few-steps : c .own .steps ≤ 360
+  few-steps : c .own .steps ≤ 360
   few-steps = omega (arith, c .most-steps, files-accepted b s ok .1 .most-steps)
 
   count : length (c .shares) ≡ boats b
@@ -223,16 +221,8 @@ module _ (b s w : List ℕ) (ok : files-refusal b s ≡ 0) (c : Card-true b s w)
   reading : Readable 0 (boats b) (support (c .shares)) (pairs 0 (c .shares)) (c .shares)
   reading = readable (c .shares) 0 (boats b) (omega (arith, count)) (omega (arith, files-accepted b s ok .0 .most-boats)) share-fits
 
-  pub own-mixed : Mixed (rows b) (columns b) (c .own .steps) (mixture-iterate (columns b) (c .shares) (rows b))
-  own-mixed = shares-mixed (rows b) (columns b) (c .own .steps) (c .shares) (count ∙ sym (files-accepted b s ok .0 .row-count)) (c .total)
-
-  pub own-distance-fits : answer-of b s (c .shares) (c .own .steps) .distance < 4611686018427387904
-  unfolding answer-at
-  own-distance-fits = lt-of-le-of-lt (distance-most (problem b s ok) (in-range b s ok) own-mixed) (weight-fits few-steps (le-refl 1024000000))
-
-  pub own-gap-fits : answer-of b s (c .shares) (c .own .steps) .gap < 4611686018427387904
-  unfolding answer-at
-  own-gap-fits = lt-of-le-of-lt (gap-most (problem b s ok) (in-range b s ok) own-mixed (weight-positive (c .some-step))) (weight-fits few-steps (le-refl 1024000000))
+  pub own-bounds : Answer-bounds b s (answer-of b s (c .shares) (c .own .steps)) (c .shares)
+  own-bounds = answer-bounds b s ok (c .shares) (c .own .steps) count (c .total) (c .few-boats) (c .some-step) (c .most-steps) (c .stops-here)
 
   own-fits : Fields-fit (c .own)
   own-fits =
@@ -242,8 +232,8 @@ module _ (b s w : List ℕ) (ok : files-refusal b s ≡ 0) (c : Card-true b s w)
         verdict = omega (arith, c .verdict, verdict-between (answer-of b s (c .shares) (c .own .steps) .verdict) .1);
         steps = omega (arith, few-steps);
         tolerance = omega (arith, c .tolerance, files-accepted b s ok .1 .most-tolerance);
-        distance = omega (arith, c .distance, own-distance-fits);
-        gap = omega (arith, c .gap, own-gap-fits);
+        distance = omega (arith, c .distance, own-bounds .distance-fits);
+        gap = omega (arith, c .gap, own-bounds .gap-fits);
         boats = omega (arith, c .boats, book .most-boats);
         columns = omega (arith, c .columns, book .most-columns);
       }

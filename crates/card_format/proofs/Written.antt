@@ -4,30 +4,24 @@ use mathlib.Core.List.{List, _++_}
 use Prim.Native.Nat.{ℕ, _+_, _*_, _≤_, _<_}
 use native.Mathlib.Omega.{arith}
 use lib.ListN.{length, getD, length-append}
-use Rattle.files.specs.Book.{rows, columns, boats}
+use Rattle.files.specs.Book.{columns, boats}
 use Rattle.files.specs.Sheet.{sheet, files-refusal}
 use Rattle.files.proofs.Accepted.{files-accepted}
 use Rattle.method.specs.Iterates.{support}
-use Rattle.method.specs.Answers.{verdict-number, answer-at, steps-used, run-iterate, run-answer}
-use Rattle.method.specs.Bounds.{Run-bounds}
-use Rattle.method.proofs.Shares.{mixed-is, share-most}
+use Rattle.method.specs.Answers.{verdict-number, run-iterate, run-answer}
+use Rattle.method.specs.Bounds.{Answer-bounds}
+use Rattle.method.proofs.Shares.{share-most}
 use Rattle.method.proofs.Weights.{weight-most}
-use Rattle.method.proofs.Accepted.{mixed}
-use Rattle.method.proofs.Bounds.{run-bounds}
+use Rattle.method.proofs.Bounds.{run-is, run-bounds}
 use Rattle.card_format.specs.Format.{pairs, trailer-bytes, answer-fields, card-bytes, run-card}
-use Rattle.card_format.specs.Truth.{answer-of, Card-true, Written-accepted, Written-short}
+use Rattle.card_format.specs.Truth.{Card-true, Written-accepted, Written-short}
 use Rattle.card_format.proofs.Pairs.{readable}
 use Rattle.card_format.proofs.Trailer.{length-trailer}
 use Rattle.card_format.proofs.Truth.{support-most, shares-back, answer-is, true-accepted}
 
 module _ (b s : List ℕ) (ok : files-refusal b s ≡ 0) where
-  bounds : Run-bounds b s (run-answer b s) (run-iterate b s .shares)
-  bounds = run-bounds b s ok
-
-  -- the run's answer is that of its shares
-  run-is : run-answer b s ≡ answer-of b s (run-iterate b s .shares) (run-answer b s .steps)
-  unfolding run-answer run-iterate answer-at
-  run-is = unfold answer-at in ap (answer-at (rows b) (sheet s) (steps-used (rows b) (sheet s) (columns b))) (mixed-is (mixed b s ok (steps-used (rows b) (sheet s) (columns b))))
+  bounds : Answer-bounds b s (run-answer b s) (run-iterate b s .shares)
+  bounds = run-bounds b s ok .answer
 
   share-fits : (j : ℕ) → getD (run-iterate b s .shares) j 0 < 65536
   share-fits j =
@@ -62,16 +56,16 @@ module _ (b s : List ℕ) (ok : files-refusal b s ≡ 0) where
         few-boats = bounds .few-boats;
         some-step = bounds .some-step;
         most-steps = bounds .most-steps;
-        distance = ap (λ a. a .distance) run-is;
-        gap = ap (λ a. a .gap) run-is;
-        verdict = ap (λ a. verdict-number (a .verdict)) run-is;
-        stops-here = rw (← run-is) (bounds .stops-here);
+        distance = ap (λ a. a .distance) (run-is b s ok);
+        gap = ap (λ a. a .gap) (run-is b s ok);
+        verdict = ap (λ a. verdict-number (a .verdict)) (run-is b s ok);
+        stops-here = rw (← run-is b s ok) (bounds .stops-here);
         tolerance = refl;
       }
 
 pub written-short : Written-short
 unfolding Written-short
-written-short b s ok = omega (arith, run-card-length b s ok, support-most (run-iterate b s .shares), run-bounds b s ok .share-count, files-accepted b s ok .0 .most-boats)
+written-short b s ok = omega (arith, run-card-length b s ok, support-most (run-iterate b s .shares), run-bounds b s ok .answer .share-count, files-accepted b s ok .0 .most-boats)
 
 pub written-accepted : Written-accepted
 unfolding Written-accepted run-card-true

@@ -2,25 +2,20 @@
 use mathlib.Core.Path.{_≡_}
 use mathlib.Core.Bool.{true}
 use mathlib.Core.List.{List, _++_}
-use Prim.Native.Nat.{ℕ, _+_, _*_, _≤_, _<_}
+use Prim.Native.Nat.{ℕ, _+_, _≤_, _<_}
 use lib.ListN.{length}
-use lib.IntN.{ℤ, pos, natAbs, _-ℤ_}
+use lib.IntN.{ℤ, pos, natAbs}
 use lib.Signed.{_≤ℤ_}
 use Rattle.frank_wolfe.specs.Vectors.{subtract, scale, sum, combination}
 use Rattle.files.specs.Bytes.{all-bytes}
 use Rattle.files.specs.Book.{rows, columns, boats}
 use Rattle.files.specs.Sheet.{sheet, files-refusal}
-use Rattle.method.specs.declared.Verdict.the-variants.{Within, Beyond, Spent}
 use Rattle.method.specs.declared.Answer.{Answer}
-use Rattle.method.specs.Iterates.{weight, gaps, maximum, signed-gap, mixture-distance, support}
-use Rattle.method.specs.Answers.{verdict-number, stops, answer-at, run-answer, run-iterate}
-use Rattle.method.specs.Bounds.{mixture-iterate}
+use Rattle.method.specs.Iterates.{weight, gaps, maximum, mixture-distance, support}
+use Rattle.method.specs.Answers.{verdict-number, stops, run-answer, run-iterate}
+use Rattle.method.specs.Bounds.{answer-of, Answer-bounds}
 use Rattle.card_format.specs.Format.{Fields, pairs, trailer-bytes, card-fields, card-shares, card-answer, run-card}
 use Rattle.card_format.specs.Checks.{card-refusal}
-
--- the answer of shares qs, one a boat, after t steps: E and G are theirs, the verdict is judged in its order at the sheet's tolerance
-abbrev pub answer-of : (book sheet shares : List ℕ) → (t : ℕ) → Answer
-answer-of b s qs t = answer-at (rows b) (sheet s) t (mixture-iterate (columns b) qs (rows b))
 
 -- the card w is well formed, and true of its book b and sheet s
 pub record Card-true (b s w : List ℕ) : Type 0 where
@@ -47,8 +42,7 @@ pub record Card-true (b s w : List ℕ) : Type 0 where
   pub stops-here : stops (sheet s .steps) (own .steps) (answer-of b s shares (own .steps) .verdict) ≡ true
   pub tolerance : own .tolerance ≡ sheet s .tolerance
 
--- ---- What an accepted card vouches for: a is the answer given back for it, `shares` its shares.
--- E, G, W, t are the answer's; a mixture is any list of shares, one a boat, of a total N above 0; Q is N² times its squared distance.
+-- ---- What an accepted card vouches for: a is the answer given back for it, `shares` its shares. The bound by steps is a run's alone.
 pub record Card-vouches (b s w : List ℕ) (a : Answer) (shares : List ℕ) : Type 0 where
   -- the file is a true card of these shares
   pub is-true : Card-true b s w
@@ -59,38 +53,8 @@ pub record Card-vouches (b s w : List ℕ) (a : Answer) (shares : List ℕ) : Ty
   pub own-gap : a .gap ≡ card-fields w .gap
   pub own-verdict : verdict-number (a .verdict) ≡ card-fields w .verdict
   pub own-tolerance : sheet s .tolerance ≡ card-fields w .tolerance
-  -- ---- Shares and steps
-  pub share-count : length shares ≡ boats b
-  pub total : sum shares ≡ weight (a .steps)
-  pub weight : a .weight ≡ weight (a .steps)
-  pub few-boats : support shares ≤ a .steps
-  pub some-step : 1 ≤ a .steps
-  pub most-steps : a .steps ≤ sheet s .steps
-  pub stops-here : stops (sheet s .steps) (a .steps) (a .verdict) ≡ true
-  -- ---- The numbers of these shares
-  pub distance-is : a .distance ≡ mixture-distance (columns b) (sheet s .target) shares (rows b)
-  -- the gap as an integer is not below 0
-  pub gap-is : signed-gap (rows b) (sheet s .target) (a .steps) (mixture-iterate (columns b) shares (rows b)) ≡ pos (a .gap)
-  -- every mixture's squared distance is at least the card's less twice its gap
-  pub gap-bound : (qs : List ℕ) → length qs ≡ boats b → 1 ≤ sum qs →
-      a .distance * (sum qs * sum qs) ≤ mixture-distance (columns b) (sheet s .target) qs (rows b) * (a .weight * a .weight) + 2 * a .gap * (sum qs * sum qs)
-  -- ---- The verdicts
-  -- Within: the squared distance is at most the tolerance
-  pub within : a .verdict ≡ Within → a .distance ≤ sheet s .tolerance * (a .weight * a .weight)
-  -- Beyond: every mixture's squared distance is above the tolerance; E - 2 G is above tolerance × W², and is the floor
-  pub beyond : (floor : ℤ) → a .verdict ≡ Beyond floor → (qs : List ℕ) → length qs ≡ boats b → 1 ≤ sum qs →
-      sheet s .tolerance * (sum qs * sum qs) < mixture-distance (columns b) (sheet s .target) qs (rows b)
-  pub beyond-above : (floor : ℤ) → a .verdict ≡ Beyond floor → sheet s .tolerance * (a .weight * a .weight) + 2 * a .gap < a .distance
-  pub beyond-floor : (floor : ℤ) → a .verdict ≡ Beyond floor → floor ≡ pos (a .distance) -ℤ pos (2 * a .gap)
-  -- Spent: neither of them at the sheet's last step, and the shortfall is what E is above tolerance × W²
-  pub spent-above : (shortfall : ℕ) → a .verdict ≡ Spent shortfall → sheet s .tolerance * (a .weight * a .weight) < a .distance
-  pub spent-undecided : (shortfall : ℕ) → a .verdict ≡ Spent shortfall → a .distance ≤ sheet s .tolerance * (a .weight * a .weight) + 2 * a .gap
-  pub spent-last : (shortfall : ℕ) → a .verdict ≡ Spent shortfall → a .steps ≡ sheet s .steps
-  pub spent-shortfall : (shortfall : ℕ) → a .verdict ≡ Spent shortfall → shortfall + sheet s .tolerance * (a .weight * a .weight) ≡ a .distance
-  -- ---- Bits: E, G and tolerance × W² are below 2^62
-  pub distance-fits : a .distance < 4611686018427387904
-  pub gap-fits : a .gap < 4611686018427387904
-  pub limit-fits : sheet s .tolerance * (a .weight * a .weight) < 4611686018427387904
+  -- which with the shares keeps what is promised of an answer
+  pub answer : Answer-bounds b s a shares
 
 -- ---- The statements
 

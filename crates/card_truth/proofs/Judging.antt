@@ -21,7 +21,7 @@ use Rattle.iteration.specs.States.{file-layout}
 use Rattle.iteration.proofs.States.{book-fits, sheet-fits}
 use Rattle.card_format.specs.Format.{WCD1, card-fields, card-body, pair-count, card-shares, card-answer}
 use Rattle.card_format.specs.Checks.{back-fits, pairs-in-order, shares-total, numbers-agree}
-use Rattle.card_format.specs.Truth.{answer-of}
+use Rattle.method.specs.Bounds.{answer-of}
 use Rattle.card_format.proofs.Truth.{passed, Back-fits, back-means}
 use Rattle.card_input.specs.Forms.{counts-agree, steps-fit, form-refusal}
 use Rattle.card_input.proofs.Reading.{tolerance-at}

@@ -21,7 +21,7 @@ use Rattle.method.specs.declared.Answer.{Answer}
 use Rattle.method.specs.Iterates as M
 use Rattle.method.specs.Iterates.{Iterate, residual, distance, gap, natural, weight, argmin, row}
 use Rattle.method.specs.Answers.{answer-at}
-use Rattle.method.specs.Bounds.{mixture-iterate}
+use Rattle.method.specs.Bounds.{mixture-iterate, answer-of}
 use Rattle.method.specs.Minimum.{minimum}
 use Rattle.method.proofs.Weights.{weight-positive, weight-most, weight-fits}
 use Rattle.method.proofs.Argmin.{argmin-at, argmin-below, among-row, least-score}
@@ -35,7 +35,6 @@ use Rattle.iteration.specs.declared.Layout.{Layout}
 use Rattle.iteration.specs.States.{file-layout}
 use Rattle.iteration.specs.Measures.{gap-by, measure, Measurable}
 use Rattle.iteration.proofs.States.{book-fits, sheet-fits, target-span, target-is, grid, bounded-front}
-use Rattle.card_format.specs.Truth.{answer-of}
 
 zero-≤ : (n : ℕ) → 0 ≤ n
 zero-≤ n = omega arith

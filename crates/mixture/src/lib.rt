@@ -10,7 +10,7 @@ ghost use Rattle.files.specs.Sheet.{files-refusal};
 ghost use Rattle.files.specs.Sheet as Sheets;
 ghost use Rattle.method.specs.Iterates.{weight};
 ghost use Rattle.iteration.specs.States.{file-layout};
-ghost use Rattle.card_format.specs.Truth.{answer-of};
+ghost use Rattle.method.specs.Bounds.{answer-of};
 use iteration::Layout;
 use method::Answer;
 

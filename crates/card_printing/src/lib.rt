@@ -1,0 +1,26 @@
+// For the test programs: a card written, and what the writer gives back printed.
+use card::Written;
+
+// What the writer gives back; its length.
+fn print_written(written: Written) -> usize {
+    match written {
+        Written::Refused(n) => {
+            printing::refused(n);
+            0
+        }
+        Written::Filed(a, len) => {
+            printing::answer(a);
+            printing::line(b"bytes", len as u64);
+            len
+        }
+    }
+}
+
+// Writes the card of two files to the first `room` bytes of a buffer, prints what the writer gives back, and gives back its length.
+pub fn written(book: &[u8], sheet: &[u8], buffer: &mut [u8], room: usize) -> usize {
+    if buffer.len() < room {
+        return 0;
+    }
+    let start = 0;
+    print_written(card::write_card(book, sheet, &mut buffer[start..room]))
+}
