@@ -1,5 +1,6 @@
-// Drawn fleet books and sheets, small ones and two of full size, searched and listed.
+// Drawn fleet books and sheets, small ones and two of full size, one of these with the most steps, searched and listed.
 // The expected output is made by tests/expected/random_test.py.
+use iteration::State;
 use method::Answer;
 use method::Searched;
 use samples::Plan;
@@ -103,5 +104,5 @@ fn main() {
         number += 1;
     }
     one(&mut seed, number, full(40));
-    one(&mut seed, number + 1, full(360));
+    one(&mut seed, number + 1, full(State::MOST_STEPS as u64));
 }
