@@ -24,7 +24,7 @@ use Rattle.iteration.specs.declared.Layout.{Layout}
 use Rattle.iteration.specs.declared.State.{State}
 use Rattle.iteration.specs.States.{file-layout, iterate-of, scores-of, boat-products, fresh-state, Holds}
 use Rattle.iteration.proofs.States.{book-fits, sheet-fits, best-below, rescorable, fresh-holds, next-shares, next-scores, scores-zero}
-use Rattle.runs.specs.Runs.{Going, Shares-at, Scores-at, Products, Remembered}
+use Rattle.runs.specs.Runs.{Going, Shares-at, Scores-at, Products, Remembered, Memory, memory-of, remembering, memory-after}
 use Rattle.runs.proofs.Runs.{going-start}
 use Rattle.runs.proofs.Memory.{remembers-nothing}
 
@@ -122,12 +122,22 @@ module _ (b s : List ℕ) (ok : files-refusal b s ≡ 0) where
     pub pick-next : {p : Least} → p ≡ least-of (add (take (l .boats) sc) (scale (x .steps + 1) (take (l .boats) ps))) → p ≡ least-of (scores-of b s (x .steps + 1))
     pick-next f = f ∙ ap least-of moved-scores
 
-    pub scores-next : {new : List ℤ} → new ≡ add (take (l .boats) sc) (scale (x .steps + 1) (take (l .boats) ps)) ++ drop (l .boats) sc → Scores-at b s (suc (x .steps)) new
-    unfolding file-layout direction
-    scores-next {new} f =
-        let g : new ≡ scores-of b s (suc (x .steps)) ++ drop (boats b) sc = f ∙ rw (moved-scores, e, add-one) in
-        let n : length (scores-of b s (suc (x .steps))) ≡ boats b = length-scores _ (rows b) ∙ book-fits b s ok .row-count in
-        record { room = rw (g, length-append, n) (omega arith); are = ap (take (boats b)) g ∙ take-at (scores-of b s (suc (x .steps))) (drop (boats b) sc) (boats b) n }
+    module _ {new : List ℤ} (f : new ≡ add (take (l .boats) sc) (scale (x .steps + 1) (take (l .boats) ps)) ++ drop (l .boats) sc) where
+      -- every slot of the scores
+      pub scores-whole : new ≡ scores-of b s (suc (x .steps)) ++ drop (boats b) sc
+      unfolding file-layout
+      scores-whole = f ∙ rw (moved-scores, e, add-one)
+
+      n : length (scores-of b s (suc (x .steps))) ≡ boats b
+      n = length-scores _ (rows b) ∙ book-fits b s ok .row-count
+
+      pub scores-behind : drop (boats b) new ≡ drop (boats b) sc
+      scores-behind = ap (drop (boats b)) scores-whole ∙ drop-at (scores-of b s (suc (x .steps))) (drop (boats b) sc) (boats b) n
+
+      pub scores-next : Scores-at b s (suc (x .steps)) new
+      unfolding direction
+      scores-next =
+          record { room = rw (scores-whole, length-append, n) (omega arith); are = ap (take (boats b)) scores-whole ∙ take-at (scores-of b s (suc (x .steps))) (drop (boats b) sc) (boats b) n }
 
   -- ---- The first step
 
@@ -162,19 +172,24 @@ pub record Kept (b s : List ℕ) (x : State) (shares₀ shares : List ℕ) (scor
   pub shared : Shared b s (x .steps) shares (drop (boats b) shares₀)
   pub scored : Scores-at b s (x .steps) scores
   pub scores-long : length scores ≡ length scores₀
+  pub scores-rest : drop (boats b) scores ≡ drop (boats b) scores₀
   pub remembered : Remembered b s tags memory
   pub memory-long : length memory ≡ length memory₀
+  pub memory-is : memory-of tags memory ≡ memory-after b s (x .steps) memory₀
 
 pub kept-start : (b s : List ℕ) → files-refusal b s ≡ 0 → {x : State} → Holds b s 0 x → {shares : List ℕ} → Shares-at b s 0 shares → {scores : List ℤ} → Scores-at b s 0 scores →
     {memory : List ℤ} → 64 * boats b ≤ length memory → Kept b s x shares shares scores scores (replicate 64 0) memory memory
+unfolding memory-after
 kept-start b s ok {x} H {shares} q {scores} S room =
     record {
       going = going-start b s ok H;
       shared = rw (H .steps-are) (shares-before b s ok q);
       scored = rw (H .steps-are) S;
       scores-long = refl;
+      scores-rest = refl;
       remembered = remembers-nothing b s room;
       memory-long = refl;
+      memory-is = rw (H .steps-are);
     }
 
 pub shared-end : {b s : List ℕ} {t : ℕ} {qs z : List ℕ} → Shared b s t qs z → {rs : List ℕ} → iterate-of b s t .shares ≡ rs → qs ≡ rs ++ z
@@ -200,6 +215,23 @@ module _ (b s : List ℕ) (ok : files-refusal b s ≡ 0) {x : State} {shares₀ 
     pub shares-here : {qs : List ℕ} → qs ≡ set shares (x .best) (getD shares (x .best) 0 + (x .steps + 1)) → Shared b s n qs (drop (boats b) shares₀)
     shares-here f = rw one-more (shares-next b s ok (K .going .held) few-here (K .shared) (rw add-one at f))
 
-    pub scores-here : {l : Layout} → l ≡ file-layout b s → {ps : List ℤ} → Products b s (x .best) ps →
-        {new : List ℤ} → new ≡ add (take (l .boats) scores) (scale (x .steps + 1) (take (l .boats) ps)) ++ drop (l .boats) scores → Scores-at b s n new
-    scores-here g P f = rw one-more (scores-next b s ok g (K .going .held) few-here (K .scored) P f)
+    module _ {l : Layout} (g : l ≡ file-layout b s) {ps : List ℤ} (P : Products b s (x .best) ps)
+        {new : List ℤ} (f : new ≡ add (take (l .boats) scores) (scale (x .steps + 1) (take (l .boats) ps)) ++ drop (l .boats) scores) where
+      pub scores-here : Scores-at b s n new
+      scores-here = rw one-more (scores-next b s ok g (K .going .held) few-here (K .scored) P f)
+
+      pub rest-here : drop (boats b) new ≡ drop (boats b) scores₀
+      rest-here = scores-behind b s ok g (K .going .held) few-here (K .scored) P f ∙ K .scores-rest
+
+      pub scores-end : {k : ℕ} → n ≡ k → new ≡ scores-of b s k ++ drop (boats b) scores₀
+      scores-end q =
+          scores-whole b s ok g (K .going .held) few-here (K .scored) P f
+          ∙ ap (λ (z : List ℤ). scores-of b s (suc (x .steps)) ++ z) (K .scores-rest) ∙ ap (λ (t : ℕ). scores-of b s t ++ drop (boats b) scores₀) (sym one-more ∙ q)
+
+    module _ {ts : List ℕ} {ms : List ℤ} (f : memory-of ts ms ≡ remembering b s (x .best) (memory-of tags memory)) where
+      pub memory-here : memory-of ts ms ≡ memory-after b s n memory₀
+      unfolding memory-after
+      memory-here = f ∙ rw (K .memory-is, K .going .held .best-is, one-more)
+
+      pub memory-end : {k : ℕ} → n ≡ k → ms ≡ memory-after b s k memory₀ .products
+      memory-end q = ap (λ (m : Memory). m .products) memory-here ∙ ap (λ (t : ℕ). memory-after b s t memory₀ .products) q

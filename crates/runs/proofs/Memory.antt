@@ -6,7 +6,7 @@ use Prim.Native.Nat.{ℕ, zero, suc, _+_, _*_, _-_, _%_, _≤_, _<_}
 use native.Mathlib.Nat.{suc-mul, mul-le-mul-right}
 use native.Mathlib.Omega.{arith}
 use native.Mathlib.Numerals.{add-one}
-use borrow.Author.Tests.{ltb-true, ltb-false}
+use borrow.Author.Tests.{ltb-true, ltb-false, eq-eqb, ne-eqb}
 use lib.Dec.{ltb}
 use lib.IntN.{ℤ}
 use lib.ListN.{length, getD, set, take, drop, replicate, length-drop, length-set, take-append-drop}
@@ -19,7 +19,7 @@ use Rattle.files.specs.Sheet.{files-refusal}
 use Rattle.iteration.specs.declared.Layout.{Layout}
 use Rattle.iteration.specs.States.{file-layout, boat-products}
 use Rattle.iteration.proofs.States.{book-fits, product-count}
-use Rattle.runs.specs.Runs.{Products, Remembered}
+use Rattle.runs.specs.Runs.{Products, Remembered, memory-of, remembering}
 
 -- ---- A part of a list in which another part was replaced
 
@@ -67,8 +67,13 @@ module _ (b s : List ℕ) (ok : files-refusal b s ≡ 0) {tags : List ℕ} {memo
   pub tag-fits : Fits w16 (i + 1)
   tag-fits = record { fits = omega (arith, book-fits b s ok .most-boats) }
 
-  pub kept : getD tags (i % 64) 0 ≡ i + 1 → Remembered b s tags memory × Products b s i (drop (i % 64 * boats b) memory)
-  kept e = (R, R .products (i % 64) i slot-below (e ∙ add-one i))
+  -- what is known once the boat's products are in its slot
+  abbrev pub Knows : (tags : List ℕ) → (memory : List ℤ) → Type 0
+  Knows ts ps = Remembered b s ts ps × (Products b s i (drop (i % 64 * boats b) ps) × (memory-of ts ps ≡ remembering b s i (memory-of tags memory)))
+
+  pub kept : getD tags (i % 64) 0 ≡ i + 1 → Knows tags memory
+  unfolding remembering
+  kept e = (R, (R .products (i % 64) i slot-below (e ∙ add-one i), rw (eq-eqb _ _ e)))
 
   pub slot-fits : {l : Layout} → l ≡ file-layout b s → Fits w64 (i % 64 * l .boats)
   unfolding file-layout
@@ -160,10 +165,12 @@ module _ (b s : List ℕ) (ok : files-refusal b s ≡ 0) {tags : List ℕ} {memo
       ∙ sym (append-assoc (take at memory) (take (boats b) (boat-products b s i)) (drop (at + boats b) memory)))
 
   pub learnt : {l : Layout} → l ≡ file-layout b s → {part : List ℤ} → part ≡ boat-products b s i ++ drop (boats b) (take (length memory - i % 64 * l .boats) (drop (i % 64 * l .boats) memory)) →
-      Remembered b s (set tags (i % 64) (i + 1)) (putMid (i % 64 * l .boats) (length memory - i % 64 * l .boats) memory part)
-      × Products b s i (drop (i % 64 * boats b) (putMid (i % 64 * l .boats) (length memory - i % 64 * l .boats) memory part))
-  unfolding file-layout
-  learnt e ep = rw e (known (put-back (rw e at ep)))
+      (getD tags (i % 64) 0 ≡ i + 1 → ⊥) → Knows (set tags (i % 64) (i + 1)) (putMid (i % 64 * l .boats) (length memory - i % 64 * l .boats) memory part)
+  unfolding file-layout remembering
+  learnt e ep ne =
+      let q = put-back (rw e at ep) in
+      let k = known q in
+      rw e (k .0, (k .1, rw (ne-eqb _ _ ne, q)))
 
 -- nothing is remembered at first
 zeros : (n j : ℕ) → _≡_ {A = ℕ} (getD (replicate n 0) j 0) 0

@@ -94,8 +94,8 @@ module _ (b s : List ℕ) (ok : files-refusal b s ≡ 0) where
               undecided = rw p (running-more running (g .left) (sym stopped-is ∙ f) .decides);
             }
 
-        pub going-done : d ≡ true → (a ≡ run-answer b s) × (iterate-of b s (y .steps) .shares ≡ run-iterate b s .shares)
-        unfolding iterate
+        pub going-done : d ≡ true → (a ≡ run-answer b s) × ((iterate-of b s (y .steps) .shares ≡ run-iterate b s .shares) × (y .steps ≡ run-answer b s .steps))
+        unfolding iterate answer-at
         going-done f =
             let d = running-done running (g .left) (sym stopped-is ∙ f) in
-            (answer-is ∙ finished-answer b s d, rw (next-held .steps-are) (ap (λ z. z .shares) (finished-iterate b s d)))
+            (answer-is ∙ finished-answer b s d, (rw (next-held .steps-are) (ap (λ z. z .shares) (finished-iterate b s d)), next-held .steps-are ∙ ap (λ (z : Answer). z .steps) (finished-answer b s d)))

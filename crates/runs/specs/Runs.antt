@@ -1,15 +1,18 @@
 -- What a run keeps from step to step: the shares, the scores and the memory of products. Assumes nothing.
 use mathlib.Core.Path.{_≡_}
+use mathlib.Core.Bool.{cond}
 use mathlib.Core.List.{List}
-use Prim.Native.Nat.{ℕ, suc, _*_, _-_, _≤_, _<_}
-use lib.ListN.{length, getD, take, drop}
+use Prim.Native.Nat.{ℕ, zero, suc, _+_, _*_, _-_, _%_, _≤_, _<_}
+use lib.Dec.{eqb}
+use lib.ListN.{length, getD, set, take, drop, replicate}
+use lib.Seq.{paste}
 use lib.IntN.{ℤ}
 use Rattle.files.specs.Book.{boats, columns, rows}
 use Rattle.files.specs.Sheet.{sheet}
-use Rattle.method.specs.Iterates.{scores, residual}
+use Rattle.method.specs.Iterates.{scores, residual, argmin}
 use Rattle.method.specs.Answers.{steps-from, steps-used}
 use Rattle.iteration.specs.declared.State.{State}
-use Rattle.iteration.specs.States.{iterate-of, boat-products, Holds}
+use Rattle.iteration.specs.States.{iterate-of, scores-of, boat-products, Holds}
 
 -- the state holds an iterate that did not stop the run, and steps are left
 pub record Going (b s : List ℕ) (x : State) : Type 0 where
@@ -37,3 +40,24 @@ pub record Remembered (b s tags : List ℕ) (memory : List ℤ) : Type 0 where
   pub slots : length tags ≡ 64
   pub room : 64 * boats b ≤ length memory
   pub products : (j i : ℕ) → j < 64 → getD tags j 0 ≡ suc i → Products b s i (drop (j * boats b) memory)
+
+-- ---- The memory of products by equations
+
+-- 64 slots for the products of a boat, and for each slot its tag: the boat, counted from 1, or 0 for none
+pub record Memory : Type 0 where
+  pub tags : List ℕ
+  pub products : List ℤ
+
+abbrev pub memory-of : (tags : List ℕ) → (products : List ℤ) → Memory
+memory-of ts ps = record { tags = ts; products = ps }
+
+-- with a boat's products in its slot, as it was where they are there
+unfoldable pub remembering : (b s : List ℕ) → (boat : ℕ) → Memory → Memory
+remembering b s i m =
+    cond (eqb (getD (m .tags) (i % 64) 0) (i + 1)) m
+    (memory-of (set (m .tags) (i % 64) (i + 1)) (paste (m .products) (i % 64 * boats b) (boat-products b s i) (boats b)))
+
+-- after t steps of a run that starts with these numbers and no boat in a slot
+unfoldable pub memory-after : (b s : List ℕ) → (t : ℕ) → (products : List ℤ) → Memory
+memory-after b s zero ps = memory-of (replicate 64 0) ps
+memory-after b s (suc t) ps = remembering b s (argmin (scores-of b s t)) (memory-after b s t ps)

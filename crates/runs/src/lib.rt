@@ -8,8 +8,8 @@ ghost use lib.ListN.{length, getD, set, drop};
 ghost use Rattle.method.specs.Answers.{run-answer, run-iterate};
 ghost use Rattle.files.specs.Book.{boats};
 ghost use Rattle.files.specs.Sheet.{files-refusal};
-ghost use Rattle.iteration.specs.States.{file-layout, Holds};
-ghost use Rattle.runs.specs.Runs.{Shares-at, Scores-at, Products, Remembered};
+ghost use Rattle.iteration.specs.States.{file-layout, scores-of, Holds};
+ghost use Rattle.runs.specs.Runs.{Shares-at, Scores-at, Products, Remembered, memory-of, remembering, memory-after};
 use iteration::Layout;
 use iteration::State;
 use method::Answer;
@@ -37,6 +37,7 @@ fn remember(
     requires { ⌜ Remembered (now book) (now sheet) (now tags) (now memory) ⌝ }
     ensures { λ _. ⌜ Remembered (now (book .entry)) (now (sheet .entry)) (now (tags .exit)) (now (memory .exit)) ⌝ }
     ensures { λ _. ⌜ Products (now (book .entry)) (now (sheet .entry)) boat (drop (boat % 64 * boats (now (book .entry))) (now (memory .exit))) ⌝ }
+    ensures { λ _. ⌜ memory-of (now (tags .exit)) (now (memory .exit)) ≡ remembering (now (book .entry)) (now (sheet .entry)) boat (memory-of (now (tags .entry)) (now (memory .entry))) ⌝ }
 {
     let slot = boat % 64;
     let tag = (boat + 1) as u16;
@@ -48,7 +49,7 @@ fn remember(
 }
 
 // A run from its fresh state, with the shares and scores of no step in the first slots; the memory has room for 64 boats' products.
-// What it leaves in `scores` and `memory` is not promised: both serve this run alone, and its caller drops them.
+// It leaves the shares of its last step, the scores after it, and the products of the boats that it picked.
 pub fn run_from(
     start: State,
     book: &[u8],
@@ -66,6 +67,8 @@ pub fn run_from(
     requires { ⌜ 64 * boats (now book) ≤ length (now memory) ⌝ }
     ensures { λ r. ⌜ r ≡ run-answer (now (book .entry)) (now (sheet .entry)) ⌝ }
     ensures { λ _. ⌜ now (shares .exit) ≡ run-iterate (now (book .entry)) (now (sheet .entry)) .shares ++ drop (boats (now (book .entry))) (now (shares .entry)) ⌝ }
+    ensures { λ _. ⌜ now (scores .exit) ≡ scores-of (now (book .entry)) (now (sheet .entry)) (run-answer (now (book .entry)) (now (sheet .entry)) .steps) ++ drop (boats (now (book .entry))) (now (scores .entry)) ⌝ }
+    ensures { λ _. ⌜ now (memory .exit) ≡ memory-after (now (book .entry)) (now (sheet .entry)) (run-answer (now (book .entry)) (now (sheet .entry)) .steps) (now (memory .entry)) .products ⌝ }
 {
     let steps = files::steps(sheet);
     let boats = layout.boats;

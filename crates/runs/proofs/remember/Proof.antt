@@ -62,7 +62,7 @@ same-length-2 c = search needs
 returns : tie.Need-returns
 returns c =
     let start = c .before .before .before .before .before .before .before .before .before in
-    learnt _ _ (start .pre .0) (start .pre .1 .1 .1) (start .pre .1 .1 .0) (start .pre .1 .0) (c .before .products-of .ensures)
+    learnt _ _ (start .pre .0) (start .pre .1 .1 .1) (start .pre .1 .1 .0) (start .pre .1 .0) (c .before .products-of .ensures) (c .before .before .before .before .if1 .taken)
 
 returns-2 : tie.Need-returns-2
 returns-2 c = kept _ _ (c .before .before .before .before .before .pre .0) (c .before .before .before .before .before .pre .1 .1 .1) (c .before .before .before .before .before .pre .1 .1 .0) (c .if1 .left)

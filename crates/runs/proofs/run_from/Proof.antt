@@ -5,7 +5,7 @@ use native.Mathlib.Omega.{arith}
 use borrow.Author.Needs.{needs}
 use Rattle.iteration.proofs.States.{sheet-fits}
 use Rattle.runs.proofs.Runs.{next-answerable, going-more, going-done}
-use Rattle.runs.proofs.Keeping.{Kept, kept-start, few-here, best-here, room-here, shares-here, shared-end, shared-long, rescorable-here, pick-next, scores-here}
+use Rattle.runs.proofs.Keeping.{Kept, kept-start, few-here, best-here, room-here, shares-here, shared-end, shared-long, rescorable-here, pick-next, scores-here, rest-here, scores-end, memory-here, memory-end}
 use Rattle.runs.proofs.Memory.{slot-fits, slot-bytes-fit, slot-starts, slot-part}
 use Rattle.runs.proofs.run_from.Statement.{statement}
 use Rattle.runs.proofs.run_from.Tie as tie
@@ -86,14 +86,14 @@ rescored-requires c κs =
     let ok = start .pre .0 in
     let l = start .pre .1 .0 in
     let k = at-loop .loop .inv in
-    rescorable-here _ _ ok l (k .going .held) (few-here _ _ ok k) (k .scored) (slot-part _ _ ok (at-remember .remember .ensures .0) (best-here _ _ ok k) l (at-remember .remember .ensures .1))
+    rescorable-here _ _ ok l (k .going .held) (few-here _ _ ok k) (k .scored) (slot-part _ _ ok (at-remember .remember .ensures .0) (best-here _ _ ok k) l (at-remember .remember .ensures .1 .0))
 
 next-requires : tie.Need-next-requires Inv-loop μ-loop
 next-requires c κs =
     let ok = c .before .before .before .before .before .before .before .before .before .before .before .before .before .before .before .before .before .before .before .before .pre .0 in
     let l = c .before .before .before .before .before .before .before .before .before .before .before .before .before .before .before .before .before .before .before .before .pre .1 .0 in
     let k = c .before .before .before .before .before .before .before .before .before .before .before .before .before .before .before .loop .inv in
-    let p = slot-part _ _ ok (c .before .before .before .before .before .before .before .remember .ensures .0) (best-here _ _ ok k) l (c .before .before .before .before .before .before .before .remember .ensures .1) in
+    let p = slot-part _ _ ok (c .before .before .before .before .before .before .before .remember .ensures .0) (best-here _ _ ok k) l (c .before .before .before .before .before .before .before .remember .ensures .1 .0) in
     (ok, (l, (k .going .held, (few-here _ _ ok k, pick-next _ _ ok l (k .going .held) (few-here _ _ ok k) (k .scored) p (c .before .rescored .ensures .0)))))
 
 answer-requires : tie.Need-answer-requires Inv-loop μ-loop
@@ -127,15 +127,19 @@ same-length-3 c =
 returns : tie.Need-returns Inv-loop μ-loop
 returns c =
     let at-next = c .before .before .before in
-    let at-add-shares = at-next .before .before .before .before .before .before .before .before .before .before .before .before .before in
+    let at-rescored = at-next .before .before in
+    let at-remember = at-rescored .before .before .before .before .before .before in
+    let at-add-shares = at-remember .before .before .before .before .before in
     let at-loop = at-add-shares .before .before .before in
     let at-steps = at-loop .before in
     let start = at-steps .before .before .before .before in
     let ok = start .pre .0 in
     let k = at-loop .loop .inv in
     let e = at-next .next .ensures .steps-are in
-    let d = going-done _ _ ok (k .going) (at-next .next .ensures) (start .pre .1 .0) (c .before .before .answer .ensures) (at-steps .steps .ensures) (c .before .stops .ensures) (c .if1 .taken) in
-    (d .0, shared-end (shares-here _ _ ok k e (at-add-shares .add-shares .ensures)) (d .1))
+    let l = start .pre .1 .0 in
+    let p = slot-part _ _ ok (at-remember .remember .ensures .0) (best-here _ _ ok k) l (at-remember .remember .ensures .1 .0) in
+    let d = going-done _ _ ok (k .going) (at-next .next .ensures) l (c .before .before .answer .ensures) (at-steps .steps .ensures) (c .before .stops .ensures) (c .if1 .taken) in
+    (d .0, (shared-end (shares-here _ _ ok k e (at-add-shares .add-shares .ensures)) (d .1 .0), (scores-end _ _ ok k e l p (at-rescored .rescored .ensures .1) (d .1 .1), memory-end _ _ ok k e (at-remember .remember .ensures .1 .1) (d .1 .1))))
 
 loop-less : tie.Need-loop-less Inv-loop μ-loop
 loop-less c =
@@ -156,13 +160,15 @@ loop-again c =
     let l = start .pre .1 .0 in
     let k = at-loop .loop .inv in
     let e = at-next .next .ensures .steps-are in
-    let p = slot-part _ _ ok (at-remember .remember .ensures .0) (best-here _ _ ok k) l (at-remember .remember .ensures .1) in
+    let p = slot-part _ _ ok (at-remember .remember .ensures .0) (best-here _ _ ok k) l (at-remember .remember .ensures .1 .0) in
     record {
       going = going-more _ _ ok (k .going) (at-next .next .ensures) l (c .before .before .answer .ensures) (at-steps .steps .ensures) (c .before .stops .ensures) (c .if1 .left);
       shared = shares-here _ _ ok k e (at-add-shares .add-shares .ensures);
       scored = scores-here _ _ ok k e l p (at-rescored .rescored .ensures .1);
+      scores-rest = rest-here _ _ ok k e l p (at-rescored .rescored .ensures .1);
       scores-long = search (needs, at-rescored .rescored .ok, at-loop .loop .inv .scores-long);
       remembered = at-remember .remember .ensures .0;
+      memory-is = memory-here _ _ ok k e (at-remember .remember .ensures .1 .1);
       memory-long = search (needs, at-remember .remember .kept .1 .1 .1 .1 .1 .0, at-loop .loop .inv .memory-long);
     }
 
