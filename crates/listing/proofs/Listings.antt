@@ -24,7 +24,7 @@ verdict-added v m n e h p = (rw e (p .0), omega (arith, p .1))
 
 pub no-boat-added : {t : Text} (boat share : ℕ) → t .len + 47 ≤ 4096 → share ≡ 0 → Adds t (boat-line boat share) t × (t .len ≤ t .len + 15)
 unfolding boat-line
-no-boat-added {t} i q h e = (rw e (record { fits = omega arith; length-is = sym (add-zero (t .len)); bytes-are = sym (append-nil _) }), omega arith)
+no-boat-added {t} i q h e = (rw e (record { fits = omega arith; length-is = sym (add-zero (t .len)); bytes-are = sym (append-nil _); rest = refl }), omega arith)
 
 boat-length : (i q : ℕ) → i < 256 → q < 65536 → length (pair-line boat-word i q) ≤ 15
 unfolding pair-line
@@ -59,7 +59,7 @@ boats-start {t} f r l =
       few = f;
       long = l;
       room = omega arith;
-      added = record { fits = omega arith; length-is = sym (add-zero (t .len)); bytes-are = sym (append-nil _) };
+      added = record { fits = omega arith; length-is = sym (add-zero (t .len)); bytes-are = sym (append-nil _); rest = refl };
     }
 
 pub boats-more : {t u v : Text} {shares : List ℕ} {boats i : ℕ} → Boats-added t shares boats u i → i < boats →

@@ -6,7 +6,7 @@ use native.Mathlib.Nat.{pow-succ', le-of-suc-le-suc}
 use native.Mathlib.Numerals.{add-one}
 use native.Mathlib.Omega.{arith}
 use lib.ListN.{length, getD, take, drop, set, replicate, length-append, length-drop, length-set}
-use lib.Seq.{paste, paste-zero, paste-suc, take-paste, take-all}
+use lib.Seq.{paste, paste-zero, paste-suc, take-paste, drop-paste, drop-drop, take-all}
 use Rattle.text.specs.Decimal.{figure, decimal, pair}
 use Rattle.text.specs.Lines.{number-line, pair-line}
 use Rattle.text.specs.Texts.{bytes-of, Holds, Adds, Figures-of}
@@ -146,9 +146,25 @@ copied-end {t} {s} {new} {i} k h =
       fits = omega (arith, k .reached, k .room);
       length-is = omega arith;
       bytes-are = rw (k .copied) (take-paste (t .bytes) (t .len) s i (omega (arith, k .room, k .long)) (k .reached) ∙ ap (λ (l : List ℕ). take (t .len) (t .bytes) ++ l) (take-all i s h));
+      rest = rw (k .copied) (drop-paste (t .bytes) (t .len) s i (omega (arith, k .reached, k .room, k .long)) (k .reached));
     }
 
 -- ---- Texts with several parts added
+
+-- behind u, which is longer than t by a, where the bytes behind t are known
+behind : {t u : Text} {l : List ℕ} → Adds t l u → {z : List ℕ} → drop (t .len) (t .bytes) ≡ z → drop (u .len) (u .bytes) ≡ drop (length l) z
+behind {t} {u} {l} q e =
+    let n : u .len ≡ t .len + length l = q .length-is in
+    q .rest ∙ rw n (sym (drop-drop (length l) (t .len) (t .bytes)) ∙ ap (drop (length l)) e)
+
+drop-zeros : (n m : ℕ) → drop {A = ℕ} n (replicate (n + m) 0) ≡ replicate m 0
+drop-zeros zero m = let e : 0 + m ≡ m = omega arith in rw e
+drop-zeros (suc n) m = let e : suc n + m ≡ suc (n + m) = omega arith in rw e (drop-zeros n m)
+
+behind-zeros : {t u : Text} {l : List ℕ} → Adds t l u → drop (t .len) (t .bytes) ≡ replicate (4096 - t .len) 0 → drop (u .len) (u .bytes) ≡ replicate (4096 - u .len) 0
+behind-zeros {t} {u} {l} q e =
+    let n : 4096 - t .len ≡ length l + (4096 - u .len) = omega (arith, q .fits, q .length-is) in
+    behind q e ∙ rw n (drop-zeros (length l) (4096 - u .len))
 
 pub adds-both : {t u v : Text} {a b : List ℕ} → Adds t a u → Adds u b v → Adds t (a ++ b) v
 adds-both {t} {u} {v} {a} {b} p q =
@@ -156,6 +172,9 @@ adds-both {t} {u} {v} {a} {b} p q =
       fits = q .fits;
       length-is = rw length-append (omega (arith, p .length-is, q .length-is));
       bytes-are = q .bytes-are ∙ ap (λ (l : List ℕ). l ++ b) (p .bytes-are) ∙ append-assoc (bytes-of t) a b;
+      rest =
+          let n : v .len ≡ u .len + length b = q .length-is in
+          q .rest ∙ rw n (sym (drop-drop (length b) (u .len) (u .bytes)) ∙ ap (drop (length b)) (p .rest) ∙ drop-drop (length b) (u .len) (t .bytes));
     }
 
 pub adds-to-empty : {t u : Text} {l : List ℕ} → Holds [] t → Adds t l u → Holds l u
@@ -164,6 +183,7 @@ adds-to-empty {t} {u} {l} p q =
       fits = q .fits;
       length-is = omega (arith, p .length-is, q .length-is);
       bytes-are = q .bytes-are ∙ ap (λ (x : List ℕ). x ++ l) (p .bytes-are);
+      rest = behind-zeros q (p .rest);
     }
 
 pub holds-more : {t u : Text} {a b : List ℕ} → Holds a t → Adds t b u → Holds (a ++ b) u
@@ -172,6 +192,7 @@ holds-more {t} {u} {a} {b} p q =
       fits = q .fits;
       length-is = rw length-append (omega (arith, p .length-is, q .length-is));
       bytes-are = q .bytes-are ∙ ap (λ (x : List ℕ). x ++ b) (p .bytes-are);
+      rest = behind-zeros q (p .rest);
     }
 
 -- the figures of a number, at most 20, as the last bytes of a buffer of 20

@@ -42,7 +42,7 @@ fn figures_of(n: u64) -> Figures
     Figures { bytes, at }
 }
 
-// Text: the first `len` bytes, of which 4,096 hold the longest listing. Bytes after them mean nothing.
+// Text: the first `len` bytes, of which 4,096 hold the longest listing. A text that begins empty has 0 in every byte after them.
 pub struct Text {
     pub bytes: [u8; 4096],
     pub len: usize,
