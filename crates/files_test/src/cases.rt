@@ -2,7 +2,7 @@
 // count, N its boats, C its columns, S its steps, T its tolerance, W its letters as a number, V a value that stands P bytes before the
 // trailer. With A it is a case for each value of a list. A line for two files has those of the sheet behind a semicolon.
 
-// Fleet books: each field on both sides of its limits, then two faults at once. A good one has 3 boats and 2 columns.
+// Fleet books: length, letters and counts on both sides of their limits. A good one has 3 boats and 2 columns.
 pub fn books() {
     crate::each_case(
         b"book length 0: N1 C1 K2 L0
@@ -28,7 +28,14 @@ book columns 65: N1 C65 K130 L142
 book of 256 boats and 64 columns: N256 C64 K32768 L32780
 book of 65535 boats: N65535 C1 K2 L14
 book of 65535 columns: N1 C65535 K2 L14
-book back 0: K0
+",
+    );
+}
+
+// Their back counts and bodies, and books with two faults.
+pub fn book_bodies() {
+    crate::each_case(
+        b"book back 0: K0
 book back 11: K11
 book back 12: K12
 book back 13: K13
@@ -84,7 +91,14 @@ sheet tolerance 0: T0
 sheet tolerance 1024000000: T1024000000
 sheet tolerance 1024000001: T1024000001
 sheet tolerance 4294967295: T4294967295
-sheet back 0: K0
+",
+    );
+}
+
+// Their back counts and bodies, and sheets with two faults.
+pub fn sheet_bodies() {
+    crate::each_case(
+        b"sheet back 0: K0
 sheet back 5: K5
 sheet back 6: K6
 sheet back 7: K7

@@ -114,6 +114,8 @@ pub fn each_case(table: &[u8]) {
 
 fn main() {
     cases::books();
+    cases::book_bodies();
     cases::sheets();
+    cases::sheet_bodies();
     cases::both();
 }

@@ -97,11 +97,11 @@ fn check_all(table: &[u8]) {
     }
 }
 
-// True cards that no search writes; then 31 to 35, the trailer; 36 and 37, the pairs; 38 and 39, the numbers.
+// True cards that no search writes; then 31 to 35, the trailer.
 // Letters: P the pairs, K the back count, V the verdict, S the steps, T the tolerance, E the distance, G the gap, N the boats, C the
 // columns, L the letters as a number. Left out are those of the card of equal shares: two for each boat, Within after 3 steps
 // at (1,1).
-fn main() {
+fn trailers() {
     check_all(
         b"equal shares:
 one share at the only step: P11 K4 V3 S1 E10 G16 B40 M1
@@ -128,7 +128,14 @@ back 13: K13
 back 16: P01021222 K16 B52
 back 12 of 16: P79021222 B52
 back 8: K8
-boats 1 0 2: P120222
+",
+    );
+}
+
+// 36 and 37, the pairs; 38 and 39, the numbers.
+fn pairs_and_numbers() {
+    check_all(
+        b"boats 1 0 2: P120222
 boats 0 0 2: P020222
 boats 0 1 3: P021232
 shares 0 4 2: P001422
@@ -148,4 +155,9 @@ tolerance 2: T2
 gap 33 and tolerance 2: G33 T2
 ",
     );
+}
+
+fn main() {
+    trailers();
+    pairs_and_numbers();
 }
