@@ -76,9 +76,7 @@ module _ (b s w : List ℕ) (ok : files-refusal b s ≡ 0) {l : Layout} (e : l �
 
     module _ (g₁ : not g ≡ false) {t : ℕ} (et : t ≡ card-fields w .steps) where
       pub steps-asked : (1 ≤ t) × (t ≤ 360)
-      steps-asked =
-          let k = formed (boats b) (columns b) (sheet s .steps) w f in
-          (omega (arith, k .some-step), omega (arith, k .most-steps, sheet-fits b s ok .most-steps))
+      steps-asked = (omega (arith, formed (boats b) (columns b) (sheet s .steps) w f .some-step), omega (arith, few-steps))
 
       pub total-asked : sum (take (boats b) shares) ≡ weight t
       unfolding shares-total

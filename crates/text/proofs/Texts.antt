@@ -151,7 +151,7 @@ copied-end {t} {s} {new} {i} k h =
 
 -- ---- Texts with several parts added
 
--- behind u, which is longer than t by a, where the bytes behind t are known
+-- what stands behind u, which is t with l added, from what stands behind t
 behind : {t u : Text} {l : List ℕ} → Adds t l u → {z : List ℕ} → drop (t .len) (t .bytes) ≡ z → drop (u .len) (u .bytes) ≡ drop (length l) z
 behind {t} {u} {l} q e =
     let n : u .len ≡ t .len + length l = q .length-is in
@@ -172,9 +172,7 @@ adds-both {t} {u} {v} {a} {b} p q =
       fits = q .fits;
       length-is = rw length-append (omega (arith, p .length-is, q .length-is));
       bytes-are = q .bytes-are ∙ ap (λ (l : List ℕ). l ++ b) (p .bytes-are) ∙ append-assoc (bytes-of t) a b;
-      rest =
-          let n : v .len ≡ u .len + length b = q .length-is in
-          q .rest ∙ rw n (sym (drop-drop (length b) (u .len) (u .bytes)) ∙ ap (drop (length b)) (p .rest) ∙ drop-drop (length b) (u .len) (t .bytes));
+      rest = behind q (p .rest) ∙ drop-drop (length b) (u .len) (t .bytes) ∙ ap (λ (n : ℕ). drop n (t .bytes)) (sym (q .length-is));
     }
 
 pub adds-to-empty : {t u : Text} {l : List ℕ} → Holds [] t → Adds t l u → Holds l u
