@@ -1,17 +1,19 @@
 -- The promise of specs/Promise.antt holds of the outcome that specs/Answers.antt defines, whatever the input.
-use mathlib.Core.Path.{_≡_, refl}
+use mathlib.Core.Path.{_≡_, refl, sym, ap, _∙_}
 use mathlib.Core.Bool.{Bool, true, false, cond}
-use mathlib.Core.List.{List, _++_}
-use Prim.Native.Nat.{ℕ, zero, suc}
+use mathlib.Core.List.{List}
+use Prim.Native.Nat.{ℕ, zero, suc, _≤_}
 use native.Mathlib.Omega.{arith}
-use borrow.Author.Tests.{eqb-true}
+use borrow.Author.Tests.{eqb-true, eq-eqb, ltb-false}
 use lib.Dec.{eqb, ltb}
-use lib.ListN.{length, take, drop}
+use lib.ListN.{length, take, drop, length-append, length-drop}
 use lib.Seq.{take-at}
 use Rattle.files.specs.Book.{rows, columns, boats}
 use Rattle.files.specs.Sheet.{sheet, files-refusal}
+use Rattle.method.specs.declared.Answer.{Answer}
 use Rattle.method.specs.declared.Searched.{Searched}
-use Rattle.method.specs.Answers.{outcome, steps-used, run-iterate, run-answer, search-refusal, slots-after}
+use Rattle.method.specs.declared.Searched.the-variants.{Refused, Answered}
+use Rattle.method.specs.Answers.{refusal-number, outcome, steps-used, run-iterate, run-answer, search-refusal, slots-after}
 use Rattle.method.specs.Promise.{Run-right, Outcome-right}
 use Rattle.method.proofs.Accepted.{share-count}
 use Rattle.method.proofs.Bounds.{run-bounds}
@@ -24,22 +26,61 @@ run-share-count : (b s : List ℕ) → files-refusal b s ≡ 0 → length (run-i
 unfolding run-iterate
 run-share-count b s ok = share-count b s ok (steps-used (rows b) (sheet s) (columns b))
 
--- a search that is not refused has files that are not
-pub search-accepted : (b s : List ℕ) (slots : ℕ) → search-refusal b s slots ≡ 0 → files-refusal b s ≡ 0
+-- a search that is not refused has files that are not, and a slot for each boat
+pub search-accepted : (b s : List ℕ) (slots : ℕ) → search-refusal b s slots ≡ 0 → (files-refusal b s ≡ 0) × (boats b ≤ slots)
 unfolding search-refusal
-search-accepted b s slots e = by (eqb (files-refusal b s) 0) refl e
+search-accepted b s slots e = by (eqb (files-refusal b s) 0) refl (ltb slots (boats b)) refl e
   where
-    by : (t : Bool) → eqb (files-refusal b s) 0 ≡ t → cond t (cond (ltb slots (boats b)) 21 0) (files-refusal b s) ≡ 0 → files-refusal b s ≡ 0
-    by true q e = eqb-true (files-refusal b s) 0 q
-    by false q e = e
+    by : (t : Bool) → eqb (files-refusal b s) 0 ≡ t → (u : Bool) → ltb slots (boats b) ≡ u → cond t (cond u 21 0) (files-refusal b s) ≡ 0 → (files-refusal b s ≡ 0) × (boats b ≤ slots)
+    by true q true r e = absurd (omega arith)
+    by true q false r e = (eqb-true (files-refusal b s) 0 q, ltb-false slots (boats b) r)
+    by false q u r e = absurd (let t = eq-eqb (files-refusal b s) 0 e in let z : _≡_ {A = ℕ} 0 1 = cc in omega arith)
+
+-- ---- An outcome by its number
+
+pub outcome-number : (n : ℕ) (a : Answer) → refusal-number (outcome n a) ≡ n
+unfolding refusal-number outcome
+outcome-number zero a = refl
+outcome-number (suc n) a = refl
+
+pub outcome-refused : (n m : ℕ) (a : Answer) → outcome n a ≡ Refused m → (n ≡ m) × (1 ≤ m)
+unfolding outcome
+outcome-refused zero m a e = absurd (let z : _≡_ {A = ℕ} 0 1 = cc in omega arith)
+outcome-refused (suc n) m a e = let q : suc n ≡ m = cc in (q, omega arith)
+
+pub outcome-answered : (n : ℕ) (a x : Answer) → outcome n a ≡ Answered x → (n ≡ 0) × (a ≡ x)
+unfolding outcome
+outcome-answered zero a x e = (refl, cc)
+outcome-answered (suc n) a x e = absurd (let z : _≡_ {A = ℕ} 0 1 = cc in omega arith)
+
+-- a list that a call leaves is as long as the one that it was lent, where the shares have room
+pub length-after : (n : ℕ) (qs slots : List ℕ) → (n ≡ 0 → length qs ≤ length slots) → length (slots-after n qs slots) ≡ length slots
+unfolding slots-after
+length-after zero qs slots h = simp (length-append, length-drop) (omega (arith, h refl))
+length-after (suc n) qs slots h = refl
+
+-- where nothing refuses, the first slots have the shares
+pub slots-kept : (qs slots : List ℕ) (n : ℕ) → length qs ≡ n → take n (slots-after 0 qs slots) ≡ qs
+unfolding slots-after
+slots-kept qs slots n e = take-at qs (drop (length qs) slots) n e
 
 pub outcome-right : (b s slots : List ℕ) (n : ℕ) (r : Searched) (now : List ℕ) →
     n ≡ search-refusal b s (length slots) → r ≡ outcome n (run-answer b s) → now ≡ slots-after n (run-iterate b s .shares) slots → Outcome-right b s r now
-unfolding Outcome-right outcome slots-after
-outcome-right b s slots zero r now e f g =
-    let ok : files-refusal b s ≡ 0 = search-accepted b s (length slots) (cc) in
-    let qs = run-iterate b s .shares in
-    let kept : take (boats b) (qs ++ drop (length qs) slots) ≡ qs = take-at qs (drop (length qs) slots) (boats b) (run-share-count b s ok) in
-    let right : Run-right b s (run-answer b s) (take (boats b) (qs ++ drop (length qs) slots)) = rw kept (run-right b s ok) in
-    rw (f, g) right
-outcome-right b s slots (suc n) r now e f g = rw f (omega arith)
+outcome-right b s slots n r now e f g =
+    record {
+      number = ap refusal-number f ∙ outcome-number n (run-answer b s) ∙ e ∙ ap (search-refusal b s) (sym same-length);
+      refused = λ m q. outcome-refused n m (run-answer b s) (sym f ∙ q) .1;
+      answered = λ a q. let h = outcome-answered n (run-answer b s) a (sym f ∙ q) in rw (← h .1, kept (h .0)) (run-right b s (accepted (h .0) .0));
+    }
+  where
+    qs : List ℕ
+    qs = run-iterate b s .shares
+
+    accepted : n ≡ 0 → (files-refusal b s ≡ 0) × (boats b ≤ length slots)
+    accepted z = search-accepted b s (length slots) (sym e ∙ z)
+
+    same-length : length now ≡ length slots
+    same-length = ap length g ∙ length-after n qs slots (λ z. rw (run-share-count b s (accepted z .0)) (accepted z .1))
+
+    kept : n ≡ 0 → take (boats b) now ≡ qs
+    kept z = ap (take (boats b)) (g ∙ ap (λ m. slots-after m qs slots) z) ∙ slots-kept qs slots (boats b) (run-share-count b s (accepted z .0))

@@ -2,6 +2,7 @@
 -- are those of the published iterate. Assumes nothing.
 use mathlib.Core.Path.{_≡_, refl, sym, ap, ap₂, _∙_, subst}
 use mathlib.Core.Logic.{_↔_}
+use mathlib.Core.Bool.{false}
 use mathlib.Core.List.{List, [], _∷_}
 use Prim.Native.Nat.{ℕ, zero, suc, _+_, _*_, _≤_, _<_}
 use native.Mathlib.Omega.{arith}
@@ -18,17 +19,19 @@ use Rattle.files.specs.Book.{rows, columns}
 use Rattle.files.specs.Sheet.{Sheet, sheet, files-refusal}
 use Rattle.files.proofs.Accepted.{files-accepted}
 use Rattle.method.specs.Iterates.{weight, start, residual, row, direction, scores, argmin, step, iterate, distance, signed-gap, gap}
-use Rattle.method.specs.Answers.{verdict, verdict-number, verdict-carries, answer-at, steps-used, run-iterate, run-answer}
+use Rattle.method.specs.declared.Verdict.{Verdict}
+use Rattle.method.specs.declared.Verdict.the-variants.{Within, Beyond, Spent}
+use Rattle.method.specs.Answers.{verdict, verdict-number, verdict-carries, stops, answer-at, steps-used, run-iterate, run-answer}
 use Rattle.method.specs.Fractions.{Fraction, integer, Is-ratio, _-ℚ_, _*ℚ_, ltQ, _≤ℚ_, _<ℚ_, fractions}
 use Rattle.method.specs.Published.{unit-vector, gradient, step-size, move, minimizer, published-iterate, published-pick, published-distance, published-gap, published-floor}
-use Rattle.method.specs.PublishedRun.{Is-published, Published-run}
+use Rattle.method.specs.PublishedRun.{Is-published, Published-step, Published-run}
 use Rattle.method.proofs.Weights.{weight-suc, weight-twice, weight-positive}
 use Rattle.method.proofs.Argmin.{among-row}
 use Rattle.method.proofs.Shares.{Mixed, mixed-is, iterate-mixed}
 use Rattle.method.proofs.Mixtures.{Problem, gap-is}
 use Rattle.method.proofs.Verdicts.{Means, verdict-means, within-exactly, beyond-exactly, beyond-carries, spent-carries}
 use Rattle.method.proofs.Accepted.{problem, mixed as accepted-mixed}
-use Rattle.method.proofs.Running.{stopped}
+use Rattle.method.proofs.Running.{stops-at, Stopped, stopped}
 use Rattle.method.proofs.Fractions.{one, integer-value, subtract-value, multiply-value, lt-value, le-exactly}
 use Rattle.method.proofs.Numerators.{integer-over, Over, over-at, over-fractions, over-difference, over-inner, over-linear-form, over-gap-terms, over-argmin, over-greatest, over-step, over-first}
 
@@ -213,8 +216,7 @@ module _ {d g : Fraction} (tolerance w : ℕ) {e f : ℕ} (hd : Is-ratio d (pos 
 -- ---- The theorem
 
 -- after any number of steps from 1 on
-pub is-published : {c : ℕ} {rs : List (List ℤ)} (s : Sheet) → Problem c rs (s .target) → (t : ℕ) → 1 ≤ t →
-    Is-published rs s c (iterate rs (s .target) c t) (answer-at rs s t (iterate rs (s .target) c t))
+pub is-published : {c : ℕ} {rs : List (List ℤ)} (s : Sheet) → Problem c rs (s .target) → (t : ℕ) → 1 ≤ t → Published-step rs s c t
 unfolding answer-at published-floor
 is-published s p zero h = absurd (omega arith)
 is-published s p (suc t) h =
@@ -232,9 +234,42 @@ is-published s p (suc t) h =
       shortfall = shortfall-carried (s .tolerance) (weight (suc t)) d g;
     }
 
-pub published-run : (b s : List ℕ) → files-refusal b s ≡ 0 → Published-run b s (run-answer b s) (run-iterate b s .shares)
-unfolding run-answer run-iterate
-published-run b s ok =
-    let t = steps-used (rows b) (sheet s) (columns b) in
-    let st = stopped (rows b) (sheet s) (columns b) (files-accepted b s ok .1 .some-steps) in
-    rw (← mixed-is (accepted-mixed b s ok t)) (is-published (sheet s) (problem b s ok) t (st .later))
+-- a step that does not stop a run has the verdict Spent
+unstopped : (n t : ℕ) (v : Verdict) → stops n t v ≡ false → verdict-number v ≡ 3
+unfolding stops verdict-number
+unstopped n t Within e = absurd (let z : _≡_ {A = ℕ} 0 1 = cc in omega arith)
+unstopped n t (Beyond floor) e = absurd (let z : _≡_ {A = ℕ} 0 1 = cc in omega arith)
+unstopped n t (Spent shortfall) e = refl
+
+module _ (b s : List ℕ) (ok : files-refusal b s ≡ 0) where
+  last : ℕ
+  last = steps-used (rows b) (sheet s) (columns b)
+
+  stopped-there : Stopped (rows b) (sheet s) (columns b) 0 (sheet s .steps) last
+  unfolding last
+  stopped-there = stopped (rows b) (sheet s) (columns b) (files-accepted b s ok .1 .some-steps)
+
+  each-step : (k : ℕ) → 1 ≤ k → Published-step (rows b) (sheet s) (columns b) k
+  each-step = is-published (sheet s) (problem b s ok)
+
+  spent-before : (k : ℕ) → 1 ≤ k → k < last → verdict-number (answer-at (rows b) (sheet s) k (iterate (rows b) (sheet s .target) (columns b) k) .verdict) ≡ 3
+  unfolding stops-at
+  spent-before k h q = unstopped (sheet s .steps) k _ (stopped-there .first k h q)
+
+  none-within : (k : ℕ) → 1 ≤ k → k < last → ¬ (published-distance (rows b) (sheet s .target) k ≤ℚ integer (pos (sheet s .tolerance)))
+  unfolding answer-at
+  none-within k h q w = omega (arith, each-step k h .within .1 w, spent-before k h q)
+
+  none-beyond : (k : ℕ) → 1 ≤ k → k < last → ¬ (integer (pos (sheet s .tolerance)) <ℚ published-floor (rows b) (sheet s .target) k)
+  unfolding answer-at
+  none-beyond k h q w = omega (arith, each-step k h .beyond .1 (none-within k h q, w), spent-before k h q)
+
+  pub published-run : Published-run b s (run-answer b s) (run-iterate b s .shares)
+  unfolding run-answer run-iterate answer-at last
+  published-run =
+      record {
+        each-step = each-step;
+        last-step = rw (← mixed-is (accepted-mixed b s ok last)) (each-step last (stopped-there .later));
+        none-within = none-within;
+        none-beyond = none-beyond;
+      }

@@ -1,11 +1,13 @@
 -- What the search promises of its outcome, on every input: one record for a run, and what a refusal is. Definitions only.
+use mathlib.Core.Path.{_≡_}
 use mathlib.Core.List.{List}
 use Prim.Native.Nat.{ℕ, _≤_}
-use lib.ListN.{take}
+use lib.ListN.{length, take}
 use Rattle.files.specs.Book.{boats}
 use Rattle.method.specs.declared.Answer.{Answer}
 use Rattle.method.specs.declared.Searched.{Searched}
 use Rattle.method.specs.declared.Searched.the-variants.{Refused, Answered}
+use Rattle.method.specs.Answers.{refusal-number, search-refusal}
 use Rattle.method.specs.Bounds.{Run-bounds}
 use Rattle.method.specs.PublishedRun.{Published-run}
 
@@ -13,12 +15,14 @@ use Rattle.method.specs.PublishedRun.{Published-run}
 pub record Run-right (b s : List ℕ) (a : Answer) (shares : List ℕ) : Type 0 where
   -- steps, shares and numbers, how near any mixture can come, and what the verdict means
   pub bounds : Run-bounds b s a shares
-  -- they are those of the published method
+  -- after each step they are those of the published method
   pub published : Published-run b s a shares
 
 -- of an outcome and the share list that it leaves
-unfoldable pub Outcome-right : (b s : List ℕ) → Searched → (slots : List ℕ) → Type 0
--- a refusal is never the number 0
-Outcome-right b s (Refused n) slots = 1 ≤ n
--- the shares of a run are in the first slots, one a boat
-Outcome-right b s (Answered a) slots = Run-right b s a (take (boats b) slots)
+pub record Outcome-right (b s : List ℕ) (r : Searched) (slots : List ℕ) : Type 0 where
+  -- its number is that of the first test that fails, 0 where none does
+  pub number : refusal-number r ≡ search-refusal b s (length slots)
+  -- a refusal is never the number 0
+  pub refused : (n : ℕ) → r ≡ Refused n → 1 ≤ n
+  -- the shares of a run are in the first slots, one a boat
+  pub answered : (a : Answer) → r ≡ Answered a → Run-right b s a (take (boats b) slots)

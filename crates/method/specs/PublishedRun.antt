@@ -2,14 +2,14 @@
 use mathlib.Core.Path.{_≡_}
 use mathlib.Core.Logic.{_↔_}
 use mathlib.Core.List.{List}
-use Prim.Native.Nat.{ℕ, _*_, _<_}
+use Prim.Native.Nat.{ℕ, _*_, _≤_, _<_}
 use lib.ListN.{getD}
 use lib.IntN.{ℤ, pos}
 use Rattle.files.specs.Book.{rows, columns}
 use Rattle.files.specs.Sheet.{Sheet, sheet}
 use Rattle.method.specs.declared.Answer.{Answer}
 use Rattle.method.specs.Iterates.{Iterate, direction, scores, argmin, iterate}
-use Rattle.method.specs.Answers.{verdict-number, verdict-carries}
+use Rattle.method.specs.Answers.{verdict-number, verdict-carries, answer-at}
 use Rattle.method.specs.Bounds.{mixture-iterate}
 use Rattle.method.specs.Fractions.{integer, Is-ratio, _-ℚ_, _≤ℚ_, _<ℚ_}
 use Rattle.method.specs.Published.{published-iterate, published-pick, published-distance, published-gap, published-floor}
@@ -36,6 +36,17 @@ pub record Is-published (rs : List (List ℤ)) (s : Sheet) (c : ℕ) (x : Iterat
   pub shortfall : verdict-number (a .verdict) ≡ 3 →
       Is-ratio (published-distance rs (s .target) (a .steps) -ℚ integer (pos (s .tolerance))) (verdict-carries (a .verdict)) (a .weight * a .weight)
 
--- of a fleet book and a sheet, as bytes: the answer and the shares, with the point that they make, are those of the published method
-abbrev pub Published-run : (book sheet : List ℕ) → (a : Answer) → (shares : List ℕ) → Type 0
-Published-run b s a qs = Is-published (rows b) (sheet s) (columns b) (mixture-iterate (columns b) qs (rows b)) a
+-- that they are after k steps: the iterate in whole numbers and the answer there
+abbrev pub Published-step : (rs : List (List ℤ)) → Sheet → (columns k : ℕ) → Type 0
+Published-step rs s c k = Is-published rs s c (iterate rs (s .target) c k) (answer-at rs s k (iterate rs (s .target) c k))
+
+-- of a fleet book and a sheet, as bytes
+pub record Published-run (b s : List ℕ) (a : Answer) (shares : List ℕ) : Type 0 where
+  -- after each step, up to the last and past it, the iterate and its answer are those of the published method
+  pub each-step : (k : ℕ) → 1 ≤ k → Published-step (rows b) (sheet s) (columns b) k
+  -- and so are the answer given back and its shares, with the point that they make
+  pub last-step : Is-published (rows b) (sheet s) (columns b) (mixture-iterate (columns b) shares (rows b)) a
+  -- no verdict of the published method stood before: its squared distance was above the tolerance
+  pub none-within : (k : ℕ) → 1 ≤ k → k < a .steps → ¬ (published-distance (rows b) (sheet s .target) k ≤ℚ integer (pos (sheet s .tolerance)))
+  -- and less twice its gap it was not
+  pub none-beyond : (k : ℕ) → 1 ≤ k → k < a .steps → ¬ (integer (pos (sheet s .tolerance)) <ℚ published-floor (rows b) (sheet s .target) k)
