@@ -1,13 +1,14 @@
 -- The outcomes of `check_card`: refused by the files, a short share list, the card's form or its numbers, or answered.
 use mathlib.Core.Path.{_≡_, refl, sym, ap, _∙_}
 use mathlib.Core.Bool.{Bool, true, false, _&&_, not, cond}
+use mathlib.Core.Logic.{_↔_}
 use mathlib.Core.List.{List, _∷_, _++_}
 use Prim.Native.Nat.{ℕ, zero, suc, _+_, _*_, _-_, _≤_, _<_}
 use native.Mathlib.Omega.{arith}
 use borrow.Author.Tests.{ltb-true, lt-ltb, le-ltb}
 use lib.Dec.{eqb, ltb, leb, eqb·suc-zero}
 use lib.ListN.{length, take, drop, set, replicate}
-use lib.Seq.{take-at, take-set-lt, length-take-le}
+use lib.Seq.{take-set-lt, length-take-le}
 use Rattle.files.specs.Bytes.{all-bytes, number, same, between, length-in-range, trailer}
 use Rattle.files.specs.Book.{boats, columns}
 use Rattle.files.specs.Sheet.{sheet, files-refusal}
@@ -15,14 +16,15 @@ use Rattle.files.proofs.Refusal.{and-true}
 use Rattle.method.specs.declared.Answer.{Answer}
 use Rattle.method.specs.declared.Searched.{Searched}
 use Rattle.method.specs.declared.Searched.the-variants.{Refused, Answered}
-use Rattle.method.specs.Answers.{outcome, search-refusal, slots-after}
+use Rattle.method.specs.Answers.{refusal-number, outcome, search-refusal, slots-after}
+use Rattle.method.proofs.Promise.{search-accepted, outcome-number, outcome-refused, outcome-answered, length-after, slots-kept}
 use Rattle.iteration.specs.declared.Layout.{Layout}
 use Rattle.iteration.specs.States.{file-layout}
 use Rattle.iteration.proofs.States.{book-fits}
 use Rattle.card_format.specs.Format.{WCD1, card-fields, card-body, pair-count, shares-into, card-shares, card-answer}
 use Rattle.card_format.specs.Checks.{back-fits, pairs-in-order, card-refusal, check-refusal}
-use Rattle.card_format.specs.Truth.{Accepted-vouches}
-use Rattle.card_format.proofs.Vouches.{accepted-vouches}
+use Rattle.card_format.specs.Truth.{Card-true, Card-vouches, Accepted-exactly, Accepted-vouches}
+use Rattle.card_format.proofs.Vouches.{accepted-exactly, accepted-vouches}
 use Rattle.card_input.specs.Forms.{form-refusal, counts-agree, steps-fit}
 use Rattle.card_pairs.proofs.Pairs.{boat-below, into-more, order-more}
 use Rattle.card_input.proofs.Reading.{order-at, into-at, back-fours}
@@ -107,27 +109,73 @@ pub layout-boats : (b s : List ℕ) → files-refusal b s ≡ 0 → {l : Layout}
 unfolding file-layout
 layout-boats b s ok e = rw e (book-fits b s ok .most-boats)
 
+-- ---- The promise, of what the definitions give
+
+-- the first of two numbers that is not 0 is 0
+both : (m n : ℕ) → cond (eqb m 0) n m ≡ 0 → (m ≡ 0) × (n ≡ 0)
+both zero n e = (refl, e)
+both (suc m) n e = absurd (omega (arith, rw (eqb·suc-zero m) at e))
+
+module _ (b s w slots : List ℕ) (all : all-bytes w ≡ true) {n : ℕ} {r : Searched} {now : List ℕ} (e : n ≡ check-refusal b s w (length slots))
+    (f : r ≡ outcome n (card-answer b s w)) (g : now ≡ slots-after n (card-shares (boats b) w) slots) where
+  accepted : n ≡ 0 → (search-refusal b s (length slots) ≡ 0) × (card-refusal b s w ≡ 0)
+  unfolding check-refusal
+  accepted z = both (search-refusal b s (length slots)) (card-refusal b s w) (sym e ∙ z)
+
+  share-count : n ≡ 0 → (length (card-shares (boats b) w) ≡ boats b) × (boats b ≤ length slots)
+  unfolding Accepted-vouches
+  share-count z =
+      let h = accepted z in
+      let k = search-accepted b s (length slots) (h .0) in
+      (accepted-vouches b s w (k .0) all (h .1) .answer .share-count, k .1)
+
+  same-length : length now ≡ length slots
+  same-length = ap length g ∙ length-after n (card-shares (boats b) w) slots (λ z. rw (share-count z .0) (share-count z .1))
+
+  number-is : refusal-number r ≡ n
+  number-is = ap refusal-number f ∙ outcome-number n (card-answer b s w)
+
+  vouches : n ≡ 0 → Card-vouches b s w (card-answer b s w) (take (boats b) now)
+  unfolding Accepted-vouches
+  vouches z =
+      let h = accepted z in
+      let kept : take (boats b) now ≡ card-shares (boats b) w = ap (take (boats b)) (g ∙ ap (λ m. slots-after m (card-shares (boats b) w) slots) z) ∙ slots-kept (card-shares (boats b) w) slots (boats b) (share-count z .0) in
+      rw kept (accepted-vouches b s w (search-accepted b s (length slots) (h .0) .0) all (h .1))
+
+  exactly : search-refusal b s (length now) ≡ 0 → (refusal-number r ≡ 0) ↔ Card-true b s w
+  unfolding Accepted-exactly check-refusal
+  exactly z =
+      let y : search-refusal b s (length slots) ≡ 0 = ap (search-refusal b s) (sym same-length) ∙ z in
+      let x = accepted-exactly b s w (search-accepted b s (length slots) y .0) all in
+      let k : refusal-number r ≡ card-refusal b s w = number-is ∙ e ∙ rw y in
+      (λ q. x .0 (sym k ∙ q), λ q. k ∙ x .1 q .0)
+
+  pub check-right : Check-right b s w r now
+  check-right =
+      record {
+        number = number-is ∙ e ∙ ap (check-refusal b s w) (sym same-length);
+        refused = λ m q. outcome-refused n m (card-answer b s w) (sym f ∙ q) .1;
+        exactly = exactly;
+        answered = λ a q. let h = outcome-answered n (card-answer b s w) a (sym f ∙ q) in rw (← h .1) (vouches (h .0));
+      }
+
 -- ---- Outcomes
-
-outcome-refused : (n m : ℕ) (a : Answer) → Refused m ≡ outcome n a → (n ≡ m) × (n ≡ 0 → ⊥)
-unfolding outcome
-outcome-refused zero m a e = absurd (let z : _≡_ {A = ℕ} 0 1 = cc in omega arith)
-outcome-refused (suc n) m a e = (cc, λ q. omega arith)
-
-outcome-answered : (n : ℕ) (a x : Answer) → Answered x ≡ outcome n a → (n ≡ 0) × (x ≡ a)
-unfolding outcome
-outcome-answered zero a x e = (refl, cc)
-outcome-answered (suc n) a x e = absurd (let z : _≡_ {A = ℕ} 0 1 = cc in omega arith)
 
 module _ (b s w slots : List ℕ) where
   -- what the check gives back and leaves in the list, by the refusal number
-  abbrev pub Gives : (refusal : ℕ) → Searched → List ℕ → Type 0
-  Gives n r now = (r ≡ outcome n (card-answer b s w)) × ((now ≡ slots-after n (card-shares (boats b) w) slots) × Check-right b s w r now)
+  abbrev Gives : (refusal : ℕ) → Searched → List ℕ → Type 0
+  Gives n r now = (r ≡ outcome n (card-answer b s w)) × (now ≡ slots-after n (card-shares (boats b) w) slots)
+
+  -- and what is promised of it, of a card of bytes
+  pub promised : all-bytes w ≡ true → {r : Searched} {now : List ℕ} → Gives (check-refusal b s w (length slots)) r now →
+      (r ≡ outcome (check-refusal b s w (length slots)) (card-answer b s w))
+      × ((now ≡ slots-after (check-refusal b s w (length slots)) (card-shares (boats b) w) slots) × Check-right b s w r now)
+  promised all g = (g .0, (g .1, check-right b s w slots all refl (g .0) (g .1)))
 
   refused : (n : ℕ) → (n ≡ 0 → ⊥) → Gives n (Refused n) slots
-  unfolding outcome slots-after Check-right
+  unfolding outcome slots-after
   refused zero h = absurd (h refl)
-  refused (suc n) h = (refl, (refl, omega arith))
+  refused (suc n) h = (refl, refl)
 
   pub refused-by-files : (n : ℕ) → n ≡ files-refusal b s → (n ≡ 0 → ⊥) → Gives (check-refusal b s w (length slots)) (Refused n) slots
   unfolding check-refusal search-refusal
@@ -136,8 +184,8 @@ module _ (b s w slots : List ℕ) where
 
   module _ (ok : files-refusal b s ≡ 0) {l : Layout} (el : l ≡ file-layout b s) where
     pub refused-short : length slots < l .boats → Gives (check-refusal b s w (length slots)) (Refused 21) slots
-    unfolding check-refusal search-refusal outcome slots-after Check-right file-layout
-    refused-short h = let k : ltb (length slots) (boats b) ≡ true = lt-ltb (length slots) (boats b) (rw el at h) in rw (ok, k) (refl, (refl, omega arith))
+    unfolding check-refusal search-refusal outcome slots-after file-layout
+    refused-short h = let k : ltb (length slots) (boats b) ≡ true = lt-ltb (length slots) (boats b) (rw el at h) in rw (ok, k) (refl, refl)
 
     module _ (room : l .boats ≤ length slots) where
       by-card : check-refusal b s w (length slots) ≡ card-refusal b s w
@@ -166,20 +214,17 @@ module _ (b s w slots : List ℕ) where
 
           pub refused-by-truth : (m : ℕ) → Refused m ≡ outcome (truth-refusal b s w) (card-answer b s w) → Gives (check-refusal b s w (length slots)) (Refused m) slots
           refused-by-truth m e =
-              let p = outcome-refused (truth-refusal b s w) m (card-answer b s w) e in
-              rw (by-truth, p .0) (refused m (rw (p .0) at (p .1)))
+              let p = outcome-refused (truth-refusal b s w) m (card-answer b s w) (sym e) in
+              rw (by-truth, p .0) (refused m (λ z. omega (arith, p .1)))
 
-          module _ (all : all-bytes w ≡ true) (found : List ℕ) (ef : take (boats b) found ≡ card-shares (boats b) w) (lf : length found ≡ 256) where
-            share-count : length (card-shares (boats b) w) ≡ boats b
-            share-count = sym (ap length ef) ∙ length-take-le (boats b) found (omega (arith, book-fits b s ok .most-boats))
+          module _ (found : List ℕ) (ef : take (boats b) found ≡ card-shares (boats b) w) (lf : length found ≡ 256) where
+            found-count : length (card-shares (boats b) w) ≡ boats b
+            found-count = sym (ap length ef) ∙ length-take-le (boats b) found (omega (arith, book-fits b s ok .most-boats))
 
             pub answered : {now : List ℕ} → now ≡ take (l .boats) found ++ drop (l .boats) slots → (a : Answer) → Answered a ≡ outcome (truth-refusal b s w) (card-answer b s w) →
                 Gives (check-refusal b s w (length slots)) (Answered a) now
-            unfolding outcome slots-after Check-right file-layout Accepted-vouches
+            unfolding outcome slots-after file-layout
             answered {now} e a h =
-                let p = outcome-answered (truth-refusal b s w) (card-answer b s w) a h in
-                let q : check-refusal b s w (length slots) ≡ 0 = by-truth ∙ p .0 in
-                let z : card-refusal b s w ≡ 0 = sym by-card ∙ q in
+                let p = outcome-answered (truth-refusal b s w) (card-answer b s w) a (sym h) in
                 let r : now ≡ card-shares (boats b) w ++ drop (boats b) slots = e ∙ rw (el, ef) in
-                let v : take (boats b) now ≡ card-shares (boats b) w = ap (take (boats b)) r ∙ take-at (card-shares (boats b) w) (drop (boats b) slots) (boats b) share-count in
-                rw (q, p .1) (refl, (r ∙ rw share-count, rw v (accepted-vouches b s w ok all z)))
+                rw (by-truth, p .0, ← p .1) (refl, r ∙ rw found-count)

@@ -1,15 +1,24 @@
 -- What the card check gives back and leaves in its share list. Definitions only.
+use mathlib.Core.Path.{_≡_}
+use mathlib.Core.Logic.{_↔_}
 use mathlib.Core.List.{List}
 use Prim.Native.Nat.{ℕ, _≤_}
-use lib.ListN.{take}
+use lib.ListN.{length, take}
 use Rattle.files.specs.Book.{boats}
+use Rattle.method.specs.declared.Answer.{Answer}
 use Rattle.method.specs.declared.Searched.{Searched}
 use Rattle.method.specs.declared.Searched.the-variants.{Refused, Answered}
-use Rattle.card_format.specs.Truth.{Card-vouches}
+use Rattle.method.specs.Answers.{refusal-number, search-refusal}
+use Rattle.card_format.specs.Checks.{check-refusal}
+use Rattle.card_format.specs.Truth.{Card-true, Card-vouches}
 
 -- of an outcome and the share list that it leaves
-unfoldable pub Check-right : (b s w : List ℕ) → Searched → (slots : List ℕ) → Type 0
--- a refusal is never the number 0
-Check-right b s w (Refused n) slots = 1 ≤ n
--- an accepted card vouches for its answer, its shares in the first slots, one a boat
-Check-right b s w (Answered a) slots = Card-vouches b s w a (take (boats b) slots)
+pub record Check-right (b s w : List ℕ) (r : Searched) (slots : List ℕ) : Type 0 where
+  -- its number is that of the first test that fails, 0 where none does
+  pub number : refusal-number r ≡ check-refusal b s w (length slots)
+  -- a refusal is never the number 0
+  pub refused : (n : ℕ) → r ≡ Refused n → 1 ≤ n
+  -- where book, sheet and share list serve, the card is accepted exactly when it is true
+  pub exactly : search-refusal b s (length slots) ≡ 0 → (refusal-number r ≡ 0) ↔ Card-true b s w
+  -- an accepted card vouches for its answer, its shares in the first slots, one a boat
+  pub answered : (a : Answer) → r ≡ Answered a → Card-vouches b s w a (take (boats b) slots)

@@ -1,31 +1,57 @@
 -- What the card writer gives back and leaves in its buffer. Definitions only.
 use mathlib.Core.Path.{_≡_}
-use mathlib.Core.List.{List}
-use Prim.Native.Nat.{ℕ, zero, suc, _≤_}
-use lib.ListN.{take}
+use mathlib.Core.List.{List, _++_}
+use Prim.Native.Nat.{ℕ, zero, suc, _+_, _≤_}
+use lib.ListN.{length, take}
 use Rattle.files.specs.Book.{boats}
 use Rattle.method.specs.declared.Answer.{Answer}
+use Rattle.method.specs.Answers.{run-iterate}
 use Rattle.method.specs.Promise.{Run-right}
-use Rattle.card_format.specs.Format.{card-shares, run-card}
-use Rattle.card_format.specs.Checks.{card-refusal}
+use Rattle.card_format.specs.Format.{card-shares, card-answer, run-card}
+use Rattle.card_format.specs.Checks.{card-refusal, write-refusal}
 use Rattle.card.specs.declared.Written.{Written}
 use Rattle.card.specs.declared.Written.the-variants.{Refused, Filed}
 
--- the cases by number: 0 files the answer and the length of its card, any other number refuses
+-- ---- The enum by number
+
+-- the number that refuses, 0 for a card that was filed
+unfoldable pub writing-number : Written → ℕ
+writing-number (Refused n) = n
+writing-number (Filed a size) = 0
+
+-- how many bytes were written, none on a refusal
+unfoldable pub written-size : Written → ℕ
+written-size (Refused n) = 0
+written-size (Filed a size) = size
+
+-- a refusal where there is a number, else the answer and the length of its card
 unfoldable pub filing : (refusal : ℕ) → Answer → (size : ℕ) → Written
 filing zero a size = Filed a size
 filing (suc n) a size = Refused (suc n)
 
+-- ---- The promise
+
+-- the card check accepts these bytes, and reads this answer and these shares from them
+pub record Reads-back (b s card : List ℕ) (a : Answer) (qs : List ℕ) : Type 0 where
+  pub accepted : card-refusal b s card ≡ 0
+  pub answer : card-answer b s card ≡ a
+  pub shares : card-shares (boats b) card ≡ qs
+
 -- of a filed answer, and the bytes that were written
 pub record Filed-right (b s : List ℕ) (a : Answer) (card : List ℕ) : Type 0 where
   pub card-is : card ≡ run-card b s
-  -- the card check accepts them
-  pub accepted : card-refusal b s card ≡ 0
+  -- they read back as the answer given back and the shares of the run
+  pub reads-back : Reads-back b s card a (run-iterate b s .shares)
+  -- also behind any front text that keeps within 40,000 bytes
+  pub behind-front : (front : List ℕ) → length front + length card ≤ 40000 → Reads-back b s (front ++ card) a (run-iterate b s .shares)
   -- the answer is that of a run whose shares are in the card's body
   pub right : Run-right b s a (card-shares (boats b) card)
 
 -- of an outcome and the buffer that it leaves
-unfoldable pub Filing-right : (b s : List ℕ) → Written → (output : List ℕ) → Type 0
--- a refusal is never the number 0
-Filing-right b s (Refused n) output = 1 ≤ n
-Filing-right b s (Filed a size) output = Filed-right b s a (take size output)
+pub record Filing-right (b s : List ℕ) (r : Written) (output : List ℕ) : Type 0 where
+  -- its number is that of the first test that fails, 0 where none does
+  pub number : writing-number r ≡ write-refusal b s (length output)
+  -- a refusal is never the number 0
+  pub refused : (n : ℕ) → r ≡ Refused n → 1 ≤ n
+  -- a card that was filed is in the first bytes, as many as are given back
+  pub filed : (a : Answer) (size : ℕ) → r ≡ Filed a size → Filed-right b s a (take (written-size r) output)

@@ -21,7 +21,8 @@ pub enum Written {
 }
 
 // ENTRY. The card of a run, written to the first bytes of `output`: refuses files and a buffer that do not serve (1 to 17, then 22)
-// and leaves the buffer as it was; else gives the run's answer and the card's length. Later bytes are as they were.
+// and leaves the buffer as it was; else gives the run's answer and the card's length. Later bytes are as they were. The third
+// clause says that the bytes read back as this answer and its shares, and what holds of them (Filing-right).
 pub fn write_card(book: &[u8], sheet: &[u8], output: &mut [u8]) -> Written
     ensures { λ r. ⌜ r ≡ filing (write-refusal (now (book .entry)) (now (sheet .entry)) (length (now (output .entry)))) (run-answer (now (book .entry)) (now (sheet .entry))) (length (run-card (now (book .entry)) (now (sheet .entry)))) ⌝ }
     ensures { λ _. ⌜ now (output .exit) ≡ slots-after (write-refusal (now (book .entry)) (now (sheet .entry)) (length (now (output .entry)))) (run-card (now (book .entry)) (now (sheet .entry))) (now (output .entry)) ⌝ }
@@ -63,7 +64,8 @@ fn fill(from: [u16; 256], count: usize, to: &mut [u16])
 }
 
 // ENTRY. The card check: refuses files, a share list or a card that does not serve (1 to 17, 21, then 31 to 39) and leaves the
-// list as it was; else gives the card's answer and fills the list's first slots with its shares, one a boat. It does not rerun the search.
+// list as it was; else gives the card's answer and fills the list's first slots with its shares, one a boat. It does not rerun
+// the search. The third clause says that a card is accepted exactly when it is true, and what it vouches for (Check-right).
 pub fn check_card(book: &[u8], sheet: &[u8], card: &[u8], shares: &mut [u16]) -> Searched
     ensures { λ r. ⌜ r ≡ outcome (check-refusal (now (book .entry)) (now (sheet .entry)) (now (card .entry)) (length (now (shares .entry)))) (card-answer (now (book .entry)) (now (sheet .entry)) (now (card .entry))) ⌝ }
     ensures { λ _. ⌜ now (shares .exit) ≡ slots-after (check-refusal (now (book .entry)) (now (sheet .entry)) (now (card .entry)) (length (now (shares .entry)))) (card-shares (boats (now (book .entry))) (now (card .entry))) (now (shares .entry)) ⌝ }

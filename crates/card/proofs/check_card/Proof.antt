@@ -4,7 +4,7 @@ use denote.Ref.{now}
 use Rattle.iteration.proofs.States.{sheet-fits}
 use Rattle.card_input.proofs.Reading.{bytes-of}
 use Rattle.card_truth.proofs.Judging.{formed}
-use Rattle.card.proofs.Checking.{layout-boats, pairs-room, pairs-asked, found-are, refused-by-files, refused-short, refused-by-form, form-zero, refused-by-truth, answered}
+use Rattle.card.proofs.Checking.{layout-boats, pairs-room, pairs-asked, found-are, promised, refused-by-files, refused-short, refused-by-form, form-zero, refused-by-truth, answered}
 use borrow.Author.Needs.{needs}
 use Rattle.card.proofs.check_card.Statement.{statement}
 use Rattle.card.proofs.check_card.Tie as tie
@@ -23,13 +23,19 @@ files-refusal-requires : tie.Need-files-refusal-requires
 files-refusal-requires c κs = search needs
 
 returns : tie.Need-returns
-returns c = refused-by-files _ _ _ _ _ (c .before .files-refusal .ensures) (c .if1 .taken)
+returns c =
+    let at-files-refusal = c .before in
+    let start = at-files-refusal .before .before .before .before .before in
+    promised _ _ _ (now (start .args .shares)) (bytes-of _ (at-files-refusal .before .before .shared-slice-known3 .given)) (refused-by-files _ _ _ _ _ (at-files-refusal .files-refusal .ensures) (c .if1 .taken))
 
 layout-of-requires : tie.Need-layout-of-requires
 layout-of-requires c κs = search needs
 
 returns-2 : tie.Need-returns-2
-returns-2 c = refused-short _ _ _ _ (sym (c .before .before .before .files-refusal .ensures) ∙ c .before .before .if1 .left) (c .before .layout-of .ensures) (c .if2 .taken)
+returns-2 c =
+    let at-files-refusal = c .before .before .before in
+    let start = at-files-refusal .before .before .before .before .before in
+    promised _ _ _ (now (start .args .shares)) (bytes-of _ (at-files-refusal .before .before .shared-slice-known3 .given)) (refused-short _ _ _ _ (sym (at-files-refusal .files-refusal .ensures) ∙ c .before .before .if1 .left) (c .before .layout-of .ensures) (c .if2 .taken))
 
 steps-requires : tie.Need-steps-requires
 steps-requires c κs = sheet-fits _ _ (sym (c .before .before .before .files-refusal .ensures) ∙ c .before .before .if1 .left) .at-least
@@ -43,7 +49,8 @@ returns-3 c =
     let at-if1 = at-layout-of .before in
     let at-files-refusal = at-if1 .before in
     let accepted = sym (at-files-refusal .files-refusal .ensures) ∙ at-if1 .if1 .left in
-    refused-by-form _ _ _ _ accepted (at-layout-of .layout-of .ensures) (c .before .before .before .if2 .left) refl (c .before .before .steps .ensures) (c .before .form-refusal .ensures) (c .if3 .taken)
+    let start = at-files-refusal .before .before .before .before .before in
+    promised _ _ _ (now (start .args .shares)) (bytes-of _ (at-files-refusal .before .before .shared-slice-known3 .given)) (refused-by-form _ _ _ _ accepted (at-layout-of .layout-of .ensures) (c .before .before .before .if2 .left) refl (c .before .before .steps .ensures) (c .before .form-refusal .ensures) (c .if3 .taken))
 
 pair-count-requires : tie.Need-pair-count-requires
 pair-count-requires c κs =
@@ -126,7 +133,8 @@ returns-4 c =
     let at-if1 = at-layout-of .before in
     let at-files-refusal = at-if1 .before in
     let accepted = sym (at-files-refusal .files-refusal .ensures) ∙ at-if1 .if1 .left in
-    refused-by-truth _ _ _ _ accepted (at-layout-of .layout-of .ensures) (at-if2 .if2 .left) refl (at-steps .steps .ensures) (at-form-refusal .form-refusal .ensures) (at-if3 .if3 .left) _ (sym (c .before .n .given .1) ∙ c .before .before .before .judged .ensures)
+    let start = at-files-refusal .before .before .before .before .before in
+    promised _ _ _ (now (start .args .shares)) (bytes-of _ (at-files-refusal .before .before .shared-slice-known3 .given)) (refused-by-truth _ _ _ _ accepted (at-layout-of .layout-of .ensures) (at-if2 .if2 .left) refl (at-steps .steps .ensures) (at-form-refusal .form-refusal .ensures) (at-if3 .if3 .left) _ (sym (c .before .n .given .1) ∙ c .before .before .before .judged .ensures))
 
 same-length : tie.Need-same-length
 same-length c = search needs
@@ -148,7 +156,7 @@ returns-5 c =
     let at-shared-slice-known3 = at-files-refusal .before .before in
     let start = at-shared-slice-known3 .before .before .before in
     let well-formed = form-zero _ _ _ (now (start .args .shares)) accepted (at-layout-of .layout-of .ensures) (at-if2 .if2 .left) refl (at-steps .steps .ensures) (at-form-refusal .form-refusal .ensures) (at-if3 .if3 .left) in
-    answered _ _ _ _ accepted (at-layout-of .layout-of .ensures) (at-if2 .if2 .left) refl (at-steps .steps .ensures) (at-form-refusal .form-refusal .ensures) (at-if3 .if3 .left) (bytes-of _ (at-shared-slice-known3 .shared-slice-known3 .given)) _ (found-are _ _ _ accepted well-formed (at-pair-count .pair-count .ensures .0) (at-shares-of .shares-of .ensures)) (search (needs, at-shares-of .shares-of .ok)) (c .before .before .fill .ensures) _ (sym (at-answer .answer .given .1) ∙ at-judged .judged .ensures)
+    promised _ _ _ (now (start .args .shares)) (bytes-of _ (at-shared-slice-known3 .shared-slice-known3 .given)) (answered _ _ _ _ accepted (at-layout-of .layout-of .ensures) (at-if2 .if2 .left) refl (at-steps .steps .ensures) (at-form-refusal .form-refusal .ensures) (at-if3 .if3 .left) _ (found-are _ _ _ accepted well-formed (at-pair-count .pair-count .ensures .0) (at-shares-of .shares-of .ensures)) (search (needs, at-shares-of .shares-of .ok)) (c .before .before .fill .ensures) _ (sym (at-answer .answer .given .1) ∙ at-judged .judged .ensures))
 
 pub check-card-spec : {M : Type 1} → statement M
 check-card-spec =
