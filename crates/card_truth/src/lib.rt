@@ -14,13 +14,14 @@ ghost use Rattle.card_format.specs.Checks.{shares-total, numbers-agree};
 ghost use Rattle.card_input.specs.Forms.{form-refusal};
 ghost use Rattle.card_truth.specs.Truth.{truth-refusal};
 use iteration::Layout;
+use iteration::State;
 use method::Answer;
 use method::Searched;
 
 // Whether a card's boats that hold shares are no more than its steps used, and the shares total t (t + 1) / 2.
 fn shares_total(card: &[u8], shares: [u16; 256], boats: usize) -> bool
     requires { ⌜ (36 ≤ length (now card)) × (boats ≤ 256) ⌝ }
-    requires { ⌜ card-fields (now card) .steps ≤ 360 ⌝ }
+    requires { do ⌜ card-fields (now card) .steps ≤ (← ⟦State::MOST_STEPS⟧) ⌝ }
     ensures { λ r. ⌜ r ≡ shares-total (pair-count (now (card .entry))) (take boats shares) (card-fields (now (card .entry)) .steps) ⌝ }
 {
     let t = card_input::steps_used(card);

@@ -12,6 +12,9 @@ ghost use Rattle.files.specs.Book.{boats, columns, Book-whole, rows-offs
 ghost use Rattle.files.specs.Sheet.{sheet-columns, Sheet-whole, target-offset};
 ghost use Rattle.files.specs.Sheet as Sheets;
 
+// The most steps that a sheet may ask for.
+pub const MOST_STEPS: u32 = 360;
+
 // A byte in a wider type.
 fn wide(x: u8) -> u32
     ensures { λ r. ⌜ r ≡ x ⌝ }

@@ -92,7 +92,8 @@ pub struct State {
 }
 
 impl State {
-    pub const MOST_STEPS: u32 = 360;
+    // A run takes at most as many steps as a sheet may ask for, 360.
+    pub const MOST_STEPS: u32 = files::MOST_STEPS;
 
     // No step taken, r = 0. `first` is the boat that the first step picks.
     pub fn fresh(first: Least) -> State
@@ -111,7 +112,7 @@ impl State {
         requires { ⌜ files-refusal (now book) (now sheet) ≡ 0 ⌝ }
         requires { ⌜ layout ≡ file-layout (now book) (now sheet) ⌝ }
         requires { ⌜ Holds (now book) (now sheet) (self .steps) self ⌝ }
-        requires { ⌜ self .steps < 360 ⌝ }
+        requires { do ⌜ self .steps < (← ⟦State::MOST_STEPS⟧) ⌝ }
         requires { ⌜ pick ≡ least-of (scores-of (now book) (now sheet) (self .steps + 1)) ⌝ }
         ensures { λ r. ⌜ Holds (now (book .entry)) (now (sheet .entry)) (self .steps + 1) r ⌝ }
     {

@@ -12,6 +12,7 @@ ghost use Rattle.method.specs.Iterates.{weight};
 ghost use Rattle.iteration.specs.States.{file-layout};
 ghost use Rattle.method.specs.Bounds.{answer-of};
 use iteration::Layout;
+use iteration::State;
 use method::Answer;
 
 // The residual of the first shares, one a boat: the sum over the boats of share × (row - target), one entry a column.
@@ -41,7 +42,7 @@ fn residual_of(book: &[u8], sheet: &[u8], layout: Layout, shares: [u16; 256]) ->
 pub fn answer_of(book: &[u8], sheet: &[u8], layout: Layout, shares: [u16; 256], t: u32) -> Answer
     requires { ⌜ files-refusal (now book) (now sheet) ≡ 0 ⌝ }
     requires { ⌜ layout ≡ file-layout (now book) (now sheet) ⌝ }
-    requires { ⌜ (1 ≤ t) × (t ≤ 360) ⌝ }
+    requires { do ⌜ (1 ≤ t) × (t ≤ (← ⟦State::MOST_STEPS⟧)) ⌝ }
     requires { ⌜ sum (take (boats (now book)) shares) ≡ weight t ⌝ }
     ensures { λ x. ⌜ x ≡ answer-of (now (book .entry)) (now (sheet .entry)) (take (boats (now (book .entry))) shares) t ⌝ }
 {

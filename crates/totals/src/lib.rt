@@ -1,11 +1,11 @@
-// The totals of the shares 1, 2, .., t, for t from 0 to 360.
+// The totals of the shares 1, 2, .., t, for each t up to the most steps, 360.
 //
 // Helper for other crates, whose callers prove what it requires: total_after.
 ghost use mathlib.Core.Path.{_≡_};
 ghost use Prim.Native.Nat.{_≤_};
 ghost use Rattle.method.specs.Iterates.{weight};
 
-const TOTALS: [u32; 361] = [
+const TOTALS: [u32; files::MOST_STEPS as usize + 1] = [
     0,
     1,
     3,
@@ -371,7 +371,7 @@ const TOTALS: [u32; 361] = [
 
 // W after t steps.
 pub fn total_after(t: u32) -> u32
-    requires { ⌜ t ≤ 360 ⌝ }
+    requires { do ⌜ t ≤ (← ⟦files::MOST_STEPS⟧) ⌝ }
     ensures { λ r. ⌜ r ≡ weight t ⌝ }
 {
     TOTALS[t as usize]

@@ -8,6 +8,9 @@ ghost use Rattle.files.specs.Sheet.{sheet-refusal, files-refusal};
 // The most bytes a file may have.
 const MOST_BYTES: usize = 40000;
 
+// The most steps a sheet may ask for.
+const MOST_STEPS: usize = files::MOST_STEPS as usize;
+
 // The number that refuses a fleet book, or 0.
 pub fn book_refusal(book: &[u8]) -> u32
     ensures { λ r. ⌜ r ≡ book-refusal (now (book .entry)) ⌝ }
@@ -42,7 +45,7 @@ pub fn sheet_refusal(sheet: &[u8], columns: u32) -> u32
     if files::sheet_columns(sheet) != columns {
         return 13;
     }
-    if !file_parts::is_between(1, 360, files::steps(sheet) as usize) {
+    if !file_parts::is_between(1, MOST_STEPS, files::steps(sheet) as usize) {
         return 14;
     }
     if files::tolerance(sheet) > 1024000000 {
