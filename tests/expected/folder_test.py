@@ -6,9 +6,10 @@ import sys
 sys.path.insert(0, os.path.join(os.path.dirname(os.path.abspath(__file__)), ".."))
 from printing import checksum, data_file  # noqa: E402
 
-FOLDERS = {"folder"}
 MOST = 40001  # the bytes that the program's buffer holds
+MOST_OF_A_PATH = 4095
 
+folders = {"", "folder"}
 files = {"short": data_file("folder_test", "short"), "folder/inside": data_file("folder_test", "folder/inside")}
 
 
@@ -22,18 +23,33 @@ def named(name):
     return name + "\n" + read(name)
 
 
-def replaced(name, content, writable=True):
-    done = writable and name not in FOLDERS
+def replaced(name, content, title=None, path_length=0):
+    """A new file beside it has a path that is 7 bytes longer, and takes the place of a file only."""
+    new_path = max(path_length, len(name)) + len(".XXXXXX")
+    done = os.path.dirname(name) in folders and name not in folders and new_path <= MOST_OF_A_PATH
     if done:
         files[name] = content
-    return "%s\nreplaced %d\n%s%s" % (name, done, read(name), read("the temporary file, which is gone"))
+    return "%s\nreplaced %d\n%s" % (title or name, done, read(name))
+
+
+def empty(folder):
+    """Whether nothing is left in a folder: no file of the table, since a new one is renamed or removed."""
+    return "empty %d\n" % (not any(os.path.dirname(name) == folder for name in files))
 
 
 def main():
     out = [named("none"), named("short"), named("folder")]
     out += [replaced("card", content) for content in (b"first", b"second and longer", b"", b"last")]
     out += [replaced("long", b"x" * length) for length in (40000, 40001, 40002)]
-    out += [replaced("folder", b"not a folder"), replaced("card", b"not written", writable=False), named("folder/inside")]
+    out += [replaced("folder", b"not a folder"), replaced("none/card", b"not written")]
+    out += [replaced("folder/inside", b"not written", title="4,095 bytes of path", path_length=MOST_OF_A_PATH)]
+    out += [named("folder/inside")]
+    folders.add("new")
+    out += [replaced("new/card", b"first"), replaced("new/card", b"second")]
+    del files["new/card"]
+    out += [empty("new")]
+    folders.add("new/card")
+    out += [replaced("new/card", b"not a folder"), empty("new")]
     sys.stdout.write("".join(out))
 
 

@@ -1,4 +1,4 @@
-// What the programs share: files read whole, listings printed, faults told on standard error.
+// What the programs share: files read and replaced whole, listings printed, faults told on standard error.
 // Each function is safe and ends; what the system reads and writes no contract can say.
 ghost use mathlib.Core.Path.{_≡_};
 ghost use Prim.Native.Nat.{_≤_};
@@ -53,6 +53,16 @@ pub fn read_file(path: &[u8], buffer: &mut [u8]) -> usize
     n
 }
 
+// The same of a file in a folder. The current folder has no name.
+pub fn read_in(folder: &[u8], name: &[u8], buffer: &mut [u8]) -> usize
+    ensures { λ r. ⌜ Counts r (now (buffer .exit)) ⌝ }
+{
+    let path = paths::path_in(folder, name);
+    let bytes = path.bytes;
+    let len = path.len;
+    read_file(first_bytes(&bytes, len), buffer)
+}
+
 // Writes a new file whole, lets everybody read it, and closes it. Whether all of that was done.
 fn write_whole(fd: i32, content: &[u8]) -> bool {
     let written = io::write_all(fd, content);
@@ -71,9 +81,8 @@ fn write_whole(fd: i32, content: &[u8]) -> bool {
     closed
 }
 
-// Puts a file of this content in the place of `path`, and answers whether it did. It is written under another name, which
-// `temporary` gives but for its last six letters, and then renamed, so that on a fault an older file stays as it was.
-pub fn replace_file(path: &[u8], temporary: &mut [u8], content: &[u8]) -> bool {
+// Puts a file in the place of `path` by way of a new one, which `temporary` names but for its last six letters.
+fn replace_by(path: &[u8], temporary: &mut [u8], content: &[u8]) -> bool {
     let fd = os::create_temp(temporary);
     if fd < 0 {
         return false;
@@ -85,6 +94,15 @@ pub fn replace_file(path: &[u8], temporary: &mut [u8], content: &[u8]) -> bool {
     }
     os::unlink(temporary);
     false
+}
+
+// Puts a file of this content in the place of `path`, and answers whether it did. It is written under another name in the same
+// folder and then renamed, so that on a fault an older file stays as it was.
+pub fn replace_file(path: &[u8], content: &[u8]) -> bool {
+    let temporary = paths::temporary_path(path);
+    let mut bytes = temporary.bytes;
+    let len = temporary.len;
+    replace_by(path, &mut bytes[..len], content)
 }
 
 // Prints a text.

@@ -1,6 +1,11 @@
 // Files of a folder read, replaced and read again: one that is missing, empty, as long as a file may be or longer, a folder in
 // the place of a file, and one that cannot be written. The expected output is made by tests/expected/folder_test.py.
 
+// Prints whether something was done.
+fn done(word: &[u8], yes: bool) {
+    printing::line(word, if yes { 1 } else { 0 });
+}
+
 // Reads a file and prints how many of its bytes there are, at most 40,001, and a sum over them.
 fn read(name: &[u8]) {
     let mut buffer = [0u8; 40001];
@@ -15,40 +20,66 @@ fn named(name: &[u8]) {
     read(name);
 }
 
-// Puts a file in the place of another, prints whether that was done, and reads it. No other file is left.
-fn replaced(name: &[u8], temporary: &mut [u8], content: &[u8]) {
-    let done = file_io::replace_file(name, &mut *temporary, content);
-    printing::title(name);
-    printing::line(b"replaced", if done { 1 } else { 0 });
+// Puts a file in the place of another, prints whether that was done, and reads it.
+fn replace(name: &[u8], content: &[u8]) {
+    done(b"replaced", file_io::replace_file(name, content));
     read(name);
-    read(temporary);
 }
 
-// By way of a new file in this folder.
-fn here(name: &[u8], content: &[u8]) {
-    let mut temporary = *b"new.XXXXXX";
-    replaced(name, &mut temporary, content);
+// The same, with the file's name.
+fn replaced(name: &[u8], content: &[u8]) {
+    printing::title(name);
+    replace(name, content);
 }
 
 // A file of the first `length` bytes of 40,002.
 fn long(length: usize) {
     let bytes = [120u8; 40002];
-    here(b"long", file_io::first_bytes(&bytes, length));
+    replaced(b"long", file_io::first_bytes(&bytes, length));
+}
+
+// A file whose path has 4,095 bytes, so that no longer one can name another file beside it. Several slashes count as one.
+fn long_path() {
+    let mut path = [47u8; 4095];
+    buffers::put_part(&mut path, 0, b"folder", 0, 6);
+    buffers::put_part(&mut path, 4089, b"inside", 0, 6);
+    printing::title(b"4,095 bytes of path");
+    replace(&path, b"not written");
+}
+
+// In a folder of their own, which is removed only if it is empty: replaced files leave no other file behind.
+fn no_other_file() {
+    os::mkdir(b"new");
+    replaced(b"new/card", b"first");
+    replaced(b"new/card", b"second");
+    os::unlink(b"new/card");
+    done(b"empty", os::rmdir(b"new") == 0);
+}
+
+// The same where a folder stands in the file's place.
+fn no_other_file_on_a_fault() {
+    os::mkdir(b"new");
+    os::mkdir(b"new/card");
+    replaced(b"new/card", b"not a folder");
+    os::rmdir(b"new/card");
+    done(b"empty", os::rmdir(b"new") == 0);
 }
 
 fn main() {
     named(b"none");
     named(b"short");
     named(b"folder");
-    here(b"card", b"first");
-    here(b"card", b"second and longer");
-    here(b"card", b"");
-    here(b"card", b"last");
+    replaced(b"card", b"first");
+    replaced(b"card", b"second and longer");
+    replaced(b"card", b"");
+    replaced(b"card", b"last");
     long(40000);
     long(40001);
     long(40002);
-    here(b"folder", b"not a folder");
-    let mut temporary = *b"none/new.XXXXXX";
-    replaced(b"card", &mut temporary, b"not written");
+    replaced(b"folder", b"not a folder");
+    replaced(b"none/card", b"not written");
+    long_path();
     named(b"folder/inside");
+    no_other_file();
+    no_other_file_on_a_fault();
 }

@@ -1,0 +1,11 @@
+-- The bytes of a text are the first of its array. Assumes nothing.
+use mathlib.Core.Path.{_≡_, sym}
+use Prim.Native.Nat.{_≤_}
+use native.Mathlib.Omega.{arith}
+use lib.ListN.{length}
+use lib.Seq.{length-take-le}
+use Rattle.io.specs.Counts.{Counts}
+use Rattle.text.specs.declared.Text.{Text}
+
+pub text-counts : (t : Text) → length (t .bytes) ≡ 4096 → t .len ≤ 4096 → Counts (t .len) (t .bytes)
+text-counts t l h = (omega arith, sym (length-take-le (t .len) (t .bytes) (omega arith)))
