@@ -1,8 +1,5 @@
 #!/usr/bin/env python3
-"""Write the sample fleet book and sheet of this folder: three boats in two columns, and a target between them.
-
-The programs' data folders get the same files, and mixcheck's the card of their search.
-"""
+"""Write the sample fleet book and sheet of this folder: three boats in two columns, and a target between them."""
 import os
 import sys
 
@@ -13,21 +10,11 @@ import exact  # noqa: E402
 ROWS = [[0, 0], [4, 0], [0, 4]]
 
 
-DATA = os.path.join(HERE, "..", "crates")
-
-
-def write(folder, name, content):
-    os.makedirs(folder, exist_ok=True)
-    with open(os.path.join(folder, name), "wb") as file:
+def write(name, content):
+    with open(os.path.join(HERE, name), "wb") as file:
         file.write(content)
 
 
 if __name__ == "__main__":
-    book = exact.make_book(ROWS)
-    sheet = exact.make_sheet([1, 1], steps=9, tolerance=1)
-    _, _, length, card = exact.write_card(book, sheet, bytes(1060))
-    folders = [HERE] + [os.path.join(DATA, name, "data") for name in ("mixlist", "mixcard", "mixcheck")]
-    for folder in folders:
-        write(folder, "fleet.wbk", book)
-        write(folder, "sheet.wsh", sheet)
-    write(folders[-1], "card.wcd", card[:length])
+    write("fleet.wbk", exact.make_book(ROWS))
+    write("sheet.wsh", exact.make_sheet([1, 1], steps=9, tolerance=1))

@@ -1,17 +1,18 @@
 #!/usr/bin/env python3
-"""Write the files of crates/search_test/data: the marked sheets and the limits of the files."""
+"""Write the files that the programs and test programs are run on, crates/NAME/data."""
 import os
 import sys
 
 HERE = os.path.dirname(os.path.abspath(__file__))
 sys.path.insert(0, HERE)
-from exact import make_book, make_sheet  # noqa: E402
+from exact import make_book, make_card, make_sheet, write_card  # noqa: E402
 
-DATA = os.path.join(HERE, "..", "crates", "search_test", "data")
+CRATES = os.path.join(HERE, "..", "crates")
 
 P = [[0, 0], [4, 0], [0, 4]]
 LINE = [[-2000], [2000]]
 
+# search_test: the marked sheets and the limits of the files.
 FILES = {
     "p.wbk": make_book(P),
     "a.wsh": make_sheet([1, 1], steps=9, tolerance=1),
@@ -42,8 +43,69 @@ FILES = {
     "tolerance1.wsh": make_sheet([0], steps=1, tolerance=1024000001),
 }
 
+
+def searched_card(book, sheet):
+    """The card of a search."""
+    _, _, length, written = write_card(book, sheet, bytes(1060))
+    return written[:length]
+
+
+def folder(book=None, sheet=None, card=None):
+    """The files of a folder, under the names that the programs read."""
+    files = {"fleet.wbk": book, "sheet.wsh": sheet, "card.wcd": card}
+    return {name: content for name, content in files.items() if content is not None}
+
+
+BOOK = FILES["p.wbk"]
+SHEET = FILES["a.wsh"]
+CARD = searched_card(BOOK, SHEET)
+# Two shares of each boat, which is true of BOOK and SHEET and which no search finds.
+HAND_CARD = make_card([(0, 2), (1, 2), (2, 2)], verdict=1, steps=3, tolerance=1, distance=8, gap=32, boats=3, columns=2)
+# One share more than 3 steps have.
+WRONG_CARD = make_card([(0, 2), (1, 2), (2, 3)], verdict=1, steps=3, tolerance=1, distance=8, gap=32, boats=3, columns=2)
+LARGER = make_book([[(i * i * 37 + j * 101 + i * j * 7) % 331 - 165 for j in range(5)] for i in range(12)], front=b"twelve boats\n")
+LARGER_SHEET = make_sheet([3, -20, 15, 0, 40], steps=40, tolerance=9, front=b"five columns\n")
+
+# program_test: folders by their names. The current folder has no name. In `long` each file is replaced by longer ones.
+FOLDERS = {
+    "": folder(BOOK, SHEET),
+    "larger": folder(LARGER, LARGER_SHEET),
+    "beyond": folder(BOOK, FILES["d.wsh"], b"an older card"),
+    "spent": folder(BOOK, FILES["c.wsh"], b"front text" + searched_card(BOOK, FILES["c.wsh"])),
+    "by_hand": folder(BOOK, SHEET, HAND_CARD),
+    "other_tolerance": folder(BOOK, make_sheet([1, 1], steps=9, tolerance=2), CARD),
+    "other_target": folder(BOOK, make_sheet([1, 2], steps=9, tolerance=1), CARD),
+    "book_refused": folder(make_book([[0, 0], [2001, 0], [0, 4]]), SHEET, CARD),
+    "sheet_refused": folder(BOOK, FILES["j.wsh"], CARD),
+    "card_refused": folder(BOOK, SHEET, WRONG_CARD),
+    "no_book": folder(None, SHEET, CARD),
+    "no_sheet": folder(BOOK, None, CARD),
+    "card_a_folder": {**folder(BOOK, SHEET), "card.wcd/inside": b"a folder stands in the place of the card\n"},
+    "long": folder(BOOK, SHEET),
+}
+
+# The programs, each in a folder of its own, so that one that does another's work prints something else.
+PROGRAMS = {
+    "mixlist": folder(LARGER, LARGER_SHEET),
+    "mixcard": folder(BOOK, FILES["d.wsh"], b"an older card"),
+    "mixcheck": folder(BOOK, SHEET, HAND_CARD),
+}
+
+
+def write(crate, name, content):
+    path = os.path.join(CRATES, crate, "data", name)
+    os.makedirs(os.path.dirname(path), exist_ok=True)
+    with open(path, "wb") as file:
+        file.write(content)
+
+
+def main():
+    data = {"search_test": FILES, **PROGRAMS}
+    data["program_test"] = {os.path.join(name, file): content for name, files in FOLDERS.items() for file, content in files.items()}
+    for crate, files in data.items():
+        for name, content in files.items():
+            write(crate, name, content)
+
+
 if __name__ == "__main__":
-    os.makedirs(DATA, exist_ok=True)
-    for name, content in FILES.items():
-        with open(os.path.join(DATA, name), "wb") as file:
-            file.write(content)
+    main()

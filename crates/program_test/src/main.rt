@@ -1,0 +1,84 @@
+// The work of the three programs in one folder after another: what each prints, and the card that is left. The files of data/
+// are made by tests/make_data.py, the expected output by tests/expected/program_test.py.
+
+// Prints how many bytes a folder's card has, at most 40,001, and a sum over them.
+fn card_left(folder: &[u8]) {
+    let mut filed = [0u8; 40001];
+    let n = file_io::read_in(folder, b"card.wcd", &mut filed);
+    printing::line(b"bytes", n as u64);
+    printing::line(b"sum", buffers::checksum(&filed[..n]));
+}
+
+// Lists the search of a folder, checks the card that stands there, files the card of the search, and checks again.
+fn programs(folder: &[u8]) {
+    printing::title(b"mixlist");
+    search_folder::list_search(folder);
+    printing::title(b"mixcheck");
+    card_folder::check_card(folder);
+    printing::title(b"mixcard");
+    card_folder::file_card(folder);
+    card_left(folder);
+    printing::title(b"mixcheck");
+    card_folder::check_card(folder);
+}
+
+// The same in each folder of a table, whose lines are names.
+fn each(table: &[u8]) {
+    let mut at = 0;
+    while at < table.len() {
+        let folder = tables::line(table, at);
+        printing::title(folder);
+        programs(folder);
+        at = tables::next_line(table, at);
+    }
+}
+
+// Puts the file of this name in the current folder behind zeros, so that it ends at 40,000 bytes, and the first `length` of 40,001
+// bytes into the folder `long`. A book, sheet or card of 40,001 bytes that were cut would pass.
+fn put_long(name: &[u8], length: usize) {
+    let mut short = [0u8; 256];
+    let mut file = [0u8; 40001];
+    let n = file_io::read_file(name, &mut short);
+    buffers::put_part(&mut file, buffers::less(40000, n), &short, 0, n);
+    let path = paths::path_in(b"long", name);
+    let bytes = path.bytes;
+    let len = path.len;
+    file_io::replace_file(
+        file_io::first_bytes(&bytes, len),
+        file_io::first_bytes(&file, length),
+    );
+}
+
+// The same in the folder `long`, once a file of it is so long.
+fn long(name: &[u8], length: usize) {
+    put_long(name, length);
+    printing::line(name, length as u64);
+    programs(b"long");
+}
+
+fn main() {
+    printing::title(b"the current folder");
+    programs(b"");
+    each(
+        b"larger
+beyond
+spent
+by_hand
+other_tolerance
+other_target
+book_refused
+sheet_refused
+card_refused
+no_book
+no_sheet
+card_a_folder
+none
+",
+    );
+    long(b"card.wcd", 40000);
+    long(b"card.wcd", 40001);
+    long(b"sheet.wsh", 40001);
+    long(b"sheet.wsh", 40000);
+    long(b"fleet.wbk", 40001);
+    long(b"fleet.wbk", 40000);
+}
