@@ -1,28 +1,19 @@
 // The work of mixcard and mixcheck, in a folder that the caller names. What the system reads and writes no contract can say;
 // program_test holds what is printed and filed to the reference.
 // Of each file one byte more is read than it may have, so that a longer file is refused and not cut.
-use card::Written;
 
-// Files a card; what is in the way goes to standard error.
-fn file(path: &[u8], content: &[u8]) -> bool {
-    if file_io::replace_file(path, content) {
+// Files the card of a search, which has no bytes where the search is refused; what is in the way goes to standard error.
+// Whether there is a listing to print.
+fn file(path: &[u8], output: &[u8; 1060], len: usize) -> bool {
+    if len == 0 {
+        file_io::tell(path, b": not written, the search is refused\n");
+        return true;
+    }
+    if file_io::replace_file(path, file_io::first_bytes(output, len)) {
         return true;
     }
     file_io::tell(path, b": could not be written\n");
     false
-}
-
-// Files the card of a run, of at most 4 × 256 + 36 bytes. Whether there is a listing to print.
-fn write(path: &[u8], book: &[u8], sheet: &[u8]) -> bool {
-    let mut output = [0u8; 1060];
-    let written = card::write_card(book, sheet, &mut output);
-    match written {
-        Written::Refused(_) => {
-            file_io::tell(path, b": not written, the search is refused\n");
-            true
-        }
-        Written::Filed(_, len) => file(path, file_io::first_bytes(&output, len)),
-    }
 }
 
 // Searches fleet.wbk and sheet.wsh in a folder, files the card there as card.wcd and prints the listing. The current folder has no name.
@@ -32,11 +23,13 @@ pub fn file_card(folder: &[u8]) {
     let mut sheet = [0u8; 40001];
     let n = file_io::read_in(folder, b"fleet.wbk", &mut book);
     let m = file_io::read_in(folder, b"sheet.wsh", &mut sheet);
+    let mut output = [0u8; 1060];
+    let filing = card_listing::filed_text(&book[..n], &sheet[..m], &mut output);
     let path = paths::path_in(folder, b"card.wcd");
     let bytes = path.bytes;
-    let len = path.len;
-    if write(file_io::first_bytes(&bytes, len), &book[..n], &sheet[..m]) {
-        file_io::print(search_listing::search_listing(&book[..n], &sheet[..m]));
+    let name = file_io::first_bytes(&bytes, path.len);
+    if file(name, &output, filing.len) {
+        file_io::print(filing.text);
     }
 }
 

@@ -1,12 +1,26 @@
--- The listing of a card. Definition only. Assumes nothing.
-use mathlib.Core.List.{List}
+-- The listing of a card, and the card that a search leaves. Definitions only. Assumes nothing.
+use mathlib.Core.Bool.{cond}
+use mathlib.Core.List.{List, []}
 use Prim.Native.Nat.{ℕ}
+use lib.Dec.{eqb}
 use Rattle.files.specs.Book.{boats}
+use Rattle.files.specs.Sheet.{files-refusal}
 use Rattle.method.specs.Answers.{outcome}
-use Rattle.card_format.specs.Format.{card-shares, card-answer}
+use Rattle.card.specs.declared.Written.{Written}
+use Rattle.card.specs.declared.Written.the-variants.{Refused, Filed}
+use Rattle.card_format.specs.Format.{card-shares, card-answer, run-card}
 use Rattle.card_format.specs.Checks.{check-refusal}
 use Rattle.listing.specs.Lines.{outcome-listing}
 
 -- of a card's answer and shares, or of the number that refuses the files or the card; a list of 256 slots is long enough for any book
 unfoldable pub card-listing : (book sheet card : List ℕ) → List ℕ
 card-listing b s w = outcome-listing b s (outcome (check-refusal b s w 256) (card-answer b s w)) (card-shares (boats b) w)
+
+-- the card of a search: no bytes where the files are refused
+unfoldable pub search-card : (book sheet : List ℕ) → List ℕ
+search-card b s = cond (eqb (files-refusal b s) 0) (run-card b s) []
+
+-- how many bytes the card writer wrote: none where it refused
+unfoldable pub written-length : Written → ℕ
+written-length (Refused n) = 0
+written-length (Filed a size) = size

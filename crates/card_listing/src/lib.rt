@@ -1,8 +1,16 @@
-// The listing of a card that is checked against a fleet book and a sheet.
+// The listing of a card that is checked against a fleet book and a sheet, or that a search of them has just written.
 //
-// Entry, which asks nothing of its caller: card_text.
+// Entries, which ask nothing of their caller: card_text, filed_text.
+ghost use mathlib.Core.Path.{_≡_};
+ghost use Prim.Native.Nat.{_≤_};
+ghost use lib.ListN.{length, take};
+ghost use Rattle.files.specs.Sheet.{files-refusal};
+ghost use Rattle.method.specs.Answers.{slots-after};
+ghost use Rattle.card_format.specs.Format.{run-card};
 ghost use Rattle.text.specs.Texts.{Holds};
-ghost use Rattle.card_listing.specs.Cards.{card-listing};
+ghost use Rattle.search_listing.specs.Searches.{search-listing};
+ghost use Rattle.card_listing.specs.Cards.{card-listing, search-card, written-length};
+use card::Written;
 use text::Text;
 
 // ENTRY. The listing of a card's answer and shares, or of the number that refuses the files or the card.
@@ -13,4 +21,40 @@ pub fn card_text(book: &[u8], sheet: &[u8], filed: &[u8]) -> Text
     let mut shares = [0u16; 256];
     let outcome = card::check_card(book, sheet, filed, &mut shares);
     listing::outcome_listing(book, sheet, outcome, shares)
+}
+
+// How many bytes the card writer wrote.
+fn written_length(written: Written) -> usize
+    ensures { λ r. ⌜ r ≡ written-length written ⌝ }
+{
+    match written {
+        Written::Refused(_) => 0,
+        Written::Filed(_, len) => len,
+    }
+}
+
+// The listing of the card in the first bytes of a buffer.
+fn first_text(book: &[u8], sheet: &[u8], buffer: &[u8], len: usize) -> Text
+    requires { ⌜ len ≤ length (now buffer) ⌝ }
+    ensures { λ r. ⌜ Holds (card-listing (now (book .entry)) (now (sheet .entry)) (take len (now (buffer .entry)))) r ⌝ }
+{
+    card_text(book, sheet, &buffer[..len])
+}
+
+// What a search leaves to be filed and to be said: how many bytes its card has, 0 where the files are refused, and the listing.
+pub struct Filing {
+    pub len: usize,
+    pub text: Text,
+}
+
+// ENTRY. The card of a search, written to the first bytes of `output`, and the listing of the search. Refused files leave the buffer
+// as it was; no card is longer than it. One search is made: its listing is that of the card which it wrote.
+pub fn filed_text(book: &[u8], sheet: &[u8], output: &mut [u8; 1060]) -> Filing
+    ensures { λ r. ⌜ r .len ≡ length (search-card (now (book .entry)) (now (sheet .entry))) ⌝ }
+    ensures { λ r. ⌜ Holds (search-listing (now (book .entry)) (now (sheet .entry))) (r .text) ⌝ }
+    ensures { λ _. ⌜ now (output .exit) ≡ slots-after (files-refusal (now (book .entry)) (now (sheet .entry))) (run-card (now (book .entry)) (now (sheet .entry))) (now (output .entry)) ⌝ }
+{
+    let len = written_length(card::write_card(book, sheet, output));
+    let text = first_text(book, sheet, output, len);
+    Filing { len, text }
 }
