@@ -34,7 +34,7 @@ fn each(table: &[u8]) {
 }
 
 // Puts the file of this name in the current folder behind zeros, so that it ends at 40,000 bytes, and the first `length` of 40,001
-// bytes into the folder `long`. A book, sheet or card of 40,001 bytes that were cut would pass.
+// bytes into the folder `long`. Cut by its last byte, a book, sheet or card of 40,001 bytes would pass.
 fn put_long(name: &[u8], length: usize) {
     let mut short = [0u8; 256];
     let mut file = [0u8; 40001];
