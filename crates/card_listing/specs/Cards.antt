@@ -6,8 +6,6 @@ use lib.Dec.{eqb}
 use Rattle.files.specs.Book.{boats}
 use Rattle.files.specs.Sheet.{files-refusal}
 use Rattle.method.specs.Answers.{outcome}
-use Rattle.card.specs.declared.Written.{Written}
-use Rattle.card.specs.declared.Written.the-variants.{Refused, Filed}
 use Rattle.card_format.specs.Format.{card-shares, card-answer, run-card}
 use Rattle.card_format.specs.Checks.{check-refusal}
 use Rattle.listing.specs.Lines.{outcome-listing}
@@ -19,8 +17,3 @@ card-listing b s w = outcome-listing b s (outcome (check-refusal b s w 256) (car
 -- the card of a search: no bytes where the files are refused
 unfoldable pub search-card : (book sheet : List ℕ) → List ℕ
 search-card b s = cond (eqb (files-refusal b s) 0) (run-card b s) []
-
--- how many bytes the card writer wrote: none where it refused
-unfoldable pub written-length : Written → ℕ
-written-length (Refused n) = 0
-written-length (Filed a size) = size

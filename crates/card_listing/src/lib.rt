@@ -6,10 +6,11 @@ ghost use Prim.Native.Nat.{_≤_};
 ghost use lib.ListN.{length, take};
 ghost use Rattle.files.specs.Sheet.{files-refusal};
 ghost use Rattle.method.specs.Answers.{slots-after};
+ghost use Rattle.card.specs.Filing.{written-size};
 ghost use Rattle.card_format.specs.Format.{run-card};
 ghost use Rattle.text.specs.Texts.{Holds};
 ghost use Rattle.search_listing.specs.Searches.{search-listing};
-ghost use Rattle.card_listing.specs.Cards.{card-listing, search-card, written-length};
+ghost use Rattle.card_listing.specs.Cards.{card-listing, search-card};
 use card::Written;
 use text::Text;
 
@@ -24,8 +25,8 @@ pub fn card_text(book: &[u8], sheet: &[u8], filed: &[u8]) -> Text
 }
 
 // How many bytes the card writer wrote.
-fn written_length(written: Written) -> usize
-    ensures { λ r. ⌜ r ≡ written-length written ⌝ }
+fn written_size(written: Written) -> usize
+    ensures { λ r. ⌜ r ≡ written-size written ⌝ }
 {
     match written {
         Written::Refused(_) => 0,
@@ -54,7 +55,7 @@ pub fn filed_text(book: &[u8], sheet: &[u8], output: &mut [u8; 1060]) -> Filing
     ensures { λ r. ⌜ Holds (search-listing (now (book .entry)) (now (sheet .entry))) (r .text) ⌝ }
     ensures { λ _. ⌜ now (output .exit) ≡ slots-after (files-refusal (now (book .entry)) (now (sheet .entry))) (run-card (now (book .entry)) (now (sheet .entry))) (now (output .entry)) ⌝ }
 {
-    let len = written_length(card::write_card(book, sheet, output));
+    let len = written_size(card::write_card(book, sheet, output));
     let text = first_text(book, sheet, output, len);
     Filing { len, text }
 }

@@ -13,8 +13,8 @@ first-text-requires : tie.Need-first-text-requires
 first-text-requires c κs =
     let at-write = c .before .before .before in
     let x = at-write .before .before .before .before .args in
-    let most : c .before .before .written-length .result ≤ 1060 =
-    length-fits (now (x .book)) (now (x .sheet)) (now (x .output)) (search needs) (at-write .write-card .ensures .0) (c .before .before .written-length .ensures) in
+    let most : c .before .before .written-size .result ≤ 1060 =
+    length-fits (now (x .book)) (now (x .sheet)) (now (x .output)) (search needs) (at-write .write-card .ensures .0) (c .before .before .written-size .ensures) in
     let room : length (at-write .write-card .last .1 .1 .0) ≡ 1060 = search needs in
     omega arith
 
@@ -22,7 +22,7 @@ returns : tie.Need-returns
 returns c =
     let at-write = c .before .before .before .before in
     let x = at-write .before .before .before .before .args in
-    filed-listed (now (x .book)) (now (x .sheet)) (now (x .output)) (search needs) (at-write .write-card .ensures .0) (c .before .before .before .written-length .ensures)
+    filed-listed (now (x .book)) (now (x .sheet)) (now (x .output)) (search needs) (at-write .write-card .ensures .0) (c .before .before .before .written-size .ensures)
     (at-write .write-card .ensures .1 .0) (c .first-text .ensures)
 
 pub filed-text-spec : {M : Type 1} → statement M
