@@ -1,4 +1,3 @@
 -- The laws behind the proofs of this crate, and those of figures and texts that other crates use.
-pub mod Table
 pub mod Decimals
 pub mod Texts
