@@ -1,6 +1,6 @@
 -- Signed machine integers: a size with its sign, and the size of an integer below 0.
 use mathlib.Core.Path.{_≡_, refl, sym, ap, _∙_}
-use mathlib.Core.Bool.{true, false}
+use mathlib.Core.Bool.{Bool, true, false}
 use Prim.Native.Nat.{ℕ, suc, _+_, _≤_, _<_}
 use native.Mathlib.Omega.{arith}
 use borrow.Author.Tests.{ltb-true}
@@ -12,6 +12,10 @@ use mir.Val.{Fits, SFits, toZ, ofZ}
 use mir.ValLaws.{toZ-pos}
 use Rattle.integers.proofs.Bounds.{fits, read, abs-neg}
 use Rattle.rounding.specs.Rounding.{half-even, signed, rounded}
+
+pub abs-signed : (s : Bool) (n : ℕ) → natAbs (signed s n) ≡ n
+abs-signed false n = refl
+abs-signed true n = abs-neg (pos n)
 
 module _ (n : ℕ) (h : n ≤ 9007199254740993) where
   pub size-kept : toZ w64 n ≡ signed false n
