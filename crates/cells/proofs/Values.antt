@@ -114,7 +114,7 @@ target-passes c s good h =
     not-refused (all-in-range (values c (body 16 (2 * c) s))) p6 (rw q at good)
 
 -- ---- all of them
-default-value : cell-value unweighed ≡ pos 0
+pub default-value : cell-value unweighed ≡ pos 0
 unfolding cell-value net whole numerator denominator rounded half-even
 default-value = refl
 

@@ -1,0 +1,128 @@
+-- What one cell gives, test by test.
+use mathlib.Core.Path.{_≡_, refl, sym, ap, _∙_}
+use mathlib.Core.Bool.{Bool, true, false, _&&_, not}
+use Prim.Native.Nat.{ℕ, zero, suc, _≤_, _<_}
+use native.Mathlib.Omega.{arith}
+use borrow.Author.Tests.{le-leb, lt-leb, lt-ltb, le-ltb, ltb-true, ltb-false, not-true, not-false}
+use lib.IntN.{ℤ, pos, negsuc, natAbs}
+use lib.Signed.{ltZ}
+use lib.Ieee.{Float, binary64, sub}
+use mir.Syntax.{w16, w64}
+use mir.Val.{SFits, toZ, ofZ}
+use Rattle.integers.proofs.Bounds.{fits, read}
+use Rattle.files.specs.Bytes.{between, in-range}
+use Rattle.files.proofs.Refusal.{between-true}
+use Rattle.files.proofs.Values.{in-range-bound}
+use Rattle.readings.specs.Readings.{within-limit, whole}
+use Rattle.rounding.specs.Rounding.{rounded}
+use Rattle.cells.specs.declared.Cell.the-variants.{Unweighed, Net, Weighed}
+use Rattle.cells.specs.declared.Weighing.{Weighing}
+use Rattle.cells.specs.declared.ScaleCell.{ScaleCell}
+use Rattle.cells.specs.Cells.{is-weighed, net, cell-value, cell-refusal}
+use Rattle.cells.proofs.Judging.{gives-41, gives-42, gives-43, gives-0}
+use Rattle.conversion.specs.declared.Outcome.{Outcome}
+use Rattle.conversion.specs.Outcomes.{net-cell, cell-outcome, outcome-of}
+
+pub refused-by : (n : ℕ) → _≡_ {A = Outcome} (record { refusal = n; value = pos 0 }) (outcome-of n (pos 0))
+unfolding outcome-of
+refused-by zero = refl
+refused-by (suc n) = refl
+
+-- whole kilograms that are read back from their bits
+pub kilograms-small : (k : ℤ) → natAbs k ≤ 9007199254740992 → natAbs (toZ w64 (ofZ w64 k)) ≤ 9007199254740992
+kilograms-small k h = rw (read w64 9007199254740992 h tt) h
+
+-- a cell that is refused
+by-number : (s : ScaleCell) (n : ℕ) → cell-refusal s ≡ suc n → outcome-of (suc n) (pos 0) ≡ cell-outcome s
+unfolding cell-outcome outcome-of
+by-number s n e = rw e
+
+-- ---- a value outside the range, and inside
+too-low : (v : ℤ) → ltZ v (negsuc 1999) ≡ true → in-range v ≡ false
+unfolding in-range
+too-low (pos n) h = let z : _≡_ {A = ℕ} 0 1 = cc in absurd (omega arith)
+too-low (negsuc n) h = le-ltb n 2000 (omega (arith, ltb-true 1999 n h))
+
+too-high : (v : ℤ) → ltZ (pos 2000) v ≡ true → in-range v ≡ false
+unfolding in-range
+too-high (pos n) h = lt-leb n 2000 (ltb-true 2000 n h)
+too-high (negsuc n) h = let z : _≡_ {A = ℕ} 0 1 = cc in absurd (omega arith)
+
+inside : (v : ℤ) → ltZ v (negsuc 1999) ≡ false → ltZ (pos 2000) v ≡ false → in-range v ≡ true
+unfolding in-range
+inside (pos n) h k = le-leb n 2000 (ltb-false 2000 n k)
+inside (negsuc n) h k = lt-ltb n 2000 (omega (arith, ltb-false 1999 n h))
+
+and-none : (b : Bool) → b && false ≡ false
+and-none true = refl
+and-none false = refl
+
+-- ---- a net x in units of u kilograms: g1 and g2 are what the tests gave, y the value
+net-weighed : (x : Float) (u : ℕ) → is-weighed (net-cell x u .cell) ≡ true
+unfolding is-weighed
+net-weighed x u = refl
+
+module _ (x : Float) (u : ℕ) (g1 : Bool) (e1 : g1 ≡ within-limit x) where
+  abbrev s : ScaleCell
+  s = net-cell x u
+
+  limit-is : (t : Bool) → g1 ≡ t → within-limit (net (s .cell)) ≡ t
+  unfolding net
+  limit-is t e = sym e1 ∙ e
+
+  pub net-beyond : not g1 ≡ true → outcome-of 42 (pos 0) ≡ cell-outcome s
+  net-beyond t = by-number s 41 (gives-42 s (net-weighed x u) (limit-is false (not-true g1 t)))
+
+  module _ (t1 : not g1 ≡ false) where
+    pub net-within : within-limit x ≡ true
+    net-within = sym e1 ∙ not-false g1 t1
+
+    outside : between 1 10000 u && in-range (cell-value s) ≡ false → outcome-of 43 (pos 0) ≡ cell-outcome s
+    outside f = by-number s 42 (gives-43 s (net-weighed x u) (limit-is true (not-false g1 t1)) f)
+
+    module _ (g2 : Bool) (e2 : g2 ≡ between 1 10000 u) where
+      pub unit-outside : not g2 ≡ true → outcome-of 43 (pos 0) ≡ cell-outcome s
+      unit-outside t = outside (rw (← e2, not-true g2 t))
+
+      module _ (t2 : not g2 ≡ false) where
+        pub unit-some : 0 < u
+        unit-some = omega (arith, between-true 1 10000 u (sym e2 ∙ not-false g2 t2) .0)
+
+        pub value-is : {k v : ℤ} → k ≡ whole x → v ≡ rounded k u → v ≡ cell-value s
+        unfolding cell-value net
+        value-is ek ev = ev ∙ rw ek
+
+        fitting : in-range (cell-value s) ≡ false → outcome-of 43 (pos 0) ≡ cell-outcome s
+        fitting f = outside (rw (f) (and-none (between 1 10000 u)))
+
+        module _ {y : ℤ} (ey : y ≡ cell-value s) where
+          pub value-low : ltZ y (negsuc 1999) ≡ true → outcome-of 43 (pos 0) ≡ cell-outcome s
+          value-low h = fitting (too-low (cell-value s) (rw ey at h))
+
+          pub value-high : ltZ (pos 2000) y ≡ true → outcome-of 43 (pos 0) ≡ cell-outcome s
+          value-high h = fitting (too-high (cell-value s) (rw ey at h))
+
+          module _ (h : ltZ y (negsuc 1999) ≡ false) (k : ltZ (pos 2000) y ≡ false) where
+            small : natAbs y ≤ 2000
+            small = in-range-bound y (inside y h k)
+
+            pub value-fits : SFits w16 y
+            value-fits = fits w16 2000 small tt
+
+            pub value-inside : _≡_ {A = Outcome} (record { refusal = 0; value = toZ w16 (ofZ w16 y) }) (cell-outcome s)
+            unfolding cell-outcome outcome-of
+            value-inside =
+                rw (gives-0 s (net-weighed x u) (limit-is true (not-false g1 t1)) (rw (← e2, not-false g2 t2, ← ey) (inside y h k)), read w16 2000 small tt, ey)
+
+-- ---- a cell in its three cases
+module _ (s : ScaleCell) where
+  pub unweighed-refused : s .cell ≡ Unweighed → outcome-of 41 (pos 0) ≡ cell-outcome s
+  unfolding is-weighed
+  unweighed-refused e = by-number s 40 (gives-41 s (rw e))
+
+  pub net-given : {x : Float} → s .cell ≡ Net x → cell-outcome (net-cell x (s .unit)) ≡ cell-outcome s
+  net-given e = ap (λ c. cell-outcome (record { cell = c; unit = s .unit })) (sym e)
+
+  pub weighing-given : {w : Weighing} → s .cell ≡ Weighed w → cell-outcome (net-cell (sub binary64 (w .gross) (w .tare)) (s .unit)) ≡ cell-outcome s
+  unfolding cell-outcome cell-refusal cell-value net is-weighed
+  weighing-given e = rw e

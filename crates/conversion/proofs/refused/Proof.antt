@@ -1,0 +1,10 @@
+-- `conversion::refused` meets its contract.
+use Rattle.conversion.proofs.Outcomes.{refused-by}
+use Rattle.conversion.proofs.refused.Statement.{statement}
+use Rattle.conversion.proofs.refused.Tie as tie
+
+returns : tie.Need-returns
+returns c = refused-by (c .args .number)
+
+pub refused-spec : {M : Type 1} → statement M
+refused-spec = tie.close (tie.spec returns)
