@@ -1,0 +1,151 @@
+-- A sheet that is written reads back.
+use mathlib.Core.Path.{_≡_, refl, sym, ap, _∙_}
+use mathlib.Core.Bool.{true}
+use mathlib.Core.List.{List, [], _++_, append-nil}
+use Prim.Native.Nat.{ℕ, _+_, _*_, _-_, _≤_}
+use native.Mathlib.Omega.{arith}
+use borrow.Author.Tests.{le-leb, eq-eqb, le-ltb}
+use lib.ListN.{length, drop, length-append}
+use lib.Seq.{drop-at, take-at}
+use Rattle.files.specs.Bytes.{number-bytes, little-endian, number, values, same, between, all-in-range, length-in-range, trailer, body, reaches, body-refusal}
+use Rattle.files.specs.Sheet.{Sheet, sheet, sheet-columns, WSH1, sheet-refusal}
+use Rattle.card_format.proofs.Bytes.{read-bytes}
+use Rattle.sheet_output.specs.Output.{values-bytes, sheet-trailer, sheet-bytes}
+use Rattle.sheet_output.specs.Back.{Sheet-fit, Sheet-reads-back}
+use Rattle.sheet_output.proofs.Values.{length-values-bytes, values-back}
+
+-- ---- a body and a trailer of `size` bytes
+module _ (bs t : List ℕ) (size : ℕ) (l : length t ≡ size) where
+  file-length : length (bs ++ t) ≡ length bs + size
+  file-length = length-append bs t ∙ ap (λ n. length bs + n) l
+
+  file-trailer : trailer size (bs ++ t) ≡ t
+  unfolding trailer
+  file-trailer = drop-at bs t (length (bs ++ t) - size) (omega (arith, file-length))
+
+  file-body : (back : ℕ) → length bs ≡ back → body size back (bs ++ t) ≡ bs
+  unfolding body
+  file-body back e =
+      let z : length (bs ++ t) - size - back ≡ 0 = omega (arith, file-length) in
+      rw z (take-at bs t back e)
+
+  body-passed : (count place range : ℕ) → length bs ≡ 2 * count → number 0 4 t ≡ 2 * count → all-in-range (values count bs) ≡ true → body-refusal size count place range (bs ++ t) ≡ 0
+  unfolding body-refusal reaches
+  body-passed count place range e b h =
+      let k : 2 * count ≤ length (bs ++ t) - size = omega (arith, file-length) in
+      simp (file-trailer, b, eq-eqb (2 * count) (2 * count) refl, le-leb _ _ k, file-body (2 * count) e, h)
+
+between-both : (least most n : ℕ) → least ≤ n → n ≤ most → between least most n ≡ true
+unfolding between
+between-both least most n h k = simp (le-leb least n h, le-leb n most k)
+
+-- ---- a sheet
+module _ (back c k t : ℕ) where
+  pub sheet-trailer-length : length (sheet-trailer back c k t) ≡ 16
+  unfolding sheet-trailer number-bytes
+  sheet-trailer-length = refl
+
+  sheet-back-at : number 0 4 (sheet-trailer back c k t) ≡ little-endian (number-bytes 4 back)
+  unfolding number sheet-trailer number-bytes
+  sheet-back-at = refl
+
+  sheet-columns-at : number 4 2 (sheet-trailer back c k t) ≡ little-endian (number-bytes 2 c)
+  unfolding number sheet-trailer number-bytes
+  sheet-columns-at = refl
+
+  steps-at : number 6 2 (sheet-trailer back c k t) ≡ little-endian (number-bytes 2 k)
+  unfolding number sheet-trailer number-bytes
+  steps-at = refl
+
+  tolerance-at : number 8 4 (sheet-trailer back c k t) ≡ little-endian (number-bytes 4 t)
+  unfolding number sheet-trailer number-bytes
+  tolerance-at = refl
+
+  sheet-letters : same (drop 12 (sheet-trailer back c k t)) WSH1 ≡ true
+  unfolding sheet-trailer number-bytes same
+  sheet-letters = refl
+
+module _ (s : Sheet) (f : Sheet-fit s) where
+  c : ℕ
+  c = length (s .target)
+
+  sheet-foot : List ℕ
+  sheet-foot = sheet-trailer (length (values-bytes (s .target))) c (s .steps) (s .tolerance)
+
+  sheet-foot-length : length sheet-foot ≡ 16
+  unfolding sheet-foot
+  sheet-foot-length = sheet-trailer-length _ c (s .steps) (s .tolerance)
+
+  target-long : length (values-bytes (s .target)) ≡ 2 * c
+  unfolding c
+  target-long = length-values-bytes (s .target)
+
+  sheet-trailer-back : trailer 16 (sheet-bytes s) ≡ sheet-foot
+  unfolding sheet-bytes sheet-foot c
+  sheet-trailer-back = file-trailer (values-bytes (s .target)) sheet-foot 16 sheet-foot-length
+
+  sheet-length : length (sheet-bytes s) ≡ 2 * c + 16
+  unfolding sheet-bytes sheet-foot c
+  sheet-length = file-length (values-bytes (s .target)) sheet-foot 16 sheet-foot-length ∙ ap (λ k. k + 16) target-long
+
+  few-columns : c ≤ 64
+  unfolding c
+  few-columns = f .most-columns
+
+  sheet-columns-back : sheet-columns (sheet-bytes s) ≡ c
+  unfolding sheet-columns sheet-foot
+  sheet-columns-back = rw sheet-trailer-back (sheet-columns-at _ c (s .steps) (s .tolerance) ∙ read-bytes 2 c (omega (arith, few-columns)))
+
+  steps-back : number 6 2 sheet-foot ≡ s .steps
+  unfolding sheet-foot
+  steps-back = steps-at _ c (s .steps) (s .tolerance) ∙ read-bytes 2 (s .steps) (omega (arith, f .most-steps))
+
+  tolerance-back : number 8 4 sheet-foot ≡ s .tolerance
+  unfolding sheet-foot
+  tolerance-back = tolerance-at _ c (s .steps) (s .tolerance) ∙ read-bytes 4 (s .tolerance) (omega (arith, f .most-tolerance))
+
+  target-back : values c (values-bytes (s .target)) ≡ s .target
+  unfolding c
+  target-back = rw append-nil at (values-back (s .target) [] (f .in-range))
+
+  own-sheet : sheet (sheet-bytes s) ≡ s
+  unfolding sheet sheet-bytes sheet-foot c
+  own-sheet = rw (sheet-columns-back, file-body (values-bytes (s .target)) sheet-foot 16 sheet-foot-length (2 * c) target-long, target-back, sheet-trailer-back, steps-back, tolerance-back)
+
+  own-sheet-body : body-refusal 16 c 16 17 (sheet-bytes s) ≡ 0
+  unfolding sheet-bytes sheet-foot c
+  own-sheet-body =
+      body-passed (values-bytes (s .target)) sheet-foot 16 sheet-foot-length c 16 17 target-long
+      (sheet-back-at _ c (s .steps) (s .tolerance) ∙ read-bytes 4 _ (omega (arith, few-columns, target-long)) ∙ target-long)
+      (rw target-back (f .in-range))
+
+  sheet-foot-letters : same (drop 12 sheet-foot) WSH1 ≡ true
+  unfolding sheet-foot
+  sheet-foot-letters = sheet-letters _ c (s .steps) (s .tolerance)
+
+  sheet-accepted : sheet-refusal c (sheet-bytes s) ≡ 0
+  unfolding sheet-refusal length-in-range
+  sheet-accepted =
+      simp (
+        sheet-length,
+        sheet-trailer-back,
+        sheet-columns-back,
+        own-sheet,
+        between-both 16 40000 (2 * c + 16) (omega arith) (omega (arith, few-columns)),
+        sheet-foot-letters,
+        eq-eqb c c refl,
+        between-both 1 360 (s .steps) (f .some-steps) (f .most-steps),
+        le-ltb 1024000000 (s .tolerance) (f .most-tolerance),
+        own-sheet-body,
+      )
+
+pub sheet-reads-back : Sheet-reads-back
+unfolding Sheet-reads-back c
+sheet-reads-back s f =
+    record {
+      size = sheet-length s f;
+      most-bytes = omega (arith, sheet-length s f, few-columns s f);
+      columns-back = sheet-columns-back s f;
+      sheet-back = own-sheet s f;
+      accepted = sheet-accepted s f;
+    }

@@ -1,0 +1,28 @@
+-- What is written reads back: a sheet of what a sheet can ask for is accepted and asks for it.
+use mathlib.Core.Path.{_≡_}
+use mathlib.Core.Bool.{true}
+use mathlib.Core.List.{List}
+use Prim.Native.Nat.{ℕ, _+_, _*_, _≤_}
+use lib.ListN.{length}
+use Rattle.files.specs.Bytes.{all-in-range}
+use Rattle.files.specs.Sheet.{Sheet, sheet, sheet-columns, sheet-refusal}
+use Rattle.sheet_output.specs.Output.{sheet-bytes}
+
+-- what a sheet can ask for
+pub record Sheet-fit (s : Sheet) : Type 0 where
+  pub most-columns : length (s .target) ≤ 64
+  pub in-range : all-in-range (s .target) ≡ true
+  pub some-steps : 1 ≤ s .steps
+  pub most-steps : s .steps ≤ 360
+  pub most-tolerance : s .tolerance ≤ 1024000000
+
+-- t is a sheet that is not refused and asks for this
+pub record Sheet-of (s : Sheet) (t : List ℕ) : Type 0 where
+  pub size : length t ≡ 2 * length (s .target) + 16
+  pub most-bytes : length t ≤ 144
+  pub columns-back : sheet-columns t ≡ length (s .target)
+  pub sheet-back : sheet t ≡ s
+  pub accepted : sheet-refusal (length (s .target)) t ≡ 0
+
+unfoldable pub Sheet-reads-back : Type 0
+Sheet-reads-back = (s : Sheet) → Sheet-fit s → Sheet-of s (sheet-bytes s)

@@ -1,0 +1,47 @@
+// A sheet's bytes put into a buffer: its values from the first byte on, then its trailer.
+//
+// Helpers for other crates, whose callers prove what they require: put_values, put_sheet_trailer.
+ghost use mathlib.Core.Path.{_≡_};
+ghost use mathlib.Core.Bool.{true};
+ghost use Prim.Native.Nat.{_+_, _*_, _≤_};
+ghost use lib.ListN.{length, take};
+ghost use Rattle.files.specs.Bytes.{all-in-range};
+ghost use Rattle.card_output.specs.Output.{placed};
+ghost use Rattle.sheet_output.specs.Output.{bits, values-bytes, sheet-trailer};
+use card_output::put;
+
+// The letters WSH1 as a number.
+const WSH1: u64 = 826823511;
+
+// The 16 bits of a value.
+fn bits_of(value: i16) -> u64
+    ensures { λ r. ⌜ r ≡ bits value ⌝ }
+{
+    (value as i64 + 65536) as u64 % 65536
+}
+
+// The first `count` values, from the buffer's first byte on.
+pub fn put_values(output: &mut [u8], values: [i16; 64], count: usize)
+    requires { ⌜ (count ≤ 64) × (2 * count ≤ length (now output)) ⌝ }
+    requires { ⌜ all-in-range (take count values) ≡ true ⌝ }
+    ensures { λ _. ⌜ now (output .exit) ≡ placed (now (output .entry)) 0 (values-bytes (take count values)) ⌝ }
+{
+    let mut i = 0;
+    while i < count {
+        let value = values[i];
+        put(output, 2 * i, 2, bits_of(value));
+        i += 1;
+    }
+}
+
+// A sheet's trailer from `at` on, which is also its back count.
+pub fn put_sheet_trailer(output: &mut [u8], at: usize, columns: usize, steps: u32, tolerance: u32)
+    requires { ⌜ at + 16 ≤ length (now output) ⌝ }
+    ensures { λ _. ⌜ now (output .exit) ≡ placed (now (output .entry)) at (sheet-trailer at columns steps tolerance) ⌝ }
+{
+    put(output, at, 4, at as u64);
+    put(output, at + 4, 2, columns as u64);
+    put(output, at + 6, 2, steps as u64);
+    put(output, at + 8, 4, tolerance as u64);
+    put(output, at + 12, 4, WSH1);
+}
