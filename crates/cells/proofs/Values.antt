@@ -175,21 +175,33 @@ module _ (b : List ℕ) (cs : List ScaleCell) (L : length cs ≡ 64) where
           never-17 = λ s e. target-passes (columns b) s (rw (e, take-at own padding (columns b) own-length) good);
         }
 
-  on-cells : book-refusal b ≡ 0 → scale-refusal b cs ≡ cells-refusal (read-cells b cs)
+  pub on-cells : book-refusal b ≡ 0 → scale-refusal b cs ≡ cells-refusal (read-cells b cs)
   unfolding scale-refusal
   on-cells h = rw (eq-eqb (book-refusal b) 0 h)
 
-  on-book : (book-refusal b ≡ 0 → ⊥) → scale-refusal b cs ≡ book-refusal b
+  pub on-book : (book-refusal b ≡ 0 → ⊥) → scale-refusal b cs ≡ book-refusal b
   unfolding scale-refusal
   on-book h = rw (ne-eqb (book-refusal b) 0 h)
 
-  right-by : (n : ℕ) → scale-refusal b cs ≡ n → Values-right b cs n (values-after n (map cell-value (read-cells b cs)))
-  unfolding Values-right values-after own padding
-  right-by zero h =
+  -- of cells that are accepted
+  pub scale-accepted : scale-refusal b cs ≡ 0 → (book-refusal b ≡ 0) × (cells-refusal (read-cells b cs) ≡ 0)
+  scale-accepted h =
       elim (either (book-refusal b)) [
-        | inl e ↦ accepted e (sym (on-cells e) ∙ h)
+        | inl e ↦ (e, sym (on-cells e) ∙ h)
         | inr e ↦ absurd (e (sym (on-book e) ∙ h))
       ]
+
+  pub read-length : scale-refusal b cs ≡ 0 → length (map cell-value (read-cells b cs)) ≡ columns b
+  unfolding own
+  read-length h = let p = scale-accepted h in own-length (p .0) (p .1)
+
+  pub read-in-range : scale-refusal b cs ≡ 0 → all-in-range (map cell-value (read-cells b cs)) ≡ true
+  unfolding own
+  read-in-range h = let p = scale-accepted h in good (p .0) (p .1)
+
+  right-by : (n : ℕ) → scale-refusal b cs ≡ n → Values-right b cs n (values-after n (map cell-value (read-cells b cs)))
+  unfolding Values-right values-after own padding
+  right-by zero h = let p = scale-accepted h in accepted (p .0) (p .1)
   right-by (suc n) h =
       record {
         all-zero = refl;

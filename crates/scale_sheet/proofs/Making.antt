@@ -1,0 +1,180 @@
+-- What the entry gives back at each of its returns, and that it is right.
+use mathlib.Core.Path.{_≡_, refl, sym, ap, subst, _∙_}
+use mathlib.Core.Bool.{Bool, true, false, not}
+use mathlib.Core.List.{List, _++_, map}
+use mathlib.Core.Logic.{_⊎_, inl, inr}
+use Prim.Native.Nat.{ℕ, zero, suc, _+_, _*_, _-_, _≤_, _<_}
+use native.Mathlib.Nat.{zero-add}
+use native.Mathlib.Omega.{arith}
+use borrow.Author.Tests.{eq-eqb, ne-eqb, lt-ltb, le-ltb, le-leb, leb-false, not-true, not-false}
+use lib.Dec.{leb}
+use lib.IntN.{ℤ, pos}
+use lib.ListN.{length, take, drop, replicate, length-append, length-replicate}
+use lib.Seq.{take-at, drop-at}
+use Rattle.integers.proofs.Filling.{drop-replicate}
+use Rattle.files.specs.Bytes.{between, all-in-range}
+use Rattle.files.specs.Book.{columns, book-refusal}
+use Rattle.files.specs.Sheet.{Sheet, sheet, sheet-refusal, files-refusal}
+use Rattle.files.specs.Fits.{Book-fits}
+use Rattle.files.proofs.Accepted.{book-accepted}
+use Rattle.files.proofs.Refusal.{between-true, book-passed}
+use Rattle.cells.specs.declared.ScaleCell.{ScaleCell}
+use Rattle.cells.specs.declared.SheetValues.{SheetValues}
+use Rattle.cells.specs.Cells.{cell-value, read-cells, scale-refusal, values-after, sheet-values}
+use Rattle.cells.specs.Promise.{Values-accepted, Values-refused, Values-right}
+use Rattle.cells.proofs.Values.{scale-accepted, read-length, read-in-range, conversion-right}
+use Rattle.card_output.specs.Output.{placed}
+use Rattle.card_output.proofs.Placing.{placed-next, placed-length}
+use Rattle.sheet_output.specs.Output.{values-bytes, sheet-trailer, sheet-bytes}
+use Rattle.sheet_output.specs.Back.{Sheet-of, Sheet-reads-back}
+use Rattle.sheet_output.proofs.Values.{length-values-bytes}
+use Rattle.sheet_output.proofs.Back.{sheet-reads-back, sheet-trailer-length}
+use Rattle.scale_sheet.specs.declared.ScaleSheet.{ScaleSheet}
+use Rattle.scale_sheet.specs.Sheets.{scale-sheet-refusal, asked, refused-sheet, sheet-after, scale-sheet}
+use Rattle.scale_sheet.specs.Promise.{made, Sheet-accepted, Reason, by-cells, by-steps, by-tolerance, Sheet-right-by, Sheet-right}
+
+steps-outside : (k : ℕ) → between 1 360 k ≡ false → (k ≡ 0) ⊎ (360 < k)
+unfolding between
+steps-outside zero h = inl refl
+steps-outside (suc k) h = inr (leb-false (suc k) 360 (rw (le-leb 1 (suc k) (omega arith)) at h))
+
+module _ (b : List ℕ) (cs : List ScaleCell) (k t : ℕ) (L : length cs ≡ 64) where
+  abbrev Given : ScaleSheet → Type 0
+  Given r = (r ≡ scale-sheet b cs k t) × Sheet-right b cs k t r
+
+  -- ---- refusals
+  refused-by : (n : ℕ) → scale-sheet-refusal b cs k t ≡ suc n → Reason b cs k t (suc n) → {r : ScaleSheet} → r ≡ refused-sheet (suc n) → Given r
+  unfolding scale-sheet sheet-after Sheet-right-by
+  refused-by n e why {r} er = (er ∙ rw e refl, subst (λ (x : ScaleSheet). Sheet-right b cs k t x) (sym er) (refl, why))
+
+  cells-refused-by : (n : ℕ) → scale-refusal b cs ≡ n → (n ≡ 0 → ⊥) → {r : ScaleSheet} → r ≡ refused-sheet n → Given r
+  unfolding sheet-values Values-right scale-sheet-refusal
+  cells-refused-by zero e h er = absurd (h refl)
+  cells-refused-by (suc n) e h er =
+      refused-by n (rw (ne-eqb (scale-refusal b cs) 0 (λ z. h (sym e ∙ z))) e)
+      (by-cells (suc n) (subst (λ (m : ℕ). Values-right b cs m (sheet-values b cs .values)) e (conversion-right b cs L .right))) er
+
+  accepted-values : scale-refusal b cs ≡ 0 → Values-accepted b cs (sheet-values b cs .values)
+  unfolding sheet-values Values-right
+  accepted-values z = subst (λ (m : ℕ). Values-right b cs m (sheet-values b cs .values)) z (conversion-right b cs L .right)
+
+  module _ {f : SheetValues} (ef : f ≡ sheet-values b cs) where
+    refusal-is : f .refusal ≡ scale-refusal b cs
+    unfolding sheet-values
+    refusal-is = ap (λ (x : SheetValues). x .refusal) ef
+
+    pub cells-refused : (f .refusal ≡ 0 → ⊥) → {r : ScaleSheet} → r ≡ refused-sheet (f .refusal) → Given r
+    cells-refused n er = cells-refused-by (f .refusal) (sym refusal-is) n er
+
+    module _ (z : f .refusal ≡ 0) (g : Bool) (eg : g ≡ between 1 360 k) where
+      none : scale-refusal b cs ≡ 0
+      none = sym refusal-is ∙ z
+
+      pub steps-refused : not g ≡ true → {r : ScaleSheet} → r ≡ refused-sheet 14 → Given r
+      unfolding scale-sheet-refusal
+      steps-refused h er =
+          let e : between 1 360 k ≡ false = sym eg ∙ not-true g h in
+          refused-by 13 (rw (eq-eqb (scale-refusal b cs) 0 none, e)) (by-steps none (steps-outside k e)) er
+
+      module _ (h : not g ≡ false) where
+        steps-fit : between 1 360 k ≡ true
+        steps-fit = sym eg ∙ not-false g h
+
+        pub tolerance-refused : 1024000000 < t → {r : ScaleSheet} → r ≡ refused-sheet 15 → Given r
+        unfolding scale-sheet-refusal
+        tolerance-refused l er =
+            let p = between-true 1 360 k steps-fit in
+            refused-by 14 (rw (eq-eqb (scale-refusal b cs) 0 none, steps-fit, lt-ltb 1024000000 t l)) (by-tolerance none (p .0) (p .1) l) er
+
+        -- ---- the sheet
+        module _ (T : t ≤ 1024000000) where
+          abbrev target : List ℤ
+          target = map cell-value (read-cells b cs)
+
+          abbrev bs : List ℕ
+          bs = sheet-bytes (asked b cs k t)
+
+          pub book : Book-fits b
+          book = book-accepted b (scale-accepted b cs L none .0)
+
+          target-length : length target ≡ columns b
+          target-length = read-length b cs L none
+
+          of : Sheet-of (asked b cs k t) bs
+          unfolding Sheet-reads-back
+          of =
+              let p = between-true 1 360 k steps-fit in
+              sheet-reads-back (asked b cs k t)
+              (record {
+                most-columns = omega (arith, target-length, book .most-columns);
+                in-range = read-in-range b cs L none;
+                some-steps = p .0;
+                most-steps = p .1;
+                most-tolerance = T;
+              })
+
+          passed : scale-sheet-refusal b cs k t ≡ 0
+          unfolding scale-sheet-refusal
+          passed = rw (eq-eqb (scale-refusal b cs) 0 none, steps-fit, le-ltb 1024000000 t T)
+
+          padding : List ℤ
+          padding = replicate (64 - length target) (pos 0)
+
+          own-values : sheet-values b cs .values ≡ target ++ padding
+          unfolding sheet-values values-after padding
+          own-values = rw none refl
+
+          pub few : columns b ≤ 64
+          few = book .most-columns
+
+          pub front : (c : ℕ) → c ≡ columns b → take c (f .values) ≡ target
+          front c ec = rw (ap (λ (x : SheetValues). x .values) ef, own-values) (take-at target padding c (target-length ∙ sym ec))
+
+          pub front-in-range : (c : ℕ) → c ≡ columns b → all-in-range (take c (f .values)) ≡ true
+          front-in-range c ec = rw (front c ec) (read-in-range b cs L none)
+
+          made-is : take (length bs) (bs ++ replicate (144 - length bs) 0) ≡ bs
+          made-is = take-at bs (replicate (144 - length bs) 0) (length bs) refl
+
+          right : Sheet-accepted b cs k t (sheet-after zero bs)
+          unfolding sheet-after
+          right =
+              record {
+                most-bytes = of .most-bytes;
+                later-bytes = drop-at bs (replicate (144 - length bs) 0) (length bs) refl;
+                accepted = rw made-is (sym (book-passed b bs (book-refusal b) refl (scale-accepted b cs L none .0) (length target) _ target-length refl) ∙ of .accepted);
+                target-is = rw (made-is, of .sheet-back, own-values) (sym (take-at target padding (columns b) target-length));
+                steps-are = rw made-is (ap (λ (x : Sheet). x .steps) (of .sheet-back));
+                tolerance-is = rw made-is (ap (λ (x : Sheet). x .tolerance) (of .sheet-back));
+                values-right = accepted-values none;
+              }
+
+          -- the bytes as they are put: values, then the trailer
+          abbrev empty : List ℕ
+          empty = replicate 144 0
+
+          module _ (c : ℕ) (ec : c ≡ columns b) {o₁ : List ℕ} (e₁ : o₁ ≡ placed empty 0 (values-bytes (take c (f .values)))) where
+            body-length : length (values-bytes target) ≡ 2 * c
+            body-length = length-values-bytes target ∙ (omega (arith, target-length))
+
+            pub trailer-room : 2 * c + 16 ≤ length o₁
+            trailer-room = rw e₁ (rw (front c ec) (omega (arith, few, placed-length empty 0 (values-bytes target) (omega (arith, body-length, few, length-replicate {A = ℕ} 144 0)), length-replicate {A = ℕ} 144 0)))
+
+            module _ {o₂ : List ℕ} (e₂ : o₂ ≡ placed o₁ (2 * c) (sheet-trailer (2 * c) c k t)) where
+              bytes-are : o₂ ≡ placed empty 0 bs
+              unfolding sheet-bytes
+              bytes-are =
+                  let s : length target ≡ c = target-length ∙ sym ec in
+                  rw (body-length, s)
+                  (placed-next empty 0 (values-bytes target) (sheet-trailer (2 * c) c k t) (2 * c) (rw (front c ec) at e₁) e₂ (omega (arith, body-length)) (omega (arith, body-length, few, length-replicate {A = ℕ} 144 0)))
+
+              plain : placed empty 0 bs ≡ bs ++ replicate (144 - length bs) 0
+              unfolding placed
+              plain = ap (λ (l : List ℕ). bs ++ l) (rw zero-add (drop-replicate (length bs) 144 0 (of .most-bytes)))
+
+              pub made-sheet : Given (record { refusal = 0; len = 2 * c + 16; bytes = o₂ })
+              unfolding scale-sheet sheet-after Sheet-right-by
+              made-sheet =
+                  let l : 2 * c + 16 ≡ length bs = omega (arith, of .size, target-length) in
+                  let e : _≡_ {A = ScaleSheet} (record { refusal = 0; len = 2 * c + 16; bytes = o₂ }) (sheet-after zero bs) = rw (l, bytes-are, plain) in
+                  (e ∙ rw passed refl, subst (λ (x : ScaleSheet). Sheet-right b cs k t x) (sym e) right)
