@@ -7,6 +7,13 @@ use Rattle.method.specs.Promise.{Outcome-right}
 use Rattle.card.specs.declared.Written.{Written}
 use Rattle.card.specs.Checking.{Check-right}
 use Rattle.card.specs.Filing.{Filing-right}
+use Rattle.cells.specs.declared.ScaleCell.{ScaleCell}
+use Rattle.cells.specs.declared.SheetValues.{SheetValues}
+use Rattle.cells.specs.Cells.{sheet-values}
+use Rattle.cells.specs.Promise.{Conversion-right}
+use Rattle.scale_sheet.specs.declared.ScaleSheet.{ScaleSheet}
+use Rattle.scale_sheet.specs.Sheets.{scale-sheet}
+use Rattle.scale_sheet.specs.Promise.{Sheet-right}
 
 pub searched-right : (b s : List ℕ) {r o : Searched} {slots after : List ℕ} → r ≡ o → slots ≡ after → Outcome-right b s r slots → Outcome-right b s o slots
 searched-right b s {slots = q} e f h = subst (λ x. Outcome-right b s x q) e h
@@ -16,3 +23,10 @@ checked-right b s w {slots = q} e f h = subst (λ x. Check-right b s w x q) e h
 
 pub filed-right : (b s : List ℕ) {r o : Written} {output after : List ℕ} → r ≡ o → output ≡ after → Filing-right b s r output → Filing-right b s o output
 filed-right b s {output = q} e f h = subst (λ x. Filing-right b s x q) e h
+
+-- what is given for cells, said of the lists that they were read from
+pub values-right : (b : List ℕ) {cs ds : List ScaleCell} {r : SheetValues} → cs ≡ ds → (r ≡ sheet-values b cs) × Conversion-right b cs r → (r ≡ sheet-values b ds) × Conversion-right b ds r
+values-right b {r = r} e h = subst (λ ds. (r ≡ sheet-values b ds) × Conversion-right b ds r) e h
+
+pub sheet-right : (b : List ℕ) (k t : ℕ) {cs ds : List ScaleCell} {r : ScaleSheet} → cs ≡ ds → (r ≡ scale-sheet b cs k t) × Sheet-right b cs k t r → (r ≡ scale-sheet b ds k t) × Sheet-right b ds k t r
+sheet-right b k t {r = r} e h = subst (λ ds. (r ≡ scale-sheet b ds k t) × Sheet-right b ds k t r) e h

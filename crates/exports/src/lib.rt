@@ -1,6 +1,7 @@
 // The library for programs in other languages: thin exported functions over the entries of the other crates.
 //
-// Entries, which ask nothing of their caller: dofitrano_search, dofitrano_write_card, dofitrano_check_card, dofitrano_listing.
+// Entries, which ask nothing of their caller: dofitrano_search, dofitrano_write_card, dofitrano_check_card, dofitrano_listing,
+// dofitrano_sheet_values, dofitrano_scale_sheet.
 // A slice passes as a pointer and a length; include/dofitrano.h declares the functions for C and says what a caller in another
 // language must see to. The first clause of a contract gives the reply, the second every slot or byte that was lent, the third
 // what the entry behind it promises of both.
@@ -18,8 +19,15 @@ ghost use Rattle.method.specs.Promise.{Outcome-right};
 ghost use Rattle.search_listing.specs.Searches.{search-listing};
 ghost use Rattle.replies.specs.Replies.{reply-of, card-reply-of};
 ghost use Rattle.exports.specs.Buffers.{bytes-after};
+ghost use Rattle.cells.specs.Cells.{sheet-values};
+ghost use Rattle.cells.specs.Promise.{Conversion-right};
+ghost use Rattle.scale_sheet.specs.Sheets.{scale-sheet};
+ghost use Rattle.scale_sheet.specs.Promise.{Sheet-right};
+ghost use Rattle.cell_lists.specs.Lists.{flat-cells};
+use cells::SheetValues;
 use replies::CardReply;
 use replies::Reply;
+use scale_sheet::ScaleSheet;
 
 // ENTRY. The search for other languages: the reply of `search` for these files and this share list, and its slots afterwards.
 #[no_mangle]
@@ -86,4 +94,38 @@ pub extern "C" fn dofitrano_listing(book: &[u8], sheet: &[u8], output: &mut [u8]
     let bytes = text.bytes;
     put_bytes(bytes, count, output);
     count
+}
+
+// ENTRY. The sheet values of scale cells for other languages: those of `sheet_values` for the cells of four lists.
+#[no_mangle]
+pub extern "C" fn dofitrano_sheet_values(
+    book: &[u8],
+    kinds: &[u8],
+    first: &[f64],
+    second: &[f64],
+    units: &[u32],
+) -> SheetValues
+    ensures { λ r. ⌜ r ≡ sheet-values (now (book .entry)) (flat-cells (now (kinds .entry)) (now (first .entry)) (now (second .entry)) (now (units .entry))) ⌝ }
+    ensures { λ r. ⌜ Conversion-right (now (book .entry)) (flat-cells (now (kinds .entry)) (now (first .entry)) (now (second .entry)) (now (units .entry))) r ⌝ }
+{
+    let cells = cell_lists::cells_of(kinds, first, second, units);
+    conversion::sheet_values(book, cells)
+}
+
+// ENTRY. The sheet of scale cells for other languages: that of `scale_sheet` for the cells of four lists.
+#[no_mangle]
+pub extern "C" fn dofitrano_scale_sheet(
+    book: &[u8],
+    kinds: &[u8],
+    first: &[f64],
+    second: &[f64],
+    units: &[u32],
+    steps: u32,
+    tolerance: u32,
+) -> ScaleSheet
+    ensures { λ r. ⌜ r ≡ scale-sheet (now (book .entry)) (flat-cells (now (kinds .entry)) (now (first .entry)) (now (second .entry)) (now (units .entry))) steps tolerance ⌝ }
+    ensures { λ r. ⌜ Sheet-right (now (book .entry)) (flat-cells (now (kinds .entry)) (now (first .entry)) (now (second .entry)) (now (units .entry))) steps tolerance r ⌝ }
+{
+    let cells = cell_lists::cells_of(kinds, first, second, units);
+    scale_sheet::scale_sheet(book, cells, steps, tolerance)
 }
