@@ -33,8 +33,15 @@ then the body, then the trailer.  "back" is the size of the body in bytes.
                 trailer, 36 bytes: back 4, verdict 2, steps used 2,
                 tolerance 4, E 8, G 8, boats 2, columns 2, "WCD1"
 
-A refusal is a number; 0 stands for accepted.  The lowest number that applies
-is the one given back.
+Scale cells, which give the values of a sheet: a cell is (kind, first, second,
+unit), the kind 1 for a net and 2 for a gross and a tare, any other for a cell
+that was not weighed.  A reading is the 64-bit pattern of a double.  Gross less
+tare is rounded once, as IEEE 754 subtraction is; the net's exact value is
+rounded to whole kilograms, those over the unit to the value, halves to even.
+
+A refusal is a number; 0 stands for accepted.  The first that applies, in the
+call's own order, is the one given back: in number order, but a sheet made of
+cells has 41 to 43, cell by cell, right after 6 and before 14 and 15.
 
      1  book shorter than 12 or longer than 40,000 bytes
      2  letters not WBK1
@@ -60,6 +67,9 @@ is the one given back.
     37  more boats than steps used, or shares not totalling t (t + 1) / 2
     38  E, G or the verdict not true of the shares
     39  tolerance not that of the sheet
+    41  cell not weighed
+    42  a reading not finite, or a net beyond 1,048,576 kilograms either way
+    43  unit outside 1 to 10,000, or a value outside -2,000 to 2,000
 
 Use from a shell:  python3 tests/exact.py FLEET SHEET
 """
@@ -79,6 +89,8 @@ MOST_COLUMNS = 64
 MOST_VALUE = 2000
 MOST_STEPS = 360
 MOST_TOLERANCE = 1024000000
+MOST_KILOGRAMS = 1048576
+MOST_UNIT = 10000
 
 WITHIN, BEYOND, SPENT = 1, 2, 3
 VERDICT_NAMES = {WITHIN: "within", BEYOND: "beyond", SPENT: "spent"}
@@ -383,6 +395,87 @@ def card_bytes(answer: Answer, shares: list[int], tolerance: int,
     entries = [(boat, share) for boat, share in enumerate(shares[:boats]) if share]
     return make_card(entries, answer.verdict, answer.steps, tolerance,
                      answer.distance, answer.gap, boats, columns)
+
+
+# ---------------------------------------------------------- the scale cells
+
+
+def double(pattern: int):
+    """The exact value of a double by its 64 bits, None if it is not finite."""
+    exponent, fraction = pattern >> 52 & 2047, pattern & 2 ** 52 - 1
+    if exponent == 2047:
+        return None
+    if exponent == 0:
+        size = Fraction(fraction, 2 ** 1074)
+    else:
+        size = (2 ** 52 + fraction) * Fraction(2) ** (exponent - 1075)
+    return -size if pattern >> 63 else size
+
+
+def nearest_double(value: Fraction):
+    """The double nearest to a fraction, None if it is not finite."""
+    last = abs(value.numerator).bit_length() - value.denominator.bit_length() - 53
+    if abs(value) >= Fraction(2) ** (last + 53):
+        last += 1
+    place = Fraction(2) ** max(last, -1074)      # what the last of 53 binary digits counts
+    rounded = round(value / place) * place       # a Fraction is rounded halves to even
+    return rounded if abs(rounded) < Fraction(2) ** 1024 else None
+
+
+def net_of(cell):
+    """The net of a weighed cell, None if it or a reading is not finite."""
+    kind, first, second, _ = cell
+    gross = double(first)
+    if kind == 1:
+        return gross
+    tare = double(second)
+    if gross is None or tare is None:
+        return None
+    return nearest_double(gross - tare)
+
+
+def cell_value(cell):
+    """Refusal and value of a cell."""
+    kind, _, _, unit = cell
+    if kind not in (1, 2):
+        return 41, 0
+    net = net_of(cell)
+    if net is None or abs(net) > MOST_KILOGRAMS:
+        return 42, 0
+    if unit < 1 or unit > MOST_UNIT:
+        return 43, 0
+    value = round(Fraction(round(net), unit))
+    if out_of_range([value]):
+        return 43, 0
+    return 0, value
+
+
+def sheet_values(book: bytes, cells):
+    """Refusal and the 64 values of 64 cells, those of the book's columns read."""
+    refusal = book_refusal(book)
+    if refusal:
+        return refusal, [0] * MOST_COLUMNS
+    (_, _, columns, _), _ = split(book, BOOK_TRAILER)
+    values = []
+    for cell in cells[:columns]:
+        refusal, value = cell_value(cell)
+        if refusal:
+            return refusal, [0] * MOST_COLUMNS
+        values.append(value)
+    return 0, values + [0] * (MOST_COLUMNS - columns)
+
+
+def scale_sheet(book: bytes, cells, steps: int, tolerance: int):
+    """Refusal and the bytes of the sheet that cells, steps and a tolerance give."""
+    refusal, values = sheet_values(book, cells)
+    if refusal:
+        return refusal, b""
+    if steps < 1 or steps > MOST_STEPS:
+        return 14, b""
+    if tolerance > MOST_TOLERANCE:
+        return 15, b""
+    (_, _, columns, _), _ = split(book, BOOK_TRAILER)
+    return 0, make_sheet(values[:columns], steps, tolerance)
 
 
 # -------------------------------------------------------------- the listing

@@ -6,8 +6,10 @@ hand here.  It ends with one line that gives the number of checks and exit
 code 0, or prints what differs and ends with exit code 1.
 """
 
+import math
 import os
 import random
+import struct
 import subprocess
 import sys
 import tempfile
@@ -560,10 +562,78 @@ def whole_numbers():
         agree("half", "an error", "an error")
 
 
+# ---- scale cells
+
+def bits(value):
+    """The 64 bits of a Python float."""
+    return struct.unpack("<Q", struct.pack("<d", value))[0]
+
+
+INFINITY, NAN = float("inf"), float("nan")
+NET, WEIGHED = 1, 2
+
+# kind, first, second, unit, refusal, value
+CELLS = [
+    (NET, 2.5, 0, 1, 0, 2), (NET, 3.5, 0, 1, 0, 4), (NET, -2.5, 0, 1, 0, -2), (NET, -3.5, 0, 1, 0, -4),
+    # 5.5 is 6 kilograms, and 6 / 4 is 2; one rounding of 5.5 / 4 would give 1.
+    (NET, 5.5, 0, 4, 0, 2),
+    (NET, 15, 0, 10, 0, 2), (NET, 25, 0, 10, 0, 2), (NET, -15, 0, 10, 0, -2), (NET, 35, 0, 10, 0, 4),
+    (NET, -0.0, 0, 1, 0, 0), (NET, -0.4, 0, 1, 0, 0), (NET, 0.5, 0, 1, 0, 0), (NET, 5e-324, 0, 1, 0, 0),
+    (NET, 0.50000000000000011, 0, 1, 0, 1), (NET, 1.5, 0, 1, 0, 2),
+    (WEIGHED, 1000000.1, 999997.6, 1, 0, 2), (WEIGHED, 2.0 ** 53 + 2, 2.0 ** 53 - 1, 1, 0, 3),
+    (WEIGHED, 2.0, 5.0, 1, 0, -3), (WEIGHED, 1e300, 1e300, 1, 0, 0), (WEIGHED, 1e300, 1e299, 1, 42, 0),
+    (NET, 1048576, 0, 10000, 0, 105), (NET, -1048576, 0, 10000, 0, -105),
+    (NET, 1048576.25, 0, 10000, 42, 0), (NET, -1048576.25, 0, 10000, 42, 0),
+    (NET, NAN, 0, 1, 42, 0), (NET, INFINITY, 0, 1, 42, 0), (NET, -INFINITY, 0, 1, 42, 0),
+    (WEIGHED, INFINITY, INFINITY, 1, 42, 0), (WEIGHED, 1e308, -1e308, 1, 42, 0), (WEIGHED, 1.0, NAN, 1, 42, 0),
+    (NET, NAN, 0, 0, 42, 0), (NET, 2e6, 0, 0, 42, 0),
+    (NET, 2000.5, 0, 1, 0, 2000), (NET, 2000.5000000001, 0, 1, 43, 0), (NET, -2001, 0, 1, 43, 0),
+    (NET, 2000, 0, 1, 0, 2000), (NET, -2000, 0, 1, 0, -2000),
+    (NET, 7, 0, 0, 43, 0), (NET, 7, 0, 10000, 0, 0), (NET, 7, 0, 10001, 43, 0), (NET, 7, 0, 4294967295, 43, 0),
+    (0, 7, 0, 1, 41, 0), (3, 7, 0, 1, 41, 0), (0, NAN, 0, 0, 41, 0),
+]
+
+
+def scale_cells():
+    """Cells one by one, among others, and the sheet that they give."""
+    for kind, first, second, unit, refusal, value in CELLS:
+        cell = (kind, bits(first), bits(second), unit)
+        agree("cell %r %r %r %r" % (kind, first, second, unit), exact.cell_value(cell), (refusal, value))
+    # Every pattern with the exponent of the infinities is a reading that is not finite.
+    for pattern in (0x7ff0000000000001, 0x7ff8000000000000, 0xfff8000000000001, 0xffffffffffffffff):
+        agree("pattern %x" % pattern, exact.cell_value((NET, pattern, 0, 1)), (42, 0))
+    book = make_book([(0, 0)])
+    seven, eight, none = (NET, bits(7.0), 0, 1), (NET, bits(8.0), 0, 1), (0, 0, 0, 0)
+    odd, far = (NET, bits(7.0), 0, 0), (NET, bits(2e6), 0, 1)
+    agree("two values", exact.sheet_values(book, [seven, eight] + [none] * 62), (0, [7, 8] + [0] * 62))
+    agree("cell by cell", exact.sheet_values(book, [odd, none] + [none] * 62), (43, [0] * 64))
+    agree("42 before 41", exact.sheet_values(book, [far, none] + [none] * 62), (42, [0] * 64))
+    agree("second cell", exact.sheet_values(book, [seven, none] + [none] * 62), (41, [0] * 64))
+    agree("book first", exact.sheet_values(make_book([(2001, 0)]), [none] * 64), (6, [0] * 64))
+    cells = [seven, eight] + [none] * 62
+    agree("sheet", exact.scale_sheet(book, cells, 9, 1), (0, make_sheet([7, 8], 9, 1)))
+    agree("steps 0", exact.scale_sheet(book, cells, 0, 1), (14, b""))
+    agree("steps 361", exact.scale_sheet(book, cells, 361, 1024000001), (14, b""))
+    agree("tolerance", exact.scale_sheet(book, cells, 360, 1024000001), (15, b""))
+    agree("cells before steps", exact.scale_sheet(book, [none] * 64, 0, 1), (41, b""))
+
+
+def subtractions():
+    """The subtraction over fractions is the machine's."""
+    draw = random.Random(5)
+    for _ in range(2000):
+        one = draw.getrandbits(64)
+        near = (one + draw.randrange(-3, 4) * 2 ** draw.randrange(60)) % 2 ** 64
+        other = near if draw.randrange(2) else draw.getrandbits(64)
+        x, y = (struct.unpack("<d", struct.pack("<Q", p))[0] for p in (one, other))
+        net = exact.net_of((WEIGHED, one, other, 1))
+        agree("%r - %r" % (x, y), net, Fraction(x - y) if math.isfinite(x - y) else None)
+
+
 def main():
     for part in (marked_sheets, readers, book_and_sheet_refusals, lent_lists, card_refusals,
                  two_faults, ties_and_start, random_books, full_size, damaged_files,
-                 from_a_shell, whole_numbers):
+                 from_a_shell, whole_numbers, scale_cells, subtractions):
         part()
     if differences:
         print("exact.py: %d of %d checks differ" % (differences, checks))

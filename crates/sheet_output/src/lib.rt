@@ -1,6 +1,6 @@
 // A sheet's bytes put into a buffer: its values from the first byte on, then its trailer.
 //
-// Helpers for other crates, whose callers prove what they require: put_values, put_sheet_trailer.
+// Helpers for other crates, whose callers prove what they require: put_values, put_sheet_trailer; bits_of asks nothing.
 ghost use mathlib.Core.Path.{_≡_};
 ghost use mathlib.Core.Bool.{true};
 ghost use Prim.Native.Nat.{_+_, _*_, _≤_};
@@ -14,7 +14,7 @@ use card_output::put;
 const WSH1: u64 = 826823511;
 
 // The 16 bits of a value.
-fn bits_of(value: i16) -> u64
+pub fn bits_of(value: i16) -> u64
     ensures { λ r. ⌜ r ≡ bits value ⌝ }
 {
     (value as i64 + 65536) as u64 % 65536
