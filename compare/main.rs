@@ -1,8 +1,10 @@
 //! The volume comparison: random and damaged files through the exported functions of the library and through the reference
-//! implementation in reference.rs. Replies, share lists, cards, listings and what must stay untouched are compared bit for bit.
+//! implementation in reference.rs. Replies, share lists, cards, listings and what must stay untouched are compared bit for bit;
+//! cells.rs does the same of scale cells.
 //!
 //! Use: compare [COUNT [SEED]]. The last line has the count; the exit status is 1 where a case differs, and the case is printed.
 
+mod cells;
 mod encode;
 mod random;
 mod reference;
@@ -570,6 +572,8 @@ fn compare_listing(rng: &mut Random) -> Compared {
 fn refusals(call: &str) -> Vec<u32> {
     let mut numbers: Vec<u32> = (1..=6).chain(11..=17).collect();
     match call {
+        "sheet_values" => return (1..=6).chain(41..=43).collect(),
+        "scale_sheet" => return (1..=6).chain(41..=43).chain(14..=15).collect(),
         "search" => numbers.push(21),
         "write_card" => numbers.push(22),
         "check_card" => numbers.extend([21].into_iter().chain(31..=39)),
@@ -578,14 +582,24 @@ fn refusals(call: &str) -> Vec<u32> {
     numbers
 }
 
-const CALLS: [&str; 4] = ["search", "write_card", "check_card", "listing"];
+const CALLS: [&str; 6] = ["search", "write_card", "check_card", "listing", "sheet_values", "scale_sheet"];
+
+/// How a call goes that is not refused.
+fn answers(call: &str) -> &'static [&'static str] {
+    match call {
+        "sheet_values" | "scale_sheet" => &["accepted"],
+        _ => &["within", "beyond", "spent"],
+    }
+}
 
 fn one_case(rng: &mut Random) -> Compared {
-    match rng.below(8) {
+    match rng.below(10) {
         0 | 1 => compare_search(rng),
         2 | 3 => compare_write_card(rng),
         4..=6 => compare_check_card(rng),
-        _ => compare_listing(rng),
+        7 => compare_listing(rng),
+        8 => cells::compare_values(rng),
+        _ => cells::compare_sheet(rng),
     }
 }
 
@@ -612,15 +626,15 @@ fn main() {
     }
     let times = |call, outcome: &str| met.get(&(call, outcome.to_string())).copied().unwrap_or(0);
     for call in CALLS {
-        let verdicts = ["within", "beyond", "spent"].map(|name| format!("{name} {}", times(call, name)));
+        let answered: Vec<_> = answers(call).iter().map(|name| format!("{name} {}", times(call, name))).collect();
         let refused = refusals(call).into_iter().map(|n| format!("{n}: {}", times(call, &format!("refused {n}"))));
-        println!("{call}: {}; refused by {}", verdicts.join(", "), refused.collect::<Vec<_>>().join(", "));
+        println!("{call}: {}; refused by {}", answered.join(", "), refused.collect::<Vec<_>>().join(", "));
     }
     // A long comparison that never meets some outcome has lost its meaning.
     if count >= 10_000 {
         for call in CALLS {
             let refused = refusals(call).into_iter().map(|n| format!("refused {n}"));
-            for outcome in refused.chain(["within", "beyond", "spent"].map(String::from)) {
+            for outcome in refused.chain(answers(call).iter().map(|name| name.to_string())) {
                 if times(call, &outcome) == 0 {
                     println!("{call} {outcome}: never met");
                     std::process::exit(1);

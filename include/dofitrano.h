@@ -23,7 +23,8 @@
 extern "C" {
 #endif
 
-/* Numbers that refuse a call. The lowest that applies is given back, and every list and buffer passed is as it was. */
+/* Numbers that refuse a call. The first that applies in the call's own order is given back, and every list and buffer passed is as
+ * it was. Each function says its order. */
 enum dofitrano_refusal {
     DOFITRANO_ACCEPTED = 0,
     /* the fleet book */
@@ -53,7 +54,11 @@ enum dofitrano_refusal {
     DOFITRANO_CARD_BOATS = 36,     /* boats not strictly ascending, a boat not in the book, or a share of 0 */
     DOFITRANO_CARD_SHARES = 37,    /* more boats than steps used, or shares not totalling t (t + 1) / 2 */
     DOFITRANO_CARD_UNTRUE = 38,    /* E, G or the verdict untrue of the shares */
-    DOFITRANO_CARD_TOLERANCE = 39  /* tolerance differs from the sheet's */
+    DOFITRANO_CARD_TOLERANCE = 39, /* tolerance differs from the sheet's */
+    /* the scale cells */
+    DOFITRANO_CELL_UNWEIGHED = 41, /* a cell not weighed */
+    DOFITRANO_CELL_READING = 42,   /* a reading not finite, or a net beyond 1,048,576 kilograms either way */
+    DOFITRANO_CELL_UNIT = 43       /* kilograms per unit outside 1 to 10,000, or a value outside -2,000 to 2,000 */
 };
 
 enum dofitrano_verdict {
@@ -74,7 +79,7 @@ typedef struct dofitrano_reply {
     uint64_t shortfall; /* of Spent: E - tolerance x W^2; else 0 */
 } dofitrano_reply;
 
-/* Searches a mixture of the book's boats near the sheet's target. Refuses by 1 to 17 and 21. Where it answers, the first
+/* Searches a mixture of the book's boats near the sheet's target. Refuses by 1 to 17, then 21. Where it answers, the first
  * slots of `shares` are the boats' shares, one a boat and 0 for an unused boat; later slots are as they were. */
 dofitrano_reply dofitrano_search(const uint8_t *book, size_t book_length,
                                  const uint8_t *sheet, size_t sheet_length,
@@ -89,13 +94,13 @@ typedef struct dofitrano_card_reply {
 /* A card has at most 4 bytes a boat and 36 more: a buffer of this length is never too short. */
 #define DOFITRANO_CARD_MOST 1060
 
-/* Makes the search itself and writes its card to the first bytes of `output`; later bytes are as they were. Refuses by 1 to 17
- * and 22. */
+/* Makes the search itself and writes its card to the first bytes of `output`; later bytes are as they were. Refuses by 1 to 17,
+ * then 22. */
 dofitrano_card_reply dofitrano_write_card(const uint8_t *book, size_t book_length,
                                           const uint8_t *sheet, size_t sheet_length,
                                           uint8_t *output, size_t output_length);
 
-/* Checks a card against its book and sheet without a search. Refuses by 1 to 17, 21 and 31 to 39. Where it accepts, it replies
+/* Checks a card against its book and sheet without a search. Refuses by 1 to 17, then 21, then 31 to 39. Where it accepts, it replies
  * with the card's answer and fills the first slots of `shares` with the card's shares as dofitrano_search does. */
 dofitrano_reply dofitrano_check_card(const uint8_t *book, size_t book_length,
                                      const uint8_t *sheet, size_t sheet_length,
@@ -111,6 +116,47 @@ dofitrano_reply dofitrano_check_card(const uint8_t *book, size_t book_length,
 size_t dofitrano_listing(const uint8_t *book, size_t book_length,
                          const uint8_t *sheet, size_t sheet_length,
                          uint8_t *output, size_t output_length);
+
+/* What a scale gives for one column. Any other number counts as unweighed. */
+enum dofitrano_cell {
+    DOFITRANO_UNWEIGHED = 0,
+    DOFITRANO_NET = 1,    /* `first` is the net in kilograms; `second` is not read */
+    DOFITRANO_WEIGHED = 2 /* `first` is the gross, `second` the tare; the net is their difference as a double */
+};
+
+/* The values of scale cells. Where the call is refused, every value is 0. */
+typedef struct dofitrano_values {
+    uint32_t refusal;   /* the number that refuses the call, 0 for values */
+    int16_t values[64]; /* one a column of the book, 0 past its last column */
+} dofitrano_values;
+
+/* The sheet values of scale cells: cell i is kinds[i], first[i], second[i] and units[i], the kilograms of one unit. As many cells
+ * are read as the book has columns, at most 64; one that a list is too short for counts as unweighed. The exact net is rounded to
+ * whole kilograms, those over the unit to the value, halves to even. Refuses by 1 to 6, then cell by cell by 41, 42 and 43. */
+dofitrano_values dofitrano_sheet_values(const uint8_t *book, size_t book_length,
+                                        const uint8_t *kinds, size_t kind_count,
+                                        const double *first, size_t first_count,
+                                        const double *second, size_t second_count,
+                                        const uint32_t *units, size_t unit_count);
+
+/* A sheet has at most so many bytes without front text. */
+#define DOFITRANO_SHEET_MOST 144
+
+/* A sheet by value. Where the call is refused, `length` and every byte are 0. */
+typedef struct dofitrano_sheet {
+    uint32_t refusal;                    /* the number that refuses the call, 0 for a sheet */
+    size_t length;                       /* the bytes of the sheet, the first of `bytes` */
+    uint8_t bytes[DOFITRANO_SHEET_MOST]; /* 0 behind them */
+} dofitrano_sheet;
+
+/* The sheet whose target is the values of the cells, with these steps and this tolerance: dofitrano_search and the others take it
+ * with the same book. Refuses by 1 to 6, then cell by cell by 41, 42 and 43, then by 14, then by 15. */
+dofitrano_sheet dofitrano_scale_sheet(const uint8_t *book, size_t book_length,
+                                      const uint8_t *kinds, size_t kind_count,
+                                      const double *first, size_t first_count,
+                                      const double *second, size_t second_count,
+                                      const uint32_t *units, size_t unit_count,
+                                      uint32_t steps, uint32_t tolerance);
 
 #ifdef __cplusplus
 }
