@@ -47,12 +47,12 @@ first-refusal (s ∷ ss) n h =
     elim (either (cell-refusal s)) [
       | inl e ↦ later (first-refusal ss n (sym (passed-here s ss e) ∙ h)) e
       | inr e ↦ record {
-          place = 0;
-          inside = omega arith;
-          before = λ i k. absurd (omega arith);
-          refuses = sym (refused-here s ss e) ∙ h;
-          judged = cell-judged s;
-        }
+        place = 0;
+        inside = omega arith;
+        before = λ i k. absurd (omega arith);
+        refuses = sym (refused-here s ss e) ∙ h;
+        judged = cell-judged s;
+      }
     ]
   where
     later : First-refusal ss (suc n) → cell-refusal s ≡ 0 → First-refusal (s ∷ ss) (suc n)

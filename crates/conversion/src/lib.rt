@@ -44,9 +44,10 @@ fn net_outcome(net: f64, unit: u32) -> Outcome
     if 2000 < value {
         return refused(43);
     }
+    let small = value as i16;
     Outcome {
         refusal: 0,
-        value: value as i16,
+        value: small,
     }
 }
 
@@ -81,10 +82,7 @@ fn values_of(cells: [ScaleCell; 64], columns: usize) -> SheetValues
         values[i] = value;
         i += 1;
     }
-    SheetValues {
-        refusal: 0,
-        values,
-    }
+    SheetValues { refusal: 0, values }
 }
 
 // ENTRY. The sheet values of cells, one a column of the book: refuses a book that does not serve (1 to 6), then cell by cell one
@@ -100,5 +98,6 @@ pub fn sheet_values(book: &[u8], cells: [ScaleCell; 64]) -> SheetValues
             values: [0i16; 64],
         };
     }
-    values_of(cells, files::columns(book))
+    let columns = files::columns(book);
+    values_of(cells, columns)
 }

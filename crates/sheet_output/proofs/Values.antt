@@ -57,4 +57,3 @@ values-back [] rest h = refl
 values-back (x ∷ xs) rest h =
     let p = and-true (in-range x) (all-in-range xs) h in
     rw (append-assoc, value-back x _ (p .0), drop-front, values-back xs rest (p .1))
-

@@ -40,9 +40,10 @@ rounded-requires : tie.Need-rounded-requires
 rounded-requires c κs =
     let at-if2 = c .before in
     let at-if1 = at-if2 .before .before in
-    let start = at-if1 .before .before in
-    (unit-some (start .args .net) (start .args .unit) _ (at-if1 .before .is-within-limit .ensures) (at-if1 .if1 .left) _ (at-if2 .before .is-between .ensures) (at-if2 .if2 .left),
-    kilograms-small (c .whole-kilograms .result) (c .whole-kilograms .ensures .1))
+    let start = at-if1 .before .before in (
+      unit-some (start .args .net) (start .args .unit) _ (at-if1 .before .is-within-limit .ensures) (at-if1 .if1 .left) _ (at-if2 .before .is-between .ensures) (at-if2 .if2 .left),
+      kilograms-small (c .whole-kilograms .result) (c .whole-kilograms .ensures .1),
+    )
 
 refused-requires-3 : tie.Need-refused-requires-3
 refused-requires-3 c κs = search needs
@@ -70,8 +71,8 @@ returns-4 c =
     ∙ value-high (start .args .net) (start .args .unit) _ (at-if1 .before .is-within-limit .ensures) (at-if1 .if1 .left) _ (at-if2 .before .is-between .ensures) (at-if2 .if2 .left)
     (toZ-ofZ (sfits-of (at-rounded .rounded .ok)) ∙ value-is (start .args .net) (start .args .unit) _ (at-if1 .before .is-within-limit .ensures) (at-if1 .if1 .left) _ (at-if2 .before .is-between .ensures) (at-if2 .if2 .left) (toZ-ofZ (sfits-of (at-rounded .before .whole-kilograms .ok)) ∙ at-rounded .before .whole-kilograms .ensures .0) (at-rounded .rounded .ensures)) (c .before .if4 .taken)
 
-cast-t8 : tie.Need-cast-t8
-cast-t8 c =
+cast-small : tie.Need-cast-small
+cast-small c =
     let at-rounded = c .before .before in
     let at-if2 = at-rounded .before .before in
     let at-if1 = at-if2 .before .before in
@@ -104,5 +105,5 @@ net-outcome-spec =
     returns-3
     refused-requires-4
     returns-4
-    cast-t8
+    cast-small
     returns-5)

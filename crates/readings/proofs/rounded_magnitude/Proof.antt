@@ -34,10 +34,12 @@ half-even-requires c κs =
 returns-2 : tie.Need-returns-2
 returns-2 c =
     let x = c .before .before .args .exponent in
-    let t = c .before .before .args .fraction in
-    (c .half-even .ensures .0
-    ∙ ap (λ (p : ℕ). half-even (2 ^ 52 + t) p) (power (1075 - x) (omega arith))
-    ∙ shifted x t (c .before .if1 .left) (c .before .before .pre .0), omega arith)
+    let t = c .before .before .args .fraction in (
+      c .half-even .ensures .0
+          ∙ ap (λ (p : ℕ). half-even (2 ^ 52 + t) p) (power (1075 - x) (omega arith))
+          ∙ shifted x t (c .before .if1 .left) (c .before .before .pre .0),
+      omega arith,
+    )
 
 pub rounded-magnitude-spec : {M : Type 1} → statement M
 rounded-magnitude-spec =

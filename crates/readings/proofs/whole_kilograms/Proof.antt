@@ -34,9 +34,10 @@ returns c =
     let start = c .before .before in
     let x = start .args .x in
     let n = c .before .rounded-magnitude .result in
-    let e = toZ-ofZ (sfits-of (c .with-sign .ok)) ∙ c .with-sign .ensures in
-    (e ∙ ap (signed (leb (2 ^ 63) (toBits binary64 x))) (c .before .rounded-magnitude .ensures .0) ∙ whole-is x (held start) (start .pre),
-    subst (λ (k : ℕ). k ≤ 9007199254740992) (sym (ap natAbs e ∙ abs-signed (leb (2 ^ 63) (toBits binary64 x)) n)) (c .before .rounded-magnitude .ensures .1))
+    let e = toZ-ofZ (sfits-of (c .with-sign .ok)) ∙ c .with-sign .ensures in (
+      e ∙ ap (signed (leb (2 ^ 63) (toBits binary64 x))) (c .before .rounded-magnitude .ensures .0) ∙ whole-is x (held start) (start .pre),
+      subst (λ (k : ℕ). k ≤ 9007199254740992) (sym (ap natAbs e ∙ abs-signed (leb (2 ^ 63) (toBits binary64 x)) n)) (c .before .rounded-magnitude .ensures .1),
+    )
 
 pub whole-kilograms-spec : {M : Type 1} → statement M
 whole-kilograms-spec =
