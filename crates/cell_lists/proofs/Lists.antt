@@ -1,6 +1,6 @@
 -- Cells from lists: a kind's cell, a cell that is missing in a list, and the table of all cells.
 use mathlib.Core.Path.{_≡_, refl, sym, ap, _∙_}
-use mathlib.Core.Bool.{Bool, true, false, _&&_}
+use mathlib.Core.Bool.{false, and-false}
 use mathlib.Core.List.{List, [], _∷_, _++_, append-nil}
 use Prim.Native.Nat.{ℕ, zero, suc, _+_, _≤_, _<_}
 use native.Mathlib.Omega.{arith}
@@ -14,10 +14,6 @@ use Rattle.cells.specs.declared.ScaleCell.{ScaleCell}
 use Rattle.cells.specs.Promise.{unweighed}
 use Rattle.cell_lists.specs.Lists.{cell-of, has-cell, flat-cell, tabulate, flat-cells}
 
-and-none : (b : Bool) → b && false ≡ false
-and-none true = refl
-and-none false = refl
-
 module _ (ks : List ℕ) (xs ys : List Float) (us : List ℕ) (i : ℕ) where
   missing-by : has-cell ks xs ys us i ≡ false → unweighed ≡ flat-cell ks xs ys us i
   unfolding flat-cell
@@ -29,15 +25,15 @@ module _ (ks : List ℕ) (xs ys : List Float) (us : List ℕ) (i : ℕ) where
 
   pub no-first : length xs ≤ i → unweighed ≡ flat-cell ks xs ys us i
   unfolding has-cell
-  no-first h = missing-by (rw (le-ltb i (length xs) h) (and-none (ltb i (length ks))))
+  no-first h = missing-by (rw (le-ltb i (length xs) h) (and-false (ltb i (length ks))))
 
   pub no-second : length ys ≤ i → unweighed ≡ flat-cell ks xs ys us i
   unfolding has-cell
-  no-second h = missing-by (rw (le-ltb i (length ys) h, and-none (ltb i (length xs))) (and-none (ltb i (length ks))))
+  no-second h = missing-by (rw (le-ltb i (length ys) h, and-false (ltb i (length xs))) (and-false (ltb i (length ks))))
 
   pub no-unit : length us ≤ i → unweighed ≡ flat-cell ks xs ys us i
   unfolding has-cell
-  no-unit h = missing-by (rw (le-ltb i (length us) h, and-none (ltb i (length ys)), and-none (ltb i (length xs))) (and-none (ltb i (length ks))))
+  no-unit h = missing-by (rw (le-ltb i (length us) h, and-false (ltb i (length ys)), and-false (ltb i (length xs))) (and-false (ltb i (length ks))))
 
   pub present : i < length ks → i < length xs → i < length ys → i < length us → {s : Cell} → s ≡ cell-of (getD ks i 0) (getD xs i nan) (getD ys i nan) →
       _≡_ {A = ScaleCell} (record { cell = s; unit = getD us i 0 }) (flat-cell ks xs ys us i)

@@ -1,6 +1,6 @@
 -- What refuses a cell, and what an accepted cell is.
 use mathlib.Core.Path.{_≡_, refl, sym, ap, _∙_}
-use mathlib.Core.Bool.{Bool, true, false, _&&_, not, cond}
+use mathlib.Core.Bool.{Bool, true, false, _&&_, not, cond, true≢false}
 use mathlib.Core.Logic.{_⊎_, inl, inr}
 use Prim.Native.Nat.{ℕ, zero, suc, _*_, _≤_, _<_}
 use native.Mathlib.Nat.{zero-mul}
@@ -22,9 +22,6 @@ use Rattle.cells.specs.declared.ScaleCell.{ScaleCell}
 use Rattle.cells.specs.Cells.{is-weighed, net, cell-value, cell-refusal}
 use Rattle.cells.specs.Promise.{finite-readings, Within, Beyond, Cell-accepted, Cell-judged}
 
-different : {X : Type 0} → true ≡ false → X
-different e = let z : _≡_ {A = ℕ} 0 1 = cc in absurd (omega arith)
-
 -- ---- a reading that is not finite
 less-nothing : (x y : Float) → is-finite x && is-finite y ≡ false → is-finite (sub binary64 x y) ≡ false
 unfolding is-finite sub add neg
@@ -37,11 +34,11 @@ less-nothing (inf false) (inf false) h = refl
 less-nothing (inf s) (fin t n d) h = refl
 less-nothing (fin s m e) nan h = refl
 less-nothing (fin s m e) (inf t) h = refl
-less-nothing (fin s m e) (fin t n d) h = different h
+less-nothing (fin s m e) (fin t n d) h = absurd (true≢false h)
 
 pub net-follows : (c : Cell) → finite-readings c ≡ false → is-finite (net c) ≡ false
 unfolding finite-readings net
-net-follows Unweighed h = different h
+net-follows Unweighed h = absurd (true≢false h)
 net-follows (Net x) h = h
 net-follows (Weighed w) h = less-nothing (w .gross) (w .tare) h
 
@@ -50,7 +47,7 @@ readings-of c h = by (finite-readings c) refl
   where
     by : (t : Bool) → finite-readings c ≡ t → t ≡ true
     by true e = refl
-    by false e = different (sym h ∙ net-follows c e)
+    by false e = absurd (true≢false (sym h ∙ net-follows c e))
 
 -- ---- the limit
 module _ (x : Float) where

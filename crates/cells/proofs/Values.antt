@@ -1,6 +1,6 @@
 -- The values of 64 cells and the first refusal among them are right.
 use mathlib.Core.Path.{_≡_, refl, sym, ap, _∙_}
-use mathlib.Core.Bool.{Bool, true, false, _&&_, not, cond}
+use mathlib.Core.Bool.{Bool, true, false, _&&_, not, cond, true≢false}
 use mathlib.Core.List.{List, [], _∷_, _++_, map}
 use mathlib.Core.Logic.{_⊎_, inl, inr}
 use Prim.Native.Nat.{ℕ, zero, suc, _+_, _-_, _*_, _≤_, _<_}
@@ -98,7 +98,7 @@ next-not false k x m e n = absurd (n e)
 
 not-refused : (t : Bool) → cond {A = ℕ} t 0 17 ≡ 17 → t ≡ true → ⊥
 not-refused true h e = omega arith
-not-refused false h e = let z : _≡_ {A = ℕ} 0 1 = cc in omega arith
+not-refused false h e = true≢false (sym e)
 
 pub target-passes : (c : ℕ) (s : List ℕ) → all-in-range (sheet s .target) ≡ true → sheet-refusal c s ≡ 17 → ⊥
 unfolding sheet-refusal body-refusal sheet

@@ -1,6 +1,6 @@
 -- What one cell gives, test by test.
 use mathlib.Core.Path.{_≡_, refl, sym, ap, _∙_}
-use mathlib.Core.Bool.{Bool, true, false, _&&_, not}
+use mathlib.Core.Bool.{Bool, true, false, _&&_, not, and-false, true≢false}
 use Prim.Native.Nat.{ℕ, zero, suc, _≤_, _<_}
 use native.Mathlib.Omega.{arith}
 use borrow.Author.Tests.{le-leb, lt-leb, lt-ltb, le-ltb, ltb-true, ltb-false, not-true, not-false}
@@ -40,22 +40,18 @@ by-number s n e = rw e
 -- ---- a value outside the range, and inside
 too-low : (v : ℤ) → ltZ v (negsuc 1999) ≡ true → in-range v ≡ false
 unfolding in-range
-too-low (pos n) h = let z : _≡_ {A = ℕ} 0 1 = cc in absurd (omega arith)
+too-low (pos n) h = absurd (true≢false (sym h))
 too-low (negsuc n) h = le-ltb n 2000 (omega (arith, ltb-true 1999 n h))
 
 too-high : (v : ℤ) → ltZ (pos 2000) v ≡ true → in-range v ≡ false
 unfolding in-range
 too-high (pos n) h = lt-leb n 2000 (ltb-true 2000 n h)
-too-high (negsuc n) h = let z : _≡_ {A = ℕ} 0 1 = cc in absurd (omega arith)
+too-high (negsuc n) h = absurd (true≢false (sym h))
 
 inside : (v : ℤ) → ltZ v (negsuc 1999) ≡ false → ltZ (pos 2000) v ≡ false → in-range v ≡ true
 unfolding in-range
 inside (pos n) h k = le-leb n 2000 (ltb-false 2000 n k)
 inside (negsuc n) h k = lt-ltb n 2000 (omega (arith, ltb-false 1999 n h))
-
-and-none : (b : Bool) → b && false ≡ false
-and-none true = refl
-and-none false = refl
 
 -- ---- a net x in units of u kilograms: g1 and g2 are what the tests gave, y the value
 net-weighed : (x : Float) (u : ℕ) → is-weighed (net-cell x u .cell) ≡ true
@@ -93,7 +89,7 @@ module _ (x : Float) (u : ℕ) (g1 : Bool) (e1 : g1 ≡ within-limit x) where
         value-is ek ev = ev ∙ rw ek
 
         fitting : in-range (cell-value s) ≡ false → outcome-of 43 (pos 0) ≡ cell-outcome s
-        fitting f = outside (rw (f) (and-none (between 1 10000 u)))
+        fitting f = outside (rw (f) (and-false (between 1 10000 u)))
 
         module _ {y : ℤ} (ey : y ≡ cell-value s) where
           pub value-low : ltZ y (negsuc 1999) ≡ true → outcome-of 43 (pos 0) ≡ cell-outcome s

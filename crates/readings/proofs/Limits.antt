@@ -1,6 +1,6 @@
 -- The limit tested by two comparisons of doubles is the limit of the exact value.
 use mathlib.Core.Path.{_≡_, refl, sym, ap, _∙_}
-use mathlib.Core.Bool.{Bool, true, false, _&&_, _||_}
+use mathlib.Core.Bool.{Bool, true, false, _&&_, _||_, and-true}
 use mathlib.Core.Logic.{inl, inr}
 use Prim.Native.Nat.{ℕ, _+_, _*_, _^_, _≤_, _<_}
 use native.Mathlib.Nat.{eq-or-lt-of-le, mul-one, add-comm}
@@ -40,10 +40,6 @@ eqb-sym x y = by (eqb y x) refl
 
 positive : (b : Bool) (x : ℕ) → 0 < x → ltb 0 x || b ≡ true
 positive b x h = simp (lt-ltb 0 x h)
-
-and-true : (b : Bool) → b && true ≡ b
-and-true true = refl
-and-true false = refl
 
 -- the sizes a and 1,048,576 d, as the comparisons have them
 sizes : (a d : ℕ) → leb (a * 1) (1 * 2 ^ 20 * d) ≡ leb a (1048576 * d)

@@ -1,6 +1,6 @@
 -- The exact value of a double from its bits: its sign, its exponent field and its fraction field.
 use mathlib.Core.Path.{_≡_, refl, sym, ap, _∙_, subst}
-use mathlib.Core.Bool.{Bool, true, false, not, _&&_, cond}
+use mathlib.Core.Bool.{Bool, true, false, not, _&&_, cond, true≢false}
 use Prim.Native.Nat.{ℕ, zero, suc, _+_, _-_, _*_, _/_, _%_, _^_, _≤_, _<_}
 use native.Mathlib.Nat.{le-trans, le-of-eq, lt-of-lt-of-le, lt-irrefl, lt-of-not-le, mul-assoc, mul-right-comm, mul-one, mul-le-mul-right, le-of-mul-le-mul-right, le-add-right}
 use native.Mathlib.Omega.{arith}
@@ -56,8 +56,8 @@ fields-value s zero t f = subst (λ (a : ℕ). HasValue (odd 53 s t 0 1074) s a 
 fields-value s (suc j) t f = go (eqb (suc j) 2047) (eqb t 0) f
   where
     go : (a b : Bool) → is-finite (cond a (cond b (inf s) nan) (odd 53 s (2 ^ 52 + t) j 1074)) ≡ true → HasValue (cond a (cond b (inf s) nan) (odd 53 s (2 ^ 52 + t) j 1074)) s ((2 ^ 52 + t) * 2 ^ j) (2 ^ 1074)
-    go true true f = let e : _≡_ {A = ℕ} 0 1 = cc in absurd (omega arith)
-    go true false f = let e : _≡_ {A = ℕ} 0 1 = cc in absurd (omega arith)
+    go true true f = absurd (true≢false (sym f))
+    go true false f = absurd (true≢false (sym f))
     go false b f = odd-sign 53 s (2 ^ 52 + t) j 1074
 
 -- ---- a value in two forms
@@ -97,7 +97,7 @@ exponent-small (suc j) t h =
 -- ---- a double within the limit, and its bits b
 pub no-nan : (x : Float) → within-limit x ≡ true → T (not (isNan x))
 unfolding within-limit is-finite isNan
-no-nan nan k = let e : _≡_ {A = ℕ} 0 1 = cc in absurd (omega arith)
+no-nan nan k = absurd (true≢false (sym k))
 no-nan (inf s) k = tt
 no-nan (fin s m e) k = tt
 

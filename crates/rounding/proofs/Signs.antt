@@ -1,6 +1,6 @@
 -- Signed machine integers: a size with its sign, and the size of an integer below 0.
 use mathlib.Core.Path.{_≡_, refl, sym, ap, _∙_}
-use mathlib.Core.Bool.{Bool, true, false}
+use mathlib.Core.Bool.{Bool, true, false, true≢false}
 use Prim.Native.Nat.{ℕ, suc, _+_, _≤_, _<_}
 use native.Mathlib.Omega.{arith}
 use borrow.Author.Tests.{ltb-true}
@@ -40,7 +40,7 @@ below-zero (negsuc n) t = refl
 
 not-below : (z : ℤ) → ltZ z (pos 0) ≡ false → z ≡ pos (natAbs z)
 not-below (pos n) t = refl
-not-below (negsuc n) t = let e : _≡_ {A = ℕ} 0 1 = cc in absurd (omega arith)
+not-below (negsuc n) t = absurd (true≢false t)
 
 rounded-below : (z : ℤ) (d : ℕ) → ltZ z (pos 0) ≡ true → signed true (half-even (natAbs z) d) ≡ rounded z d
 unfolding rounded
@@ -50,7 +50,7 @@ rounded-below (negsuc n) d t = refl
 rounded-above : (z : ℤ) (d : ℕ) → ltZ z (pos 0) ≡ false → signed false (half-even (natAbs z) d) ≡ rounded z d
 unfolding rounded
 rounded-above (pos n) d t = refl
-rounded-above (negsuc n) d t = let e : _≡_ {A = ℕ} 0 1 = cc in absurd (omega arith)
+rounded-above (negsuc n) d t = absurd (true≢false t)
 
 module _ (z : ℤ) (h : natAbs z ≤ 9007199254740992) where
   kept : toZ w64 (ofZ w64 z) ≡ z
