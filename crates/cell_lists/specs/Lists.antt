@@ -5,7 +5,6 @@ use Prim.Native.Nat.{ℕ, zero, suc}
 use lib.Dec.{eqb, ltb}
 use lib.ListN.{length, getD}
 use lib.Ieee.{Float, nan}
-use Rattle.cells.specs.declared.Weighing.{Weighing}
 use Rattle.cells.specs.declared.Cell.{Cell}
 use Rattle.cells.specs.declared.Cell.the-variants.{Unweighed, Net, Weighed}
 use Rattle.cells.specs.declared.ScaleCell.{ScaleCell}

@@ -2,8 +2,6 @@
 //
 // Helper for other crates, which asks nothing of its caller: cells_of.
 ghost use mathlib.Core.Path.{_≡_};
-ghost use Prim.Native.Nat.{_<_};
-ghost use lib.ListN.{length};
 ghost use Rattle.cell_lists.specs.Lists.{cell-of, flat-cell, flat-cells};
 use cells::Cell;
 use cells::ScaleCell;

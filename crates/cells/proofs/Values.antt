@@ -5,23 +5,21 @@ use mathlib.Core.List.{List, [], _∷_, _++_, map}
 use mathlib.Core.Logic.{_⊎_, inl, inr}
 use Prim.Native.Nat.{ℕ, zero, suc, _+_, _-_, _*_, _≤_, _<_}
 use native.Mathlib.Omega.{arith}
-use borrow.Author.Tests.{eq-eqb, ne-eqb, eqb-true, eqb-false}
+use borrow.Author.Tests.{eq-eqb, ne-eqb, eqb-true}
 use lib.Dec.{eqb, ltb}
 use lib.IntN.{ℤ, pos}
-use lib.ListN.{length, getD, take, drop, replicate, length-append, length-replicate, getD-replicate, length-map, List·getD-map, List·getD-append}
+use lib.ListN.{length, getD, drop, replicate, length-append, length-replicate, length-map, List·getD-map, List·getD-append}
 use lib.Seq.{length-take-le, getD-take, getD-append-add, take-at}
-use Rattle.files.specs.Bytes.{between, same, number, values, in-range, all-in-range, length-in-range, trailer, body, reaches, body-refusal}
+use Rattle.files.specs.Bytes.{between, same, number, values, all-in-range, length-in-range, trailer, body, reaches, body-refusal}
 use Rattle.files.specs.Book.{columns, book-refusal}
 use Rattle.files.specs.Sheet.{WSH1, sheet, sheet-columns, sheet-refusal}
 use Rattle.files.specs.Fits.{Book-fits}
 use Rattle.files.proofs.Accepted.{book-accepted}
-use Rattle.files.proofs.Refusal.{and-true}
 use Rattle.rounding.specs.Rounding.{half-even, rounded}
 use Rattle.readings.specs.Readings.{numerator, denominator, whole}
 use Rattle.cells.specs.declared.ScaleCell.{ScaleCell}
-use Rattle.cells.specs.declared.SheetValues.{SheetValues}
 use Rattle.cells.specs.Cells.{net, cell-value, cell-refusal, cells-refusal, read-cells, scale-refusal, values-after, sheet-values}
-use Rattle.cells.specs.Promise.{unweighed, cell-at, Cell-accepted, First-refusal, Values-accepted, Values-refused, Values-right, Conversion-right}
+use Rattle.cells.specs.Promise.{unweighed, cell-at, First-refusal, Values-accepted, Values-right, Conversion-right}
 use Rattle.cells.proofs.Judging.{cell-judged, cell-accepted, cell-in-range}
 
 -- ---- the first refusal of a list of cells

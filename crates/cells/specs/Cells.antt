@@ -10,7 +10,6 @@ use Rattle.files.specs.Bytes.{between, in-range}
 use Rattle.files.specs.Book.{columns, book-refusal}
 use Rattle.rounding.specs.Rounding.{rounded}
 use Rattle.readings.specs.Readings.{within-limit, whole}
-use Rattle.cells.specs.declared.Weighing.{Weighing}
 use Rattle.cells.specs.declared.Cell.{Cell}
 use Rattle.cells.specs.declared.Cell.the-variants.{Unweighed, Net, Weighed}
 use Rattle.cells.specs.declared.ScaleCell.{ScaleCell}

@@ -6,7 +6,7 @@ use mathlib.Core.List.{List, [], _∷_, map}
 use Prim.Native.Nat.{ℕ}
 use lib.IntN.{ℤ, pos, negsuc}
 use lib.Ieee.{Float, nan, inf, fin}
-use Rattle.cells.specs.declared.Cell.the-variants.{Unweighed, Net, Weighed}
+use Rattle.cells.specs.declared.Cell.the-variants.{Net, Weighed}
 use Rattle.cells.specs.declared.ScaleCell.{ScaleCell}
 use Rattle.cells.specs.Cells.{cell-value, cell-refusal, cells-refusal}
 use Rattle.cells.specs.Promise.{unweighed}

@@ -5,7 +5,7 @@ use Prim.Native.Nat.{ℕ, _+_, _*_, _/_, _%_, _≤_, _<_, compare, Ordering, Ord
 use native.Mathlib.Nat.{le-of-lt, lt-of-lt-of-le, lt-irrefl, div-eq-of-lt, mod-eq-of-lt}
 use native.Mathlib.Omega.{arith}
 use borrow.Author.Tests.{ltb-true, ltb-false}
-use lib.Dec.{T, ltb, leb, eqb, isLe, isEq, le→leb, leb→le, eqb→eq, eqb-refl}
+use lib.Dec.{T, ltb, eqb, isLe, isEq, le→leb, leb→le, eqb→eq, eqb-refl}
 use lib.Ieee.{nearest}
 use lib.Ieee.Nearest.{closest, closest-same}
 use Rattle.rounding.specs.Rounding.{half-even}

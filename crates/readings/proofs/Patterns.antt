@@ -1,6 +1,6 @@
 -- The exact value of a double from its bits: its sign, its exponent field and its fraction field.
-use mathlib.Core.Path.{_≡_, refl, sym, ap, _∙_, subst}
-use mathlib.Core.Bool.{Bool, true, false, not, _&&_, cond, true≢false}
+use mathlib.Core.Path.{_≡_, sym, ap, _∙_, subst}
+use mathlib.Core.Bool.{Bool, true, false, not, cond, true≢false}
 use Prim.Native.Nat.{ℕ, zero, suc, _+_, _-_, _*_, _/_, _%_, _^_, _≤_, _<_}
 use native.Mathlib.Nat.{le-trans, le-of-eq, lt-of-lt-of-le, lt-irrefl, lt-of-not-le, mul-assoc, mul-right-comm, mul-one, mul-le-mul-right, le-of-mul-le-mul-right, le-add-right}
 use native.Mathlib.Omega.{arith}
@@ -12,7 +12,7 @@ use lib.Ieee.Fits.{down-pos}
 use lib.Ieee.Bits.{ofBits-toBits}
 use lib.Ieee.Exact.{HasValue, odd-sign}
 use Rattle.files.proofs.Refusal.{and-true}
-use Rattle.rounding.specs.Rounding.{half-even, signed, rounded}
+use Rattle.rounding.specs.Rounding.{half-even, signed}
 use Rattle.rounding.proofs.Nearest.{rounded-signed}
 use Rattle.rounding.proofs.Signs.{abs-signed}
 use Rattle.readings.specs.Readings.{is-finite, numerator, denominator, most-kilograms, within-limit, whole}

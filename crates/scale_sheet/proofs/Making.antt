@@ -7,31 +7,30 @@ use Prim.Native.Nat.{ℕ, zero, suc, _+_, _*_, _-_, _≤_, _<_}
 use native.Mathlib.Nat.{zero-add}
 use native.Mathlib.Omega.{arith}
 use borrow.Author.Tests.{eq-eqb, ne-eqb, lt-ltb, le-ltb, le-leb, leb-false, not-true, not-false}
-use lib.Dec.{leb}
 use lib.IntN.{ℤ, pos}
-use lib.ListN.{length, take, drop, replicate, length-append, length-replicate}
+use lib.ListN.{length, take, replicate, length-replicate}
 use lib.Seq.{take-at, drop-at}
 use Rattle.integers.proofs.Filling.{drop-replicate}
 use Rattle.files.specs.Bytes.{between, all-in-range}
 use Rattle.files.specs.Book.{columns, book-refusal}
-use Rattle.files.specs.Sheet.{Sheet, sheet, sheet-refusal, files-refusal}
+use Rattle.files.specs.Sheet.{Sheet}
 use Rattle.files.specs.Fits.{Book-fits}
 use Rattle.files.proofs.Accepted.{book-accepted}
 use Rattle.files.proofs.Refusal.{between-true, book-passed}
 use Rattle.cells.specs.declared.ScaleCell.{ScaleCell}
 use Rattle.cells.specs.declared.SheetValues.{SheetValues}
 use Rattle.cells.specs.Cells.{cell-value, read-cells, scale-refusal, values-after, sheet-values}
-use Rattle.cells.specs.Promise.{Values-accepted, Values-refused, Values-right}
+use Rattle.cells.specs.Promise.{Values-accepted, Values-right}
 use Rattle.cells.proofs.Values.{scale-accepted, read-length, read-in-range, conversion-right}
 use Rattle.card_output.specs.Output.{placed}
 use Rattle.card_output.proofs.Placing.{placed-next, placed-length}
 use Rattle.sheet_output.specs.Output.{values-bytes, sheet-trailer, sheet-bytes}
 use Rattle.sheet_output.specs.Back.{Sheet-of, Sheet-reads-back}
 use Rattle.sheet_output.proofs.Values.{length-values-bytes}
-use Rattle.sheet_output.proofs.Back.{sheet-reads-back, sheet-trailer-length}
+use Rattle.sheet_output.proofs.Back.{sheet-reads-back}
 use Rattle.scale_sheet.specs.declared.ScaleSheet.{ScaleSheet}
 use Rattle.scale_sheet.specs.Sheets.{scale-sheet-refusal, asked, refused-sheet, sheet-after, scale-sheet}
-use Rattle.scale_sheet.specs.Promise.{made, Sheet-accepted, Reason, by-cells, by-steps, by-tolerance, Sheet-right-by, Sheet-right}
+use Rattle.scale_sheet.specs.Promise.{Sheet-accepted, Reason, by-cells, by-steps, by-tolerance, Sheet-right-by, Sheet-right}
 
 steps-outside : (k : ℕ) → between 1 360 k ≡ false → (k ≡ 0) ⊎ (360 < k)
 unfolding between

@@ -1,6 +1,6 @@
 -- The 16 bits of a value as the code has them: the value and 65,536 more, modulo 65,536.
-use mathlib.Core.Path.{_≡_, refl, sym, ap, _∙_}
-use Prim.Native.Nat.{ℕ, suc, _+_, _-_, _%_, _≤_, _<_}
+use mathlib.Core.Path.{_≡_, refl, ap, _∙_}
+use Prim.Native.Nat.{suc, _+_, _-_, _%_, _≤_}
 use native.Mathlib.Omega.{arith}
 use borrow.Author.Tests.{le-ltb}
 use lib.Dec.{T}
@@ -9,7 +9,7 @@ use lib.Signed.{nonNeg, natAbs-le}
 use mir.Syntax.{w16, w64}
 use mir.Val.{Fits, SFits, toZ, ofZ}
 use mir.Facts.{toZ-ofZ}
-use Rattle.integers.proofs.Bounds.{fits, read, abs-add}
+use Rattle.integers.proofs.Bounds.{fits, abs-add}
 use Rattle.sheet_output.specs.Output.{bits}
 
 -- the sum is a natural number

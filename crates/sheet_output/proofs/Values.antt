@@ -1,15 +1,12 @@
 -- Values written and read back.
 use mathlib.Core.Path.{_≡_, refl, ap, _∙_}
-use mathlib.Core.Bool.{Bool, true, false, cond}
+use mathlib.Core.Bool.{true}
 use mathlib.Core.List.{List, [], _∷_, _++_, append-assoc}
-use Prim.Native.Nat.{ℕ, suc, _+_, _*_, _-_, _/_, _%_, _<_}
-use native.Mathlib.Nat.{suc-mul, zero-mul}
+use Prim.Native.Nat.{ℕ, _+_, _*_, _-_, _<_}
 use native.Mathlib.Omega.{arith}
 use borrow.Author.Tests.{lt-ltb, le-ltb, leb-true, ltb-true}
-use lib.ListN.{length, getD, drop, length-append}
-use lib.Seq.{drop-at}
+use lib.ListN.{length, drop}
 use lib.IntN.{ℤ, pos, negsuc}
-use lib.Dec.{ltb}
 use Rattle.files.specs.Bytes.{number-bytes, little-endian, number, value, values, in-range, all-in-range}
 use Rattle.files.proofs.Refusal.{and-true}
 use Rattle.card_format.proofs.Bytes.{read-bytes}

@@ -1,14 +1,12 @@
 -- `readings::whole_kilograms` meets its contract: the double is within the limit, so it has bits and a small exponent.
 use borrow.Author.Needs.{needs, sfits-of}
-use mathlib.Core.Path.{_≡_, sym, subst, ap, _∙_}
-use mathlib.Core.Bool.{Bool}
-use Prim.Native.Nat.{ℕ, _%_, _/_, _^_, _≤_}
+use mathlib.Core.Path.{sym, subst, ap, _∙_}
+use Prim.Native.Nat.{ℕ, _^_, _≤_}
 use native.Mathlib.Nat.{mod-lt}
-use native.Mathlib.Omega.{arith}
 use lib.Dec.{T, leb}
 use lib.Pow.{pow-pos}
 use lib.IntN.{natAbs}
-use lib.Ieee.{Float, binary64, fits, toBits}
+use lib.Ieee.{binary64, fits, toBits}
 use mir.Facts.{toZ-ofZ}
 use Rattle.rounding.specs.Rounding.{signed}
 use Rattle.rounding.proofs.Signs.{abs-signed}
