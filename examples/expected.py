@@ -3,6 +3,7 @@
 Use, from the repository's root: python3 examples/expected.py >examples/expected.txt
 """
 import os
+import struct
 import sys
 
 sys.path.insert(0, os.path.join(os.path.dirname(os.path.abspath(__file__)), "..", "tests"))
@@ -28,6 +29,11 @@ def print_reply(refusal, answer):
         print(name, value)
 
 
+def bits(value):
+    """The 64 bits of a Python float."""
+    return struct.unpack("<Q", struct.pack("<d", value))[0]
+
+
 def main():
     book = exact.make_book([[0, 0], [4, 0], [0, 4]])
     for steps in (9, 0):
@@ -48,6 +54,16 @@ def main():
     altered = card[:2] + bytes([card[2] + 1]) + card[3:]
     refusal, _, _ = exact.check_card(book, sheet, altered, [7, 7, 7])
     print("checked with one share more, refusal %d" % refusal)
+    print("cells")
+    none = (0, 0, 0, 0)
+    cells = [(2, bits(1000000.1), bits(999975.6), 10), (1, bits(5.5), bits(0.0), 4)] + [none] * 62
+    refusal, values = exact.sheet_values(book, cells)
+    print("refusal %d, values" % refusal, *values[:2])
+    refusal, sheet = exact.scale_sheet(book, cells, 9, 1)
+    print("refusal %d, bytes %d" % (refusal, len(sheet)))
+    print(sheet.hex())
+    refusal, sheet = exact.scale_sheet(book, cells[:1] + [none] * 63, 9, 1)
+    print("refusal %d, bytes %d" % (refusal, len(sheet)))
 
 
 main()

@@ -1,4 +1,5 @@
-/* The library from C: a search and its refusal, a listing, a card written and checked. Files are built in memory. */
+/* The library from C: a search and its refusal, a listing, a card written and checked, a sheet of scale cells. Files are built in
+ * memory. */
 #include <inttypes.h>
 #include <stdio.h>
 #include <string.h>
@@ -72,6 +73,25 @@ static void write_and_check(void)
     printf("checked with one share more, refusal %" PRIu32 "\n", checked.refusal);
 }
 
+/* A weighing in units of 10 kilograms and a net in units of 4: the cells of the two columns. */
+static void weigh(void)
+{
+    const uint8_t kinds[] = { DOFITRANO_WEIGHED, DOFITRANO_NET };
+    const double first[] = { 1000000.1, 5.5 };
+    const double second[] = { 999975.6, 0.0 };
+    const uint32_t units[] = { 10, 4 };
+    dofitrano_values found = dofitrano_sheet_values(book, sizeof book, kinds, 2, first, 2, second, 2, units, 2);
+    printf("refusal %" PRIu32 ", values %d %d\n", found.refusal, found.values[0], found.values[1]);
+    dofitrano_sheet made = dofitrano_scale_sheet(book, sizeof book, kinds, 2, first, 2, second, 2, units, 2, 9, 1);
+    printf("refusal %" PRIu32 ", bytes %zu\n", made.refusal, made.length);
+    for (size_t i = 0; i < made.length; i++)
+        printf("%02x", made.bytes[i]);
+    printf("\n");
+    /* The second cell is missing. */
+    made = dofitrano_scale_sheet(book, sizeof book, kinds, 1, first, 1, second, 1, units, 1, 9, 1);
+    printf("refusal %" PRIu32 ", bytes %zu\n", made.refusal, made.length);
+}
+
 int main(void)
 {
     printf("search, 9 steps\n");
@@ -87,5 +107,7 @@ int main(void)
     list();
     printf("card\n");
     write_and_check();
+    printf("cells\n");
+    weigh();
     return 0;
 }

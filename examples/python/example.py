@@ -1,4 +1,5 @@
-"""The library from Python by ctypes: a search and its refusal, a listing, a card written and checked.
+"""The library from Python by ctypes: a search and its refusal, a listing, a card written and checked,
+a sheet of scale cells.
 
 Files are built in memory.
 
@@ -32,6 +33,19 @@ class CardReply(ctypes.Structure):
     _fields_ = [("reply", Reply), ("bytes", ctypes.c_size_t)]
 
 
+class Values(ctypes.Structure):
+    """dofitrano_values of include/dofitrano.h."""
+
+    _fields_ = [("refusal", ctypes.c_uint32), ("values", ctypes.c_int16 * 64)]
+
+
+class Sheet(ctypes.Structure):
+    """dofitrano_sheet of include/dofitrano.h."""
+
+    _fields_ = [("refusal", ctypes.c_uint32), ("length", ctypes.c_size_t), ("bytes", ctypes.c_uint8 * 144)]
+
+
+NET, WEIGHED = 1, 2
 CARD_MOST = 1060
 LISTING_MOST = 4096
 
@@ -50,6 +64,12 @@ def load(path):
     library.dofitrano_check_card.argtypes = file + file + file + shares
     library.dofitrano_listing.restype = ctypes.c_size_t
     library.dofitrano_listing.argtypes = file + file + buffer
+    doubles = [ctypes.POINTER(ctypes.c_double), ctypes.c_size_t]
+    cells = file + doubles + doubles + [ctypes.POINTER(ctypes.c_uint32), ctypes.c_size_t]
+    library.dofitrano_sheet_values.restype = Values
+    library.dofitrano_sheet_values.argtypes = file + cells
+    library.dofitrano_scale_sheet.restype = Sheet
+    library.dofitrano_scale_sheet.argtypes = file + cells + [ctypes.c_uint32, ctypes.c_uint32]
     return library
 
 
@@ -79,6 +99,14 @@ def listing(library, book, sheet):
     output = ctypes.create_string_buffer(LISTING_MOST)
     length = library.dofitrano_listing(book, len(book), sheet, len(sheet), output, LISTING_MOST)
     return output.raw[:length].decode("ascii")
+
+
+def lists_of(cells):
+    """Cells (kind, first, second, unit) as the lists that a call takes, each with its length."""
+    n = len(cells)
+    kinds, first, second, units = zip(*cells)
+    doubles = ctypes.c_double * n
+    return bytes(kinds), n, doubles(*first), n, doubles(*second), n, (ctypes.c_uint32 * n)(*units), n
 
 
 def book_of(rows):
@@ -120,6 +148,16 @@ def main(path):
     altered = card[:2] + bytes([card[2] + 1]) + card[3:]
     reply, _ = check_card(library, book, sheet, altered, [7, 7, 7])
     print("checked with one share more, refusal %d" % reply.refusal)
+    print("cells")
+    # A weighing in units of 10 kilograms and a net in units of 4, then the weighing alone.
+    cells = [(WEIGHED, 1000000.1, 999975.6, 10), (NET, 5.5, 0.0, 4)]
+    found = library.dofitrano_sheet_values(book, len(book), *lists_of(cells))
+    print("refusal %d, values" % found.refusal, *found.values[:2])
+    made = library.dofitrano_scale_sheet(book, len(book), *lists_of(cells), 9, 1)
+    print("refusal %d, bytes %d" % (made.refusal, made.length))
+    print(bytes(made.bytes[:made.length]).hex())
+    made = library.dofitrano_scale_sheet(book, len(book), *lists_of(cells[:1]), 9, 1)
+    print("refusal %d, bytes %d" % (made.refusal, made.length))
 
 
 if __name__ == "__main__":
