@@ -20,7 +20,7 @@ use Rattle.cells.specs.declared.Cell.{Cell}
 use Rattle.cells.specs.declared.Cell.the-variants.{Unweighed, Net, Weighed}
 use Rattle.cells.specs.declared.ScaleCell.{ScaleCell}
 use Rattle.cells.specs.Cells.{is-weighed, net, cell-value, cell-refusal}
-use Rattle.cells.specs.Promise.{finite-readings, Within, Beyond, Cell-accepted, Cell-judged}
+use Rattle.cells.specs.Promise.{finite-readings, Within, Beyond, Out-of-reach, Cell-accepted, Cell-judged}
 
 -- ---- a reading that is not finite
 less-nothing : (x y : Float) → is-finite x && is-finite y ≡ false → is-finite (sub binary64 x y) ≡ false
@@ -189,7 +189,7 @@ module _ (s : ScaleCell) where
         net-follows = net-follows (s .cell);
       }
     where
-      out : (finite-readings (s .cell) ≡ false) ⊎ ((is-finite x ≡ false) ⊎ Beyond x) → within-limit x ≡ false
+      out : Out-of-reach (s .cell) → within-limit x ≡ false
       out (inl h) = not-finite x (net-follows (s .cell) h)
       out (inr (inl h)) = not-finite x h
       out (inr (inr h)) = is-beyond x h
@@ -231,7 +231,7 @@ cell-accepted s h =
       first = rounding .rounds (numerator y) (denominator y) (denominator-pos y);
       second = rounding .rounds (whole y) (s .unit) U;
       in-range = in-range-bound (cell-value s) (f .1);
-      nothing = λ k. rw (rounded-zero (numerator y) (denominator y) (denominator-pos y) k) (rounded-zero (pos 0) (s .unit) U (omega arith));
+      half-kilogram = λ k. rw (rounded-zero (numerator y) (denominator y) (denominator-pos y) k) (rounded-zero (pos 0) (s .unit) U (omega arith));
     }
 
 pub cell-in-range : (s : ScaleCell) → cell-refusal s ≡ 0 → in-range (cell-value s) ≡ true

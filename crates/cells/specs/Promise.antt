@@ -50,8 +50,16 @@ pub record Cell-accepted (s : ScaleCell) (v : ℤ) : Type 0 where
   pub first : Half-even (numerator (net (s .cell))) (denominator (net (s .cell))) kilograms
   pub second : Half-even kilograms (s .unit) v
   pub in-range : natAbs v ≤ 2000
-  -- half a kilogram or less either way, zero of either sign too, is 0
-  pub nothing : 2 * natAbs (numerator (net (s .cell))) ≤ denominator (net (s .cell)) → v ≡ pos 0
+  -- half a kilogram or less either way, and so zero of either sign, gives 0
+  pub half-kilogram : 2 * natAbs (numerator (net (s .cell))) ≤ denominator (net (s .cell)) → v ≡ pos 0
+
+-- a reading or the net is not finite, or the exact net is beyond
+abbrev pub Out-of-reach : Cell → Type 0
+Out-of-reach c = (finite-readings c ≡ false) ⊎ ((is-finite (net c) ≡ false) ⊎ Beyond (net c))
+
+-- the unit is not from 1 to 10,000, or the value not from -2,000 to 2,000
+abbrev pub Out-of-range : ScaleCell → Type 0
+Out-of-range s = (s .unit ≡ 0) ⊎ ((10000 < s .unit) ⊎ (2000 < natAbs (cell-value s)))
 
 abbrev pub Exactly : Type 0 → Type 0 → Type 0
 Exactly A B = (A → B) × (B → A)
@@ -59,8 +67,8 @@ Exactly A B = (A → B) × (B → A)
 -- which number refuses a cell
 pub record Cell-judged (s : ScaleCell) : Type 0 where
   pub unweighed-41 : Exactly (cell-refusal s ≡ 41) (is-weighed (s .cell) ≡ false)
-  pub beyond-42 : Exactly (cell-refusal s ≡ 42) ((is-weighed (s .cell) ≡ true) × ((finite-readings (s .cell) ≡ false) ⊎ ((is-finite (net (s .cell)) ≡ false) ⊎ Beyond (net (s .cell)))))
-  pub outside-43 : Exactly (cell-refusal s ≡ 43) ((is-weighed (s .cell) ≡ true) × (is-finite (net (s .cell)) ≡ true) × Within (net (s .cell)) × ((s .unit ≡ 0) ⊎ ((10000 < s .unit) ⊎ (2000 < natAbs (cell-value s)))))
+  pub beyond-42 : Exactly (cell-refusal s ≡ 42) ((is-weighed (s .cell) ≡ true) × Out-of-reach (s .cell))
+  pub outside-43 : Exactly (cell-refusal s ≡ 43) ((is-weighed (s .cell) ≡ true) × (is-finite (net (s .cell)) ≡ true) × Within (net (s .cell)) × Out-of-range s)
   -- a reading that is not finite gives a net that is not
   pub net-follows : finite-readings (s .cell) ≡ false → is-finite (net (s .cell)) ≡ false
 

@@ -5,7 +5,7 @@ use Prim.Native.Nat.{ℕ, suc, _+_, _*_, _/_, _%_, _≤_, _<_}
 use lib.Dec.{ltb}
 use lib.IntN.{ℤ, pos, negsuc, negℤ, natAbs, _-ℤ_, _*ℤ_}
 
--- v is a whole number nearest to n / d: it is off by at most a half, and where it is off by a half it is even
+-- v is the whole number nearest to n / d: they differ, by (n - v d) / d, at most by a half, and where by a half v is even
 pub record Half-even (n : ℤ) (d : ℕ) (v : ℤ) : Type 0 where
   pub near : 2 * natAbs (n -ℤ v *ℤ pos d) ≤ d
   pub tie : 2 * natAbs (n -ℤ v *ℤ pos d) ≡ d → natAbs v % 2 ≡ 0
