@@ -1,9 +1,9 @@
 -- What one cell gives, test by test.
 use mathlib.Core.Path.{_≡_, refl, sym, ap, _∙_}
-use mathlib.Core.Bool.{Bool, true, false, _&&_, not, and-false, true≢false}
+use mathlib.Core.Bool.{Bool, true, false, _&&_, and-false, true≢false}
 use Prim.Native.Nat.{ℕ, zero, suc, _≤_, _<_}
 use native.Mathlib.Omega.{arith}
-use borrow.Author.Tests.{le-leb, lt-leb, lt-ltb, le-ltb, ltb-true, ltb-false, not-true, not-false}
+use borrow.Author.Tests.{le-leb, lt-leb, lt-ltb, le-ltb, ltb-true, ltb-false}
 use lib.IntN.{ℤ, pos, negsuc, natAbs}
 use lib.Signed.{ltZ}
 use lib.Ieee.{Float, binary64, sub}
@@ -11,7 +11,6 @@ use mir.Syntax.{w16, w64}
 use mir.Val.{SFits, toZ, ofZ}
 use Rattle.integers.proofs.Bounds.{fits, read}
 use Rattle.files.specs.Bytes.{between, in-range}
-use Rattle.files.proofs.Refusal.{between-true}
 use Rattle.files.proofs.Values.{in-range-bound}
 use Rattle.readings.specs.Readings.{within-limit, whole}
 use Rattle.rounding.specs.Rounding.{rounded}
@@ -53,62 +52,54 @@ unfolding in-range
 inside (pos n) h k = le-leb n 2000 (ltb-false 2000 n k)
 inside (negsuc n) h k = lt-ltb n 2000 (omega (arith, ltb-false 1999 n h))
 
--- ---- a net x in units of u kilograms: g1 and g2 are what the tests gave, y the value
+-- ---- a net x in units of u kilograms
 net-weighed : (x : Float) (u : ℕ) → is-weighed (net-cell x u .cell) ≡ true
 unfolding is-weighed
 net-weighed x u = refl
 
-module _ (x : Float) (u : ℕ) (g1 : Bool) (e1 : g1 ≡ within-limit x) where
+module _ (x : Float) (u : ℕ) where
   abbrev s : ScaleCell
   s = net-cell x u
 
-  limit-is : (t : Bool) → g1 ≡ t → within-limit (net (s .cell)) ≡ t
+  limit-is : {t : Bool} → within-limit x ≡ t → within-limit (net (s .cell)) ≡ t
   unfolding net
-  limit-is t e = sym e1 ∙ e
+  limit-is e = e
 
-  pub net-beyond : not g1 ≡ true → outcome-of 42 (pos 0) ≡ cell-outcome s
-  net-beyond t = by-number s 41 (gives-42 s (net-weighed x u) (limit-is false (not-true g1 t)))
+  pub net-beyond : within-limit x ≡ false → outcome-of 42 (pos 0) ≡ cell-outcome s
+  net-beyond l = by-number s 41 (gives-42 s (net-weighed x u) (limit-is l))
 
-  module _ (t1 : not g1 ≡ false) where
-    pub net-within : within-limit x ≡ true
-    net-within = sym e1 ∙ not-false g1 t1
+  pub value-is : {k v : ℤ} → k ≡ whole x → v ≡ rounded k u → v ≡ cell-value s
+  unfolding cell-value net
+  value-is ek ev = ev ∙ rw ek
 
+  module _ (l : within-limit x ≡ true) where
     outside : between 1 10000 u && in-range (cell-value s) ≡ false → outcome-of 43 (pos 0) ≡ cell-outcome s
-    outside f = by-number s 42 (gives-43 s (net-weighed x u) (limit-is true (not-false g1 t1)) f)
+    outside f = by-number s 42 (gives-43 s (net-weighed x u) (limit-is l) f)
 
-    module _ (g2 : Bool) (e2 : g2 ≡ between 1 10000 u) where
-      pub unit-outside : not g2 ≡ true → outcome-of 43 (pos 0) ≡ cell-outcome s
-      unit-outside t = outside (rw (← e2, not-true g2 t))
+    pub unit-outside : between 1 10000 u ≡ false → outcome-of 43 (pos 0) ≡ cell-outcome s
+    unit-outside f = outside (rw f)
 
-      module _ (t2 : not g2 ≡ false) where
-        pub unit-some : 0 < u
-        unit-some = omega (arith, between-true 1 10000 u (sym e2 ∙ not-false g2 t2) .0)
+    -- y is the value
+    module _ {y : ℤ} (ey : y ≡ cell-value s) where
+      value-outside : in-range y ≡ false → outcome-of 43 (pos 0) ≡ cell-outcome s
+      value-outside f = outside (rw (← ey, f) (and-false (between 1 10000 u)))
 
-        pub value-is : {k v : ℤ} → k ≡ whole x → v ≡ rounded k u → v ≡ cell-value s
-        unfolding cell-value net
-        value-is ek ev = ev ∙ rw ek
+      pub value-low : ltZ y (negsuc 1999) ≡ true → outcome-of 43 (pos 0) ≡ cell-outcome s
+      value-low h = value-outside (too-low y h)
 
-        fitting : in-range (cell-value s) ≡ false → outcome-of 43 (pos 0) ≡ cell-outcome s
-        fitting f = outside (rw (f) (and-false (between 1 10000 u)))
+      pub value-high : ltZ (pos 2000) y ≡ true → outcome-of 43 (pos 0) ≡ cell-outcome s
+      value-high h = value-outside (too-high y h)
 
-        module _ {y : ℤ} (ey : y ≡ cell-value s) where
-          pub value-low : ltZ y (negsuc 1999) ≡ true → outcome-of 43 (pos 0) ≡ cell-outcome s
-          value-low h = fitting (too-low (cell-value s) (rw ey at h))
+      module _ (h : ltZ y (negsuc 1999) ≡ false) (k : ltZ (pos 2000) y ≡ false) where
+        small : natAbs y ≤ 2000
+        small = in-range-bound y (inside y h k)
 
-          pub value-high : ltZ (pos 2000) y ≡ true → outcome-of 43 (pos 0) ≡ cell-outcome s
-          value-high h = fitting (too-high (cell-value s) (rw ey at h))
+        pub value-fits : SFits w16 y
+        value-fits = fits w16 2000 small tt
 
-          module _ (h : ltZ y (negsuc 1999) ≡ false) (k : ltZ (pos 2000) y ≡ false) where
-            small : natAbs y ≤ 2000
-            small = in-range-bound y (inside y h k)
-
-            pub value-fits : SFits w16 y
-            value-fits = fits w16 2000 small tt
-
-            pub value-inside : _≡_ {A = Outcome} (record { refusal = 0; value = toZ w16 (ofZ w16 y) }) (cell-outcome s)
-            unfolding cell-outcome outcome-of
-            value-inside =
-                rw (gives-0 s (net-weighed x u) (limit-is true (not-false g1 t1)) (rw (← e2, not-false g2 t2, ← ey) (inside y h k)), read w16 2000 small tt, ey)
+        pub value-inside : between 1 10000 u ≡ true → _≡_ {A = Outcome} (record { refusal = 0; value = toZ w16 (ofZ w16 y) }) (cell-outcome s)
+        unfolding cell-outcome outcome-of
+        value-inside b = rw (gives-0 s (net-weighed x u) (limit-is l) (rw (b, ← ey) (inside y h k)), read w16 2000 small tt, ey)
 
 -- ---- a cell in its three cases
 module _ (s : ScaleCell) where
