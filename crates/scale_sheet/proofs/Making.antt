@@ -46,10 +46,10 @@ module _ (b : List ℕ) (cs : List ScaleCell) (k t : ℕ) (L : length cs ≡ 64)
   unfolding scale-sheet sheet-after Sheet-right-by
   refused-by n e why {r} er = (er ∙ rw e refl, subst (λ (x : ScaleSheet). Sheet-right b cs k t x) (sym er) (refl, why))
 
-  cells-refused-by : (n : ℕ) → scale-refusal b cs ≡ n → (n ≡ 0 → ⊥) → {r : ScaleSheet} → r ≡ refused-sheet n → Given r
+  pub cells-refused : (n : ℕ) → scale-refusal b cs ≡ n → (n ≡ 0 → ⊥) → {r : ScaleSheet} → r ≡ refused-sheet n → Given r
   unfolding sheet-values Values-right scale-sheet-refusal
-  cells-refused-by zero e h er = absurd (h refl)
-  cells-refused-by (suc n) e h er =
+  cells-refused zero e h er = absurd (h refl)
+  cells-refused (suc n) e h er =
       refused-by n (rw (ne-eqb (scale-refusal b cs) 0 (λ z. h (sym e ∙ z))) e)
       (by-cells (suc n) (subst (λ (m : ℕ). Values-right b cs m (sheet-values b cs .values)) e (conversion-right b cs L .right))) er
 
@@ -57,123 +57,119 @@ module _ (b : List ℕ) (cs : List ScaleCell) (k t : ℕ) (L : length cs ≡ 64)
   unfolding sheet-values Values-right
   accepted-values z = subst (λ (m : ℕ). Values-right b cs m (sheet-values b cs .values)) z (conversion-right b cs L .right)
 
-  module _ {f : SheetValues} (ef : f ≡ sheet-values b cs) where
-    refusal-is : f .refusal ≡ scale-refusal b cs
-    unfolding sheet-values
-    refusal-is = ap (λ (x : SheetValues). x .refusal) ef
+  pub steps-refused : scale-refusal b cs ≡ 0 → between 1 360 k ≡ false → {r : ScaleSheet} → r ≡ refused-sheet 14 → Given r
+  unfolding scale-sheet-refusal
+  steps-refused z e er = refused-by 13 (rw (eq-eqb (scale-refusal b cs) 0 z, e)) (by-steps z (steps-outside k e)) er
 
-    pub cells-refused : (f .refusal ≡ 0 → ⊥) → {r : ScaleSheet} → r ≡ refused-sheet (f .refusal) → Given r
-    cells-refused n er = cells-refused-by (f .refusal) (sym refusal-is) n er
+  pub tolerance-refused : scale-refusal b cs ≡ 0 → between 1 360 k ≡ true → 1024000000 < t → {r : ScaleSheet} → r ≡ refused-sheet 15 → Given r
+  unfolding scale-sheet-refusal
+  tolerance-refused z e l er =
+      let p = between-true 1 360 k e in
+      refused-by 14 (rw (eq-eqb (scale-refusal b cs) 0 z, e, lt-ltb 1024000000 t l)) (by-tolerance z (p .0) (p .1) l) er
 
-    module _ (z : f .refusal ≡ 0) (g : Bool) (eg : g ≡ between 1 360 k) where
-      none : scale-refusal b cs ≡ 0
-      none = sym refusal-is ∙ z
+-- what the last test leaves
+pub record Passed (b : List ℕ) (cs : List ScaleCell) (k t : ℕ) : Type 0 where
+  pub all-cells : length cs ≡ 64
+  pub cells-passed : scale-refusal b cs ≡ 0
+  pub steps-passed : between 1 360 k ≡ true
+  pub tolerance-passed : t ≤ 1024000000
 
-      pub steps-refused : not g ≡ true → {r : ScaleSheet} → r ≡ refused-sheet 14 → Given r
-      unfolding scale-sheet-refusal
-      steps-refused h er =
-          let e : between 1 360 k ≡ false = sym eg ∙ not-true g h in
-          refused-by 13 (rw (eq-eqb (scale-refusal b cs) 0 none, e)) (by-steps none (steps-outside k e)) er
+-- ---- the sheet
+module _ {b : List ℕ} {cs : List ScaleCell} {k t : ℕ} (p : Passed b cs k t) where
+  abbrev target : List ℤ
+  target = map cell-value (read-cells b cs)
 
-      module _ (h : not g ≡ false) where
-        steps-fit : between 1 360 k ≡ true
-        steps-fit = sym eg ∙ not-false g h
+  abbrev bs : List ℕ
+  bs = sheet-bytes (asked b cs k t)
 
-        pub tolerance-refused : 1024000000 < t → {r : ScaleSheet} → r ≡ refused-sheet 15 → Given r
-        unfolding scale-sheet-refusal
-        tolerance-refused l er =
-            let p = between-true 1 360 k steps-fit in
-            refused-by 14 (rw (eq-eqb (scale-refusal b cs) 0 none, steps-fit, lt-ltb 1024000000 t l)) (by-tolerance none (p .0) (p .1) l) er
+  pub book : Book-fits b
+  book = book-accepted b (scale-accepted b cs (p .all-cells) (p .cells-passed) .0)
 
-        -- ---- the sheet
-        module _ (T : t ≤ 1024000000) where
-          abbrev target : List ℤ
-          target = map cell-value (read-cells b cs)
+  target-length : length target ≡ columns b
+  target-length = read-length b cs (p .all-cells) (p .cells-passed)
 
-          abbrev bs : List ℕ
-          bs = sheet-bytes (asked b cs k t)
+  in-range : all-in-range target ≡ true
+  in-range = read-in-range b cs (p .all-cells) (p .cells-passed)
 
-          pub book : Book-fits b
-          book = book-accepted b (scale-accepted b cs L none .0)
+  of : Sheet-of (asked b cs k t) bs
+  unfolding Sheet-reads-back
+  of =
+      let q = between-true 1 360 k (p .steps-passed) in
+      sheet-reads-back (asked b cs k t)
+      (record {
+        most-columns = omega (arith, target-length, book .most-columns);
+        in-range = in-range;
+        some-steps = q .0;
+        most-steps = q .1;
+        most-tolerance = p .tolerance-passed;
+      })
 
-          target-length : length target ≡ columns b
-          target-length = read-length b cs L none
+  passed : scale-sheet-refusal b cs k t ≡ 0
+  unfolding scale-sheet-refusal
+  passed = rw (eq-eqb (scale-refusal b cs) 0 (p .cells-passed), p .steps-passed, le-ltb 1024000000 t (p .tolerance-passed))
 
-          of : Sheet-of (asked b cs k t) bs
-          unfolding Sheet-reads-back
-          of =
-              let p = between-true 1 360 k steps-fit in
-              sheet-reads-back (asked b cs k t)
-              (record {
-                most-columns = omega (arith, target-length, book .most-columns);
-                in-range = read-in-range b cs L none;
-                some-steps = p .0;
-                most-steps = p .1;
-                most-tolerance = T;
-              })
+  padding : List ℤ
+  padding = replicate (64 - length target) (pos 0)
 
-          passed : scale-sheet-refusal b cs k t ≡ 0
-          unfolding scale-sheet-refusal
-          passed = rw (eq-eqb (scale-refusal b cs) 0 none, steps-fit, le-ltb 1024000000 t T)
+  own-values : sheet-values b cs .values ≡ target ++ padding
+  unfolding sheet-values values-after padding
+  own-values = rw (p .cells-passed) refl
 
-          padding : List ℤ
-          padding = replicate (64 - length target) (pos 0)
+  made-is : take (length bs) (bs ++ replicate (144 - length bs) 0) ≡ bs
+  made-is = take-at bs (replicate (144 - length bs) 0) (length bs) refl
 
-          own-values : sheet-values b cs .values ≡ target ++ padding
-          unfolding sheet-values values-after padding
-          own-values = rw none refl
+  right : Sheet-accepted b cs k t (sheet-after zero bs)
+  unfolding sheet-after
+  right =
+      record {
+        most-bytes = of .most-bytes;
+        later-bytes = drop-at bs (replicate (144 - length bs) 0) (length bs) refl;
+        accepted = rw made-is (sym (book-passed b bs (book-refusal b) refl (scale-accepted b cs (p .all-cells) (p .cells-passed) .0) (length target) _ target-length refl) ∙ of .accepted);
+        target-is = rw (made-is, of .sheet-back, own-values) (sym (take-at target padding (columns b) target-length));
+        steps-are = rw made-is (ap (λ (x : Sheet). x .steps) (of .sheet-back));
+        tolerance-is = rw made-is (ap (λ (x : Sheet). x .tolerance) (of .sheet-back));
+        values-right = accepted-values b cs k t (p .all-cells) (p .cells-passed);
+      }
 
-          pub few : columns b ≤ 64
-          few = book .most-columns
+  -- ---- the bytes as they are put into an empty buffer: the values vs of the first c cells, then the trailer
+  abbrev empty : List ℕ
+  empty = replicate 144 0
 
-          pub front : (c : ℕ) → c ≡ columns b → take c (f .values) ≡ target
-          front c ec = rw (ap (λ (x : SheetValues). x .values) ef, own-values) (take-at target padding c (target-length ∙ sym ec))
+  module _ {vs : List ℤ} (ev : vs ≡ sheet-values b cs .values) {c : ℕ} (ec : c ≡ columns b) where
+    pub few : c ≤ 64
+    few = omega (arith, book .most-columns)
 
-          pub front-in-range : (c : ℕ) → c ≡ columns b → all-in-range (take c (f .values)) ≡ true
-          front-in-range c ec = rw (front c ec) (read-in-range b cs L none)
+    front : take c vs ≡ target
+    front = rw (ev, own-values) (take-at target padding c (target-length ∙ sym ec))
 
-          made-is : take (length bs) (bs ++ replicate (144 - length bs) 0) ≡ bs
-          made-is = take-at bs (replicate (144 - length bs) 0) (length bs) refl
+    pub front-in-range : all-in-range (take c vs) ≡ true
+    front-in-range = rw front in-range
 
-          right : Sheet-accepted b cs k t (sheet-after zero bs)
-          unfolding sheet-after
-          right =
-              record {
-                most-bytes = of .most-bytes;
-                later-bytes = drop-at bs (replicate (144 - length bs) 0) (length bs) refl;
-                accepted = rw made-is (sym (book-passed b bs (book-refusal b) refl (scale-accepted b cs L none .0) (length target) _ target-length refl) ∙ of .accepted);
-                target-is = rw (made-is, of .sheet-back, own-values) (sym (take-at target padding (columns b) target-length));
-                steps-are = rw made-is (ap (λ (x : Sheet). x .steps) (of .sheet-back));
-                tolerance-is = rw made-is (ap (λ (x : Sheet). x .tolerance) (of .sheet-back));
-                values-right = accepted-values none;
-              }
+    body-length : length (values-bytes target) ≡ 2 * c
+    body-length = length-values-bytes target ∙ (omega (arith, target-length))
 
-          -- the bytes as they are put: values, then the trailer
-          abbrev empty : List ℕ
-          empty = replicate 144 0
+    room : 2 * c + 16 ≤ length empty
+    room = omega (arith, few, length-replicate {A = ℕ} 144 0)
 
-          module _ (c : ℕ) (ec : c ≡ columns b) {o₁ : List ℕ} (e₁ : o₁ ≡ placed empty 0 (values-bytes (take c (f .values)))) where
-            body-length : length (values-bytes target) ≡ 2 * c
-            body-length = length-values-bytes target ∙ (omega (arith, target-length))
+    module _ {o₁ : List ℕ} (e₁ : o₁ ≡ placed empty 0 (values-bytes (take c vs))) where
+      pub trailer-room : 2 * c + 16 ≤ length o₁
+      trailer-room = rw (e₁, front) (omega (arith, room, placed-length empty 0 (values-bytes target) (omega (arith, body-length, room))))
 
-            pub trailer-room : 2 * c + 16 ≤ length o₁
-            trailer-room = rw e₁ (rw (front c ec) (omega (arith, few, placed-length empty 0 (values-bytes target) (omega (arith, body-length, few, length-replicate {A = ℕ} 144 0)), length-replicate {A = ℕ} 144 0)))
+      module _ {o₂ : List ℕ} (e₂ : o₂ ≡ placed o₁ (2 * c) (sheet-trailer (2 * c) c k t)) where
+        bytes-are : o₂ ≡ placed empty 0 bs
+        unfolding sheet-bytes
+        bytes-are =
+            let l : length target ≡ c = target-length ∙ sym ec in
+            rw (body-length, l)
+            (placed-next empty 0 (values-bytes target) (sheet-trailer (2 * c) c k t) (2 * c) (rw front at e₁) e₂ (omega (arith, body-length)) (omega (arith, body-length, room)))
 
-            module _ {o₂ : List ℕ} (e₂ : o₂ ≡ placed o₁ (2 * c) (sheet-trailer (2 * c) c k t)) where
-              bytes-are : o₂ ≡ placed empty 0 bs
-              unfolding sheet-bytes
-              bytes-are =
-                  let s : length target ≡ c = target-length ∙ sym ec in
-                  rw (body-length, s)
-                  (placed-next empty 0 (values-bytes target) (sheet-trailer (2 * c) c k t) (2 * c) (rw (front c ec) at e₁) e₂ (omega (arith, body-length)) (omega (arith, body-length, few, length-replicate {A = ℕ} 144 0)))
+        plain : placed empty 0 bs ≡ bs ++ replicate (144 - length bs) 0
+        unfolding placed
+        plain = ap (λ (l : List ℕ). bs ++ l) (rw zero-add (drop-replicate (length bs) 144 0 (of .most-bytes)))
 
-              plain : placed empty 0 bs ≡ bs ++ replicate (144 - length bs) 0
-              unfolding placed
-              plain = ap (λ (l : List ℕ). bs ++ l) (rw zero-add (drop-replicate (length bs) 144 0 (of .most-bytes)))
-
-              pub made-sheet : Given (record { refusal = 0; len = 2 * c + 16; bytes = o₂ })
-              unfolding scale-sheet sheet-after Sheet-right-by
-              made-sheet =
-                  let l : 2 * c + 16 ≡ length bs = omega (arith, of .size, target-length) in
-                  let e : _≡_ {A = ScaleSheet} (record { refusal = 0; len = 2 * c + 16; bytes = o₂ }) (sheet-after zero bs) = rw (l, bytes-are, plain) in
-                  (e ∙ rw passed refl, subst (λ (x : ScaleSheet). Sheet-right b cs k t x) (sym e) right)
+        pub made-sheet : Given b cs k t (p .all-cells) (record { refusal = 0; len = 2 * c + 16; bytes = o₂ })
+        unfolding scale-sheet sheet-after Sheet-right-by
+        made-sheet =
+            let l : 2 * c + 16 ≡ length bs = omega (arith, of .size, target-length) in
+            let e : _≡_ {A = ScaleSheet} (record { refusal = 0; len = 2 * c + 16; bytes = o₂ }) (sheet-after zero bs) = rw (l, bytes-are, plain) in
+            (e ∙ rw passed refl, subst (λ (x : ScaleSheet). Sheet-right b cs k t x) (sym e) right)
