@@ -32,10 +32,8 @@ fn cell_at(kinds: &[u8], first: &[f64], second: &[f64], units: &[u32], i: usize)
             if i < second.len() {
                 if i < units.len() {
                     let cell = cell_of(kinds[i], first[i], second[i]);
-                    return ScaleCell {
-                        cell,
-                        unit: units[i],
-                    };
+                    let unit = units[i];
+                    return ScaleCell { cell, unit };
                 }
             }
         }

@@ -1,12 +1,12 @@
 -- What the entry gives back at each of its returns, and that it is right.
 use mathlib.Core.Path.{_≡_, refl, sym, ap, subst, _∙_}
-use mathlib.Core.Bool.{Bool, true, false, not}
+use mathlib.Core.Bool.{true, false}
 use mathlib.Core.List.{List, _++_, map}
 use mathlib.Core.Logic.{_⊎_, inl, inr}
 use Prim.Native.Nat.{ℕ, zero, suc, _+_, _*_, _-_, _≤_, _<_}
 use native.Mathlib.Nat.{zero-add}
 use native.Mathlib.Omega.{arith}
-use borrow.Author.Tests.{eq-eqb, ne-eqb, lt-ltb, le-ltb, le-leb, leb-false, not-true, not-false}
+use borrow.Author.Tests.{eq-eqb, ne-eqb, lt-ltb, le-ltb, le-leb, leb-false}
 use lib.IntN.{ℤ, pos}
 use lib.ListN.{length, take, replicate, length-replicate}
 use lib.Seq.{take-at, drop-at}
@@ -18,7 +18,6 @@ use Rattle.files.specs.Fits.{Book-fits}
 use Rattle.files.proofs.Accepted.{book-accepted}
 use Rattle.files.proofs.Refusal.{between-true, book-passed}
 use Rattle.cells.specs.declared.ScaleCell.{ScaleCell}
-use Rattle.cells.specs.declared.SheetValues.{SheetValues}
 use Rattle.cells.specs.Cells.{cell-value, read-cells, scale-refusal, values-after, sheet-values}
 use Rattle.cells.specs.Promise.{Values-accepted, Values-right}
 use Rattle.cells.proofs.Values.{scale-accepted, read-length, read-in-range, conversion-right}

@@ -42,13 +42,15 @@ pub fn scale_sheet(book: &[u8], cells: [ScaleCell; 64], steps: u32, tolerance: u
         return refused(15);
     }
     let columns = files::columns(book);
+    let back = 2 * columns;
+    let len = back + 16;
     let values = found.values;
     let mut bytes = [0u8; 144];
     sheet_output::put_values(&mut bytes, values, columns);
-    sheet_output::put_sheet_trailer(&mut bytes, 2 * columns, columns, steps, tolerance);
+    sheet_output::put_sheet_trailer(&mut bytes, back, columns, steps, tolerance);
     ScaleSheet {
         refusal: 0,
-        len: 2 * columns + 16,
+        len,
         bytes,
     }
 }

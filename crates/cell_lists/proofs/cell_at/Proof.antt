@@ -22,11 +22,11 @@ shared-slice-read-cell-of-3 c = search needs
 cell-of-requires : tie.Need-cell-of-requires
 cell-of-requires c κs = search needs
 
-mul-t17 : tie.Need-mul-t17
-mul-t17 c = search needs
+mul-unit : tie.Need-mul-unit
+mul-unit c = search needs
 
-shared-slice-read-t24 : tie.Need-shared-slice-read-t24
-shared-slice-read-t24 c = search needs
+shared-slice-read-unit : tie.Need-shared-slice-read-unit
+shared-slice-read-unit c = search needs
 
 returns : tie.Need-returns
 returns c =
@@ -56,8 +56,8 @@ cell-at-spec =
     mul-cell-of-2
     shared-slice-read-cell-of-3
     cell-of-requires
-    mul-t17
-    shared-slice-read-t24
+    mul-unit
+    shared-slice-read-unit
     returns
     returns-2
     returns-3

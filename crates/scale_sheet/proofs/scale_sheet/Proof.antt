@@ -74,6 +74,12 @@ returns-3 c =
 columns-requires : tie.Need-columns-requires
 columns-requires c κs = book (all-passed c) .at-least
 
+mul-back : tie.Need-mul-back
+mul-back c = search needs
+
+add-len : tie.Need-add-len
+add-len c = search needs
+
 slice-aggregate-put-values : tie.Need-slice-aggregate-put-values
 slice-aggregate-put-values c = search needs
 
@@ -88,21 +94,12 @@ put-values-requires c κs =
 slice-aggregate-put-sheet-trailer : tie.Need-slice-aggregate-put-sheet-trailer
 slice-aggregate-put-sheet-trailer c = search needs
 
-mul-put-sheet-trailer : tie.Need-mul-put-sheet-trailer
-mul-put-sheet-trailer c = search needs
-
 put-sheet-trailer-requires : tie.Need-put-sheet-trailer-requires
 put-sheet-trailer-requires c κs =
     let at-put = c .before .before in
     let at-columns = at-put .before .before .before in
     let at-if3 = at-columns .before in
     trailer-room (all-passed at-if3) (values-are (at-if3 .before .before .before .before .before)) (at-columns .columns .ensures .0) (at-put .put-values .ensures)
-
-mul-t10 : tie.Need-mul-t10
-mul-t10 c = search needs
-
-add-t17 : tie.Need-add-t17
-add-t17 c = search needs
 
 returns-4 : tie.Need-returns-4
 returns-4 c =
@@ -125,11 +122,10 @@ scale-sheet-spec =
     refused-requires-3
     returns-3
     columns-requires
+    mul-back
+    add-len
     slice-aggregate-put-values
     put-values-requires
     slice-aggregate-put-sheet-trailer
-    mul-put-sheet-trailer
     put-sheet-trailer-requires
-    mul-t10
-    add-t17
     returns-4)
