@@ -6,6 +6,9 @@ ghost use Rattle.scale_sheet.specs.Sheets.{scale-sheet, refused-sheet};
 ghost use Rattle.scale_sheet.specs.Promise.{Sheet-right};
 use cells::ScaleCell;
 
+// The most steps that a sheet may ask for.
+const MOST_STEPS: usize = files::MOST_STEPS as usize;
+
 // A sheet by value: its bytes are the first `len` of `bytes`, and 0 stands behind them. A refused call has its number in
 // `refusal`, no byte and 0 everywhere; an accepted one has 0 in `refusal`.
 #[repr(C)]
@@ -35,7 +38,7 @@ pub fn scale_sheet(book: &[u8], cells: [ScaleCell; 64], steps: u32, tolerance: u
     if found.refusal != 0 {
         return refused(found.refusal);
     }
-    if !file_parts::is_between(1, 360, steps as usize) {
+    if !file_parts::is_between(1, MOST_STEPS, steps as usize) {
         return refused(14);
     }
     if 1024000000 < tolerance {
