@@ -1,5 +1,5 @@
 -- The exact value of a double from its bits: its sign, its exponent field and its fraction field.
-use mathlib.Core.Path.{_≡_, sym, ap, _∙_, subst}
+use mathlib.Core.Path.{_≡_, refl, sym, ap, _∙_, subst}
 use mathlib.Core.Bool.{Bool, true, false, not, cond, true≢false}
 use Prim.Native.Nat.{ℕ, zero, suc, _+_, _-_, _*_, _/_, _%_, _^_, _≤_, _<_}
 use native.Mathlib.Nat.{le-trans, le-of-eq, lt-of-lt-of-le, lt-irrefl, lt-of-not-le, mul-assoc, mul-right-comm, mul-one, mul-le-mul-right, le-of-mul-le-mul-right, le-add-right}
@@ -11,7 +11,6 @@ use lib.Ieee.{Float, nan, inf, fin, binary64, up, down, odd, fits, isNan, ofFiel
 use lib.Ieee.Fits.{down-pos}
 use lib.Ieee.Bits.{ofBits-toBits}
 use lib.Ieee.Exact.{HasValue, odd-sign}
-use Rattle.files.proofs.Refusal.{and-true}
 use Rattle.rounding.specs.Rounding.{half-even, signed}
 use Rattle.rounding.proofs.Nearest.{rounded-signed}
 use Rattle.rounding.proofs.Signs.{abs-signed}
@@ -75,7 +74,7 @@ unfolding within-limit is-finite numerator denominator
 within-value nan s a c k h = absurd h
 within-value (inf t) s a c k h = absurd h
 within-value (fin t m e) s a c k h =
-    let l : m * up e ≤ most-kilograms * down e = subst (λ (n : ℕ). n ≤ most-kilograms * down e) (abs-signed t (m * up e)) (leb-true _ _ (and-true true _ k .1)) in
+    let l : m * up e ≤ most-kilograms * down e = subst (λ (n : ℕ). n ≤ most-kilograms * down e) (abs-signed t (m * up e)) (leb-true _ _ k) in
     le-of-mul-le-mul-right (le-trans (le-of-eq (sym (h .1))) (le-trans (mul-le-mul-right c l) (le-of-eq (mul-right-comm most-kilograms (down e) c)))) (down-pos e)
 
 -- ---- how large the exponent field is at the limit
@@ -101,6 +100,12 @@ no-nan nan k = absurd (true≢false (sym k))
 no-nan (inf s) k = tt
 no-nan (fin s m e) k = tt
 
+is-number : (x : Float) → within-limit x ≡ true → is-finite x ≡ true
+unfolding within-limit is-finite
+is-number nan k = k
+is-number (inf s) k = k
+is-number (fin s m e) k = refl
+
 module _ (x : Float) (F : T (fits binary64 x)) (W : within-limit x ≡ true) where
   abbrev b : ℕ
   b = toBits binary64 x
@@ -109,8 +114,7 @@ module _ (x : Float) (F : T (fits binary64 x)) (W : within-limit x ≡ true) whe
   back = ofBits-toBits binary64 x F
 
   finite : is-finite x ≡ true
-  unfolding within-limit
-  finite = and-true (is-finite x) _ W .0
+  finite = is-number x W
 
   value : HasValue x (leb (2 ^ 63) b) (magnitude (b % 2 ^ 63 / 2 ^ 52) (b % 2 ^ 52)) (2 ^ 1074)
   unfolding ofBits
