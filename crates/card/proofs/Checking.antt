@@ -16,19 +16,20 @@ use Rattle.files.proofs.Refusal.{and-true}
 use Rattle.method.specs.declared.Answer.{Answer}
 use Rattle.method.specs.declared.Searched.{Searched}
 use Rattle.method.specs.declared.Searched.the-variants.{Refused, Answered}
+use Rattle.method.specs.Problem.{problem}
 use Rattle.method.specs.Answers.{refusal-number, outcome, search-refusal, slots-after}
+use Rattle.method.specs.Bounds.{answer-of}
 use Rattle.method.proofs.Promise.{search-accepted, outcome-number, outcome-refused, outcome-answered, length-after, slots-kept}
 use Rattle.iteration.specs.declared.Layout.{Layout}
 use Rattle.iteration.specs.States.{file-layout}
 use Rattle.iteration.proofs.States.{book-fits}
 use Rattle.card_format.specs.Format.{WCD1, card-fields, card-body, pair-count, shares-into, card-shares, card-answer}
-use Rattle.card_format.specs.Checks.{back-fits, pairs-in-order, card-refusal, check-refusal}
+use Rattle.card_format.specs.Checks.{back-fits, pairs-in-order, truth-refusal, card-refusal, check-refusal}
 use Rattle.card_format.specs.Truth.{Card-true, Card-vouches, Accepted-exactly, Accepted-vouches}
 use Rattle.card_format.proofs.Vouches.{accepted-exactly, accepted-vouches}
 use Rattle.card_input.specs.Forms.{form-refusal, counts-agree, steps-fit}
 use Rattle.card_pairs.proofs.Pairs.{boat-below, into-more, order-more}
 use Rattle.card_input.proofs.Reading.{order-at, into-at, back-fours}
-use Rattle.card_truth.specs.Truth.{truth-refusal}
 use Rattle.card.specs.Checking.{Check-right}
 use Rattle.card_truth.proofs.Judging.{Formed, formed}
 
@@ -47,12 +48,12 @@ chain true true true true true false x = refl
 chain true true true true true true x = refl
 
 card-parts : (b s w : List ℕ) → card-refusal b s w ≡
-    cond (eqb (form-refusal (boats b) (columns b) (sheet s .steps) w) 0) (truth-refusal b s w) (form-refusal (boats b) (columns b) (sheet s .steps) w)
-unfolding card-refusal form-refusal truth-refusal counts-agree steps-fit
+    cond (eqb (form-refusal (boats b) (columns b) (sheet s .steps) w) 0) (truth-refusal (problem b s) (card-shares (boats b) w) w) (form-refusal (boats b) (columns b) (sheet s .steps) w)
+unfolding card-refusal form-refusal counts-agree steps-fit
 card-parts b s w =
     chain (length-in-range 36 w) (same (drop 32 (trailer 36 w)) WCD1) (eqb (card-fields w .boats) (boats b) && eqb (card-fields w .columns) (columns b))
     (between 1 3 (card-fields w .verdict) && between 1 (sheet s .steps) (card-fields w .steps)) (back-fits (boats b) (card-fields w .back) w)
-    (pairs-in-order (pair-count w) 0 (boats b) (card-body w)) (truth-refusal b s w)
+    (pairs-in-order (pair-count w) 0 (boats b) (card-body w)) (truth-refusal (problem b s) (card-shares (boats b) w) w)
 
 -- ---- The shares of the pairs
 
@@ -123,11 +124,11 @@ module _ (b s w slots : List ℕ) (all : all-bytes w ≡ true) {n : ℕ} {r : Se
   accepted z = both (search-refusal b s (length slots)) (card-refusal b s w) (sym e ∙ z)
 
   share-count : n ≡ 0 → (length (card-shares (boats b) w) ≡ boats b) × (boats b ≤ length slots)
-  unfolding Accepted-vouches
+  unfolding Accepted-vouches problem
   share-count z =
       let h = accepted z in
       let k = search-accepted b s (length slots) (h .0) in
-      (accepted-vouches b s w (k .0) all (h .1) .answer .share-count, k .1)
+      (accepted-vouches b s w (k .0) all (h .1) .answer .share-count ∙ book-fits b s (k .0) .row-count, k .1)
 
   same-length : length now ≡ length slots
   same-length = ap length g ∙ length-after n (card-shares (boats b) w) slots (λ z. rw (share-count z .0) (share-count z .1))
@@ -209,22 +210,32 @@ module _ (b s w slots : List ℕ) where
           pub form-zero : form-refusal (boats b) (columns b) (sheet s .steps) w ≡ 0
           form-zero = sym form-is ∙ zn
 
-          by-truth : check-refusal b s w (length slots) ≡ truth-refusal b s w
+          by-truth : check-refusal b s w (length slots) ≡ truth-refusal (problem b s) (card-shares (boats b) w) w
           by-truth = by-card ∙ card-parts b s w ∙ rw form-zero
 
-          pub refused-by-truth : (m : ℕ) → Refused m ≡ outcome (truth-refusal b s w) (card-answer b s w) → Gives (check-refusal b s w (length slots)) (Refused m) slots
-          refused-by-truth m e =
-              let p = outcome-refused (truth-refusal b s w) m (card-answer b s w) (sym e) in
+          -- a judgement by shares that are the card's
+          abbrev Judged : (found : List ℕ) → Searched → Type 0
+          Judged found r =
+              r ≡ outcome (truth-refusal (problem b s) (take (boats b) found) w) (answer-of (problem b s) (take (boats b) found) (card-fields w .steps))
+
+          own : (found : List ℕ) → take (boats b) found ≡ card-shares (boats b) w → {r : Searched} → Judged found r →
+              outcome (truth-refusal (problem b s) (card-shares (boats b) w) w) (card-answer b s w) ≡ r
+          unfolding card-answer
+          own found ef e = sym (rw ef at e)
+
+          pub refused-by-truth : (found : List ℕ) → take (boats b) found ≡ card-shares (boats b) w → (m : ℕ) → Judged found (Refused m) → Gives (check-refusal b s w (length slots)) (Refused m) slots
+          refused-by-truth found ef m e =
+              let p = outcome-refused (truth-refusal (problem b s) (card-shares (boats b) w) w) m (card-answer b s w) (own found ef e) in
               rw (by-truth, p .0) (refused m (λ z. omega (arith, p .1)))
 
           module _ (found : List ℕ) (ef : take (boats b) found ≡ card-shares (boats b) w) (lf : length found ≡ 256) where
             found-count : length (card-shares (boats b) w) ≡ boats b
             found-count = sym (ap length ef) ∙ length-take-le (boats b) found (omega (arith, book-fits b s ok .most-boats))
 
-            pub answered : {now : List ℕ} → now ≡ take (l .boats) found ++ drop (l .boats) slots → (a : Answer) → Answered a ≡ outcome (truth-refusal b s w) (card-answer b s w) →
+            pub answered : {now : List ℕ} → now ≡ take (l .boats) found ++ drop (l .boats) slots → (a : Answer) → Judged found (Answered a) →
                 Gives (check-refusal b s w (length slots)) (Answered a) now
             unfolding outcome slots-after file-layout
             answered {now} e a h =
-                let p = outcome-answered (truth-refusal b s w) (card-answer b s w) a (sym h) in
+                let p = outcome-answered (truth-refusal (problem b s) (card-shares (boats b) w) w) (card-answer b s w) a (own found ef h) in
                 let r : now ≡ card-shares (boats b) w ++ drop (boats b) slots = e ∙ rw (el, ef) in
                 rw (by-truth, p .0, ← p .1) (refl, r ∙ rw found-count)

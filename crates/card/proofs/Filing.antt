@@ -12,6 +12,7 @@ use lib.Seq.{take-at}
 use Rattle.files.specs.Book.{boats, columns}
 use Rattle.files.specs.Sheet.{sheet, files-refusal}
 use Rattle.method.specs.declared.Answer.{Answer}
+use Rattle.method.specs.Problem.{problem}
 use Rattle.method.specs.Iterates.{support}
 use Rattle.method.specs.Answers.{slots-after, run-answer, run-iterate}
 use Rattle.method.proofs.Promise.{run-right, length-after, slots-kept}
@@ -56,17 +57,17 @@ write-accepted b s room e = by (files-refusal b s) refl (ltb room (length (run-c
     by zero q false r e = (q, ltb-false room (length (run-card b s)) r)
     by (suc n) q u r e = absurd (omega (arith, rw (eqb·suc-zero n) at e))
 
-card-reads-back : (b s : List ℕ) → files-refusal b s ≡ 0 → (front : List ℕ) → length front + length (run-card b s) ≤ 40000 → Reads-back b s (front ++ run-card b s) (run-answer b s) (run-iterate b s .shares)
+card-reads-back : (b s : List ℕ) → files-refusal b s ≡ 0 → (front : List ℕ) → length front + length (run-card b s) ≤ 40000 → Reads-back b s (front ++ run-card b s) (run-answer (problem b s)) (run-iterate (problem b s) .shares)
 unfolding Written-accepted
 card-reads-back b s ok front h = let w = written-accepted b s front ok h in record { accepted = w .0; answer = w .1; shares = w .2 }
 
-filed-right : (b s : List ℕ) → files-refusal b s ≡ 0 → Filed-right b s (run-answer b s) (run-card b s)
+filed-right : (b s : List ℕ) → files-refusal b s ≡ 0 → Filed-right b s (run-answer (problem b s)) (run-card b s)
 unfolding Written-short
 filed-right b s ok =
     let back = card-reads-back b s ok [] (omega (arith, written-short b s ok)) in
     record { card-is = refl; reads-back = back; behind-front = card-reads-back b s ok; right = rw (back .shares) (run-right b s ok) }
 
-module _ (b s out : List ℕ) {n : ℕ} {r : Written} {now : List ℕ} (e : n ≡ write-refusal b s (length out)) (f : r ≡ filing n (run-answer b s) (length (run-card b s)))
+module _ (b s out : List ℕ) {n : ℕ} {r : Written} {now : List ℕ} (e : n ≡ write-refusal b s (length out)) (f : r ≡ filing n (run-answer (problem b s)) (length (run-card b s)))
     (g : now ≡ slots-after n (run-card b s) out) where
   accepted : n ≡ 0 → (files-refusal b s ≡ 0) × (length (run-card b s) ≤ length out)
   accepted z = write-accepted b s (length out) (sym e ∙ z)
@@ -76,15 +77,15 @@ module _ (b s out : List ℕ) {n : ℕ} {r : Written} {now : List ℕ} (e : n �
 
   written-is : n ≡ 0 → take (written-size r) now ≡ run-card b s
   written-is z =
-      let k : written-size r ≡ length (run-card b s) = ap written-size (f ∙ ap (λ m. filing m (run-answer b s) (length (run-card b s))) z) ∙ filing-size (run-answer b s) (length (run-card b s)) in
+      let k : written-size r ≡ length (run-card b s) = ap written-size (f ∙ ap (λ m. filing m (run-answer (problem b s)) (length (run-card b s))) z) ∙ filing-size (run-answer (problem b s)) (length (run-card b s)) in
       rw k (ap (take (length (run-card b s))) (g ∙ ap (λ m. slots-after m (run-card b s) out) z) ∙ slots-kept (run-card b s) out (length (run-card b s)) refl)
 
   pub filing-right : Filing-right b s r now
   filing-right =
       record {
-        number = ap writing-number f ∙ filing-number n (run-answer b s) (length (run-card b s)) ∙ e ∙ ap (write-refusal b s) (sym same-length);
-        refused = λ m q. filing-refused n m (run-answer b s) (length (run-card b s)) (sym f ∙ q);
-        filed = λ a m q. let h = filing-filed n (run-answer b s) a (length (run-card b s)) m (sym f ∙ q) in rw (← h .1, written-is (h .0)) (filed-right b s (accepted (h .0) .0));
+        number = ap writing-number f ∙ filing-number n (run-answer (problem b s)) (length (run-card b s)) ∙ e ∙ ap (write-refusal b s) (sym same-length);
+        refused = λ m q. filing-refused n m (run-answer (problem b s)) (length (run-card b s)) (sym f ∙ q);
+        filed = λ a m q. let h = filing-filed n (run-answer (problem b s)) a (length (run-card b s)) m (sym f ∙ q) in rw (← h .1, written-is (h .0)) (filed-right b s (accepted (h .0) .0));
       }
 
 -- ---- Outcomes
@@ -92,12 +93,12 @@ module _ (b s out : List ℕ) {n : ℕ} {r : Written} {now : List ℕ} (e : n �
 module _ (b s out : List ℕ) where
   -- what the writer gives back and leaves in the buffer, by the refusal number
   abbrev Gives : (refusal : ℕ) → Written → List ℕ → Type 0
-  Gives n r now = (r ≡ filing n (run-answer b s) (length (run-card b s))) × (now ≡ slots-after n (run-card b s) out)
+  Gives n r now = (r ≡ filing n (run-answer (problem b s)) (length (run-card b s))) × (now ≡ slots-after n (run-card b s) out)
 
   -- and what is promised of it
   abbrev pub Promises : Written → List ℕ → Type 0
   Promises r now =
-      (r ≡ filing (write-refusal b s (length out)) (run-answer b s) (length (run-card b s)))
+      (r ≡ filing (write-refusal b s (length out)) (run-answer (problem b s)) (length (run-card b s)))
       × ((now ≡ slots-after (write-refusal b s (length out)) (run-card b s) out) × Filing-right b s r now)
 
   promised : {r : Written} {now : List ℕ} → Gives (write-refusal b s (length out)) r now → Promises r now
@@ -113,11 +114,11 @@ module _ (b s out : List ℕ) where
   refused-by-files zero e h = absurd (h refl)
   refused-by-files (suc n) e h = promised (rw (← e, eqb·suc-zero n) (refused (suc n) h))
 
-  module _ (ok : files-refusal b s ≡ 0) {n : ℕ} (en : n ≡ boats b) {a : Answer} (ea : a ≡ run-answer b s) (z : List ℕ) {qs : List ℕ} (eq : qs ≡ run-iterate b s .shares ++ z) (k : ℕ)
+  module _ (ok : files-refusal b s ≡ 0) {n : ℕ} (en : n ≡ boats b) {a : Answer} (ea : a ≡ run-answer (problem b s)) (z : List ℕ) {qs : List ℕ} (eq : qs ≡ run-iterate (problem b s) .shares ++ z) (k : ℕ)
       (ek : k ≡ support (take n qs)) where
-    shares-are : take n qs ≡ run-iterate b s .shares
+    shares-are : take n qs ≡ run-iterate (problem b s) .shares
     unfolding run-iterate
-    shares-are = rw en (ap (take (boats b)) eq ∙ take-at (run-iterate b s .shares) z (boats b) (share-count b s ok _))
+    shares-are = rw en (ap (take (boats b)) eq ∙ take-at (run-iterate (problem b s) .shares) z (boats b) (share-count b s ok _))
 
     size-is : length (run-card b s) ≡ 4 * k + 36
     size-is = run-card-length b s ok ∙ rw (ek, shares-are)

@@ -6,6 +6,7 @@ ghost use mathlib.Core.List.{_++_};
 ghost use Prim.Native.Nat.{_≤_};
 ghost use lib.ListN.{length, take, drop};
 ghost use Rattle.files.specs.Book.{boats};
+ghost use Rattle.method.specs.Problem.{problem};
 ghost use Rattle.method.specs.Answers.{outcome, slots-after, run-answer};
 ghost use Rattle.card_format.specs.Format.{card-shares, card-answer, run-card};
 ghost use Rattle.card_format.specs.Checks.{write-refusal, check-refusal};
@@ -24,7 +25,7 @@ pub enum Written {
 // and leaves the buffer as it was; else gives the run's answer and the card's length. Later bytes are as they were. The third
 // clause says that the bytes read back as this answer and its shares, and what holds of them (Filing-right).
 pub fn write_card(book: &[u8], sheet: &[u8], output: &mut [u8]) -> Written
-    ensures { λ r. ⌜ r ≡ filing (write-refusal (now (book .entry)) (now (sheet .entry)) (length (now (output .entry)))) (run-answer (now (book .entry)) (now (sheet .entry))) (length (run-card (now (book .entry)) (now (sheet .entry)))) ⌝ }
+    ensures { λ r. ⌜ r ≡ filing (write-refusal (now (book .entry)) (now (sheet .entry)) (length (now (output .entry)))) (run-answer (problem (now (book .entry)) (now (sheet .entry)))) (length (run-card (now (book .entry)) (now (sheet .entry)))) ⌝ }
     ensures { λ _. ⌜ now (output .exit) ≡ slots-after (write-refusal (now (book .entry)) (now (sheet .entry)) (length (now (output .entry)))) (run-card (now (book .entry)) (now (sheet .entry))) (now (output .entry)) ⌝ }
     ensures { λ r. ⌜ Filing-right (now (book .entry)) (now (sheet .entry)) r (now (output .exit)) ⌝ }
 {

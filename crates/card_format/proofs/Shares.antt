@@ -12,81 +12,83 @@ use Rattle.integers.proofs.Solver.{con, _⊗_, _⊝_, x₀, x₁, x₂, x₃}
 use Rattle.integers.proofs.Order.{≤→≤ℤ}
 use Rattle.integers.proofs.Facts.{_≼_, known, _⊡_, derive}
 use Rattle.frank_wolfe.specs.Method.{Gap}
-use Rattle.frank_wolfe.specs.Vectors.{subtract, scale, inner, sum, combination, Among}
-use Rattle.frank_wolfe.proofs.Vectors.{plain, mixture-is, length-combination, length-scale, length-subtract}
+use Rattle.frank_wolfe.specs.Vectors.{subtract, scale, weighted, sum, combination, Among}
+use Rattle.frank_wolfe.proofs.Vectors.{factored, mixture-is, length-combination}
 use Rattle.frank_wolfe.proofs.Theorem.{frank-wolfe}
 use Rattle.files.specs.Book.{rows}
 use Rattle.files.proofs.Accepted.{files-accepted}
+use Rattle.method.specs.Problem.{Problem, problem}
 use Rattle.method.specs.Iterates.{row, scores, argmin, mixture-distance}
 use Rattle.method.specs.Minimum.{minimum}
 use Rattle.method.proofs.Argmin.{argmin-below, among-row, least-score, minimum-least, inner-gap, maximum-by-minimum}
-use Rattle.method.proofs.Entries.{Bounded, bounded-mono, bounded-subtract, bounded-scale, bounded-combination, inner-bound, squared-norm-bound}
-use Rattle.method.proofs.Mixtures.{Problem, In-range}
-use Rattle.method.proofs.Accepted.{problem, in-range}
+use Rattle.method.proofs.Entries.{Bounded, bounded-mono, bounded-subtract, bounded-scale, bounded-combination, weighted-bound, weighted-norm-bound}
+use Rattle.method.proofs.Mixtures.{Well-formed, In-range}
+use Rattle.method.proofs.Accepted.{well-formed, in-range}
 use Rattle.card_format.specs.Truth.{mixture-gap, Shares-fit}
 
-module _ {c : ℕ} {rs : List (List ℤ)} {u : List ℤ} (p : Problem c rs u) (f : In-range c rs u) (qs : List ℕ) (count : length qs ≡ length rs) (some : 1 ≤ sum qs) where
+module _ {p : Problem} (h : Well-formed p) (f : In-range p) (qs : List ℕ) (count : length qs ≡ length (p .vertices)) (some : 1 ≤ sum qs) where
+  abbrev fs : List ℕ
+  fs = p .factors
+
+  abbrev rs : List (List ℤ)
+  rs = p .vertices
+
   abbrev y : List ℤ
-  y = combination c qs rs
+  y = combination (p .columns) qs (p .vertices)
 
   abbrev r : List ℤ
-  r = subtract y (scale (sum qs) u)
+  r = subtract y (scale (sum qs) (p .target))
 
-  point-length : length y ≡ c
-  point-length = length-combination c qs rs (p .wide)
-
-  residual-length : length r ≡ c
-  residual-length = length-subtract y (scale (sum qs) u) (point-length ∙ sym (length-scale (sum qs) u ∙ p .target-length)) ∙ point-length
+  point-length : length y ≡ p .columns
+  point-length = length-combination (p .columns) qs (p .vertices) (h .wide)
 
   -- N² times the gap is <r, y> - N min <r, v>
-  by-least : mixture-gap c u qs rs ≡ inner r y -ℤ pos (sum qs) *ℤ minimum (scores r rs)
+  by-least : mixture-gap p qs ≡ weighted fs r y -ℤ pos (sum qs) *ℤ minimum (scores fs r rs)
   unfolding mixture-gap
-  by-least = maximum-by-minimum r y (sum qs) rs some (p .some-row) (rw point-length (p .wide))
+  by-least = maximum-by-minimum fs r y (sum qs) rs some (h .some-row) (rw point-length (h .wide))
 
-  gap-over : Gap plain (Among rs) y (pos (sum qs)) r (mixture-gap c u qs rs)
+  gap-over : Gap (factored fs) (Among rs) y (pos (sum qs)) r (mixture-gap p qs)
   gap-over =
       record {
         over = λ v a.
             rw by-least
-            (derive (inner r y ∷ pos (sum qs) ∷ inner r v ∷ minimum (scores r rs) ∷ []) (x₀ ⊝ x₁ ⊗ x₂ ≼ x₀ ⊝ x₁ ⊗ x₃)
-            (known (x₃ ≼ x₂) (minimum-least r a) ⊡ known (con (pos 0) ≼ x₁) (≤→≤ℤ (omega arith))) tt);
+            (derive (weighted fs r y ∷ pos (sum qs) ∷ weighted fs r v ∷ minimum (scores fs r rs) ∷ []) (x₀ ⊝ x₁ ⊗ x₂ ≼ x₀ ⊝ x₁ ⊗ x₃)
+            (known (x₃ ≼ x₂) (minimum-least fs r a) ⊡ known (con (pos 0) ≼ x₁) (≤→≤ℤ (omega arith))) tt);
       }
 
-  pub gap-nonnegative : pos 0 ≤ℤ mixture-gap c u qs rs
-  gap-nonnegative = frank-wolfe plain (Among rs) u .gap-nonnegative some (mixture-is c qs rs count (p .wide)) gap-over
+  pub gap-nonnegative : pos 0 ≤ℤ mixture-gap p qs
+  gap-nonnegative = frank-wolfe (factored fs) (Among rs) (p .target) .gap-nonnegative some (mixture-is fs (p .columns) qs rs count (h .wide)) gap-over
 
   difference-bounded : (v : List ℤ) → Bounded 2000 v → Bounded (4000 * sum qs) (subtract y (scale (sum qs) v))
   difference-bounded v b =
-      bounded-mono (bounded-subtract (bounded-combination 2000 c qs rs (f .rows-bounded)) (bounded-scale (sum qs) b)) (omega arith)
+      bounded-mono (bounded-subtract (bounded-combination 2000 (p .columns) qs rs (f .rows-bounded)) (bounded-scale (sum qs) b)) (omega arith)
 
   residual-bounded : Bounded (4000 * sum qs) r
-  residual-bounded = difference-bounded u (f .target-bounded)
+  residual-bounded = difference-bounded (p .target) (f .target-bounded)
 
-  -- 64 columns of a product of two such entries
-  most : (a : ℕ) → a ≤ length r * (4000 * sum qs * (4000 * sum qs)) → a ≤ 1024000000 * (sum qs * sum qs)
-  most a h =
-      let l : length r ≤ 64 = rw residual-length (f .few-columns) in
-      le-trans h (le-trans (mul-le-mul-right (4000 * sum qs * (4000 * sum qs)) l) (omega arith))
+  -- factors of a total of 64 at most, each times a product of two such entries
+  most : (a : ℕ) → a ≤ sum (p .factors) * (4000 * sum qs * (4000 * sum qs)) → a ≤ 1024000000 * (sum qs * sum qs)
+  most a k = le-trans k (le-trans (mul-le-mul-right (4000 * sum qs * (4000 * sum qs)) (f .few-factors)) (omega arith))
 
-  pub distance-most : mixture-distance c u qs rs ≤ 1024000000 * (sum qs * sum qs)
+  pub distance-most : mixture-distance p qs ≤ 1024000000 * (sum qs * sum qs)
   unfolding mixture-distance
-  distance-most = most _ (squared-norm-bound (4000 * sum qs) r residual-bounded)
+  distance-most = most _ (weighted-norm-bound fs (4000 * sum qs) r residual-bounded)
 
-  pub gap-most : natAbs (mixture-gap c u qs rs) ≤ 1024000000 * (sum qs * sum qs)
+  pub gap-most : natAbs (mixture-gap p qs) ≤ 1024000000 * (sum qs * sum qs)
   gap-most =
-      let s = row rs (argmin (scores r rs)) in
-      let a : Among rs s = among-row rs (argmin (scores r rs)) (argmin-below r rs (p .some-row)) in
-      let e : mixture-gap c u qs rs ≡ inner r (subtract y (scale (sum qs) s)) =
-      by-least ∙ ap (λ q. inner r y -ℤ pos (sum qs) *ℤ q) (sym (least-score r rs)) ∙ sym (inner-gap r y (sum qs) s (p .wide .each s a ∙ sym point-length)) in
-      rw e (most _ (inner-bound (4000 * sum qs) (4000 * sum qs) r _ residual-bounded (difference-bounded s (f .rows-bounded s a))))
+      let s = row rs (argmin (scores fs r rs)) in
+      let a : Among rs s = among-row rs (argmin (scores fs r rs)) (argmin-below fs r rs (h .some-row)) in
+      let e : mixture-gap p qs ≡ weighted fs r (subtract y (scale (sum qs) s)) =
+      by-least ∙ ap (λ q. weighted fs r y -ℤ pos (sum qs) *ℤ q) (sym (least-score fs r rs)) ∙ sym (inner-gap fs r y (sum qs) s (h .wide .each s a ∙ sym point-length)) in
+      rw e (most _ (weighted-bound fs (4000 * sum qs) (4000 * sum qs) r _ residual-bounded (difference-bounded s (f .rows-bounded s a))))
 
 fits : (n a : ℕ) → n ≤ 64980 → a ≤ 1024000000 * (n * n) → a < 4611686018427387904
 fits n a h k = lt-of-le-of-lt (le-trans k (mul-le-mul (le-refl 1024000000) (mul-le-mul h h))) (lit< tt)
 
 pub shares-fit : Shares-fit
-unfolding Shares-fit
+unfolding Shares-fit problem
 shares-fit b s qs ok count some =
-    let p = problem b s ok in
+    let p = well-formed b s ok in
     let f = in-range b s ok in
     let e : length qs ≡ length (rows b) = count ∙ sym (files-accepted b s ok .0 .row-count) in
     (gap-nonnegative p f qs e some, λ h. (fits (sum qs) _ h (distance-most p f qs e some), fits (sum qs) _ h (gap-most p f qs e some)))

@@ -16,14 +16,17 @@ use Rattle.files.proofs.Refusal.{and-true, between-true}
 use Rattle.files.proofs.Accepted.{files-accepted}
 use Rattle.method.specs.declared.Verdict.{Verdict}
 use Rattle.method.specs.declared.Verdict.the-variants.{Within, Beyond, Spent}
+use Rattle.method.specs.Problem.{fixed, problem}
 use Rattle.method.specs.Iterates.{support, distance, gap}
 use Rattle.method.specs.Answers.{verdict-number, stops}
 use Rattle.method.specs.Bounds.{answer-of, Answer-bounds}
+use Rattle.method.proofs.Accepted.{well-formed, in-range}
 use Rattle.method.proofs.Bounds.{answer-bounds}
-use Rattle.method.proofs.Weights.{weight-most, weight-positive}
+use Rattle.method.proofs.Promise.{sized}
+use Rattle.method.proofs.Weights.{fixed-fits, weight-most, weight-positive}
 use Rattle.method.proofs.Shares.{share-most}
 use Rattle.card_format.specs.Format.{Fields, WCD1, pairs, trailer-bytes, fields, card-fields, card-body, pair-count, card-shares, card-answer}
-use Rattle.card_format.specs.Checks.{back-fits, pairs-in-order, shares-total, numbers-agree, card-refusal}
+use Rattle.card_format.specs.Checks.{back-fits, pairs-in-order, shares-total, numbers-agree, truth-refusal, card-refusal}
 use Rattle.card_format.specs.Truth.{Card-true}
 use Rattle.card_format.proofs.Bytes.{drop-bytes}
 use Rattle.card_format.proofs.Pairs.{Parsed, parse, Readable, readable}
@@ -38,7 +41,7 @@ pub record Passed (b s w : List ℕ) : Type 0 where
   pub ranges : between 1 3 (card-fields w .verdict) && between 1 (sheet s .steps) (card-fields w .steps) ≡ true
   pub back : back-fits (boats b) (card-fields w .back) w ≡ true
   pub ordered : pairs-in-order (pair-count w) 0 (boats b) (card-body w) ≡ true
-  pub totals : shares-total (pair-count w) (card-shares (boats b) w) (card-fields w .steps) ≡ true
+  pub totals : shares-total fixed (pair-count w) (card-shares (boats b) w) (card-fields w .steps) ≡ true
   pub numbers : numbers-agree (sheet s .steps) w (card-answer b s w) ≡ true
   pub tolerance : eqb (card-fields w .tolerance) (sheet s .tolerance) ≡ true
 
@@ -51,7 +54,7 @@ passed-last true k e = refl
 passed-last false k e = absurd (omega arith)
 
 pub all-passed : (b s w : List ℕ) → card-refusal b s w ≡ 0 → Passed b s w
-unfolding card-refusal
+unfolding card-refusal truth-refusal card-answer problem
 all-passed b s w e =
     let p1 = passed (length-in-range 36 w) 30 _ e in
     let p2 = passed (same _ _) 31 _ (p1 .1) in
@@ -59,7 +62,7 @@ all-passed b s w e =
     let p4 = passed (between 1 3 (card-fields w .verdict) && between 1 (sheet s .steps) (card-fields w .steps)) 33 _ (p3 .1) in
     let p5 = passed (back-fits (boats b) (card-fields w .back) w) 34 _ (p4 .1) in
     let p6 = passed (pairs-in-order (pair-count w) 0 (boats b) (card-body w)) 35 _ (p5 .1) in
-    let p7 = passed (shares-total (pair-count w) (card-shares (boats b) w) (card-fields w .steps)) 36 _ (p6 .1) in
+    let p7 = passed (shares-total fixed (pair-count w) (card-shares (boats b) w) (card-fields w .steps)) 36 _ (p6 .1) in
     let p8 = passed (numbers-agree (sheet s .steps) w (card-answer b s w)) 37 _ (p7 .1) in
     record {
       sized = p1 .0;
@@ -74,7 +77,7 @@ all-passed b s w e =
     }
 
 passed-all : {b s w : List ℕ} → Passed b s w → card-refusal b s w ≡ 0
-unfolding card-refusal
+unfolding card-refusal truth-refusal card-answer problem
 passed-all p = simp (p .sized, p .letters, p .counts, p .ranges, p .back, p .ordered, p .totals, p .numbers, p .tolerance)
 
 -- ---- What the tests say
@@ -221,15 +224,16 @@ module _ (b s w : List ℕ) (ok : files-refusal b s ≡ 0) (c : Card-true b s w)
   reading : Readable 0 (boats b) (support (c .shares)) (pairs 0 (c .shares)) (c .shares)
   reading = readable (c .shares) 0 (boats b) (omega (arith, count)) (omega (arith, files-accepted b s ok .0 .most-boats)) share-fits
 
-  pub own-bounds : Answer-bounds b s (answer-of b s (c .shares) (c .own .steps)) (c .shares)
-  own-bounds = answer-bounds b s ok (c .shares) (c .own .steps) count (c .total) (c .few-boats) (c .some-step) (c .most-steps) (c .stops-here)
+  pub own-bounds : Answer-bounds (problem b s) (answer-of (problem b s) (c .shares) (c .own .steps)) (c .shares)
+  unfolding problem
+  own-bounds = answer-bounds (well-formed b s ok) (in-range b s ok) (sized b s ok) (c .shares) (c .own .steps) (count ∙ sym (files-accepted b s ok .0 .row-count)) (c .total) (c .few-boats) (c .some-step) (c .most-steps) (c .stops-here)
 
   own-fits : Fields-fit (c .own)
   own-fits =
       let book = files-accepted b s ok .0 in
       record {
         back = omega (arith, c .back, reading .sized, support-most (c .shares), count, book .most-boats);
-        verdict = omega (arith, c .verdict, verdict-between (answer-of b s (c .shares) (c .own .steps) .verdict) .1);
+        verdict = omega (arith, c .verdict, verdict-between (answer-of (problem b s) (c .shares) (c .own .steps) .verdict) .1);
         steps = omega (arith, few-steps);
         tolerance = omega (arith, c .tolerance, files-accepted b s ok .1 .most-tolerance);
         distance = omega (arith, c .distance, own-bounds .distance-fits);
@@ -262,7 +266,7 @@ module _ (b s w : List ℕ) (ok : files-refusal b s ≡ 0) (c : Card-true b s w)
   unfolding card-shares
   shares-back = rw (count-is, body-is, ← count) (reading .read [] refl)
 
-  pub answer-is : card-answer b s w ≡ answer-of b s (c .shares) (c .own .steps)
+  pub answer-is : card-answer b s w ≡ answer-of (problem b s) (c .shares) (c .own .steps)
   unfolding card-answer
   answer-is = rw (fields-are, shares-back)
 
@@ -276,14 +280,14 @@ module _ (b s w : List ℕ) (ok : files-refusal b s ≡ 0) (c : Card-true b s w)
   true-passed : Passed b s w
   unfolding length-in-range shares-total
   true-passed =
-      let v = verdict-between (answer-of b s (c .shares) (c .own .steps) .verdict) in
+      let v = verdict-between (answer-of (problem b s) (c .shares) (c .own .steps) .verdict) in
       record {
         sized = between-said (omega (arith, file-size)) (c .most-bytes);
         letters = rw (trailer-is, letters-written) (unfold same in refl);
         counts = rw fields-are (simp (eq-eqb _ _ (c .boats), eq-eqb _ _ (c .columns)));
         ranges = rw fields-are (simp (between-said {least = 1} {most = 3} {n = c .own .verdict} (rw (c .verdict) (v .0)) (rw (c .verdict) (v .1)), between-said (c .some-step) (c .most-steps)));
         back = back-said (rw back-is (record {
-          some = omega (arith, reading .sized, support-some (c .shares) (rw (c .total) (weight-positive (c .some-step))));
+          some = omega (arith, reading .sized, support-some (c .shares) (rw (c .total) (weight-positive fixed-fits (c .some-step))));
           fours = omega (arith, reading .sized);
           few = omega (arith, reading .sized, support-most (c .shares), count);
           inside = omega (arith, file-size);

@@ -3,6 +3,7 @@ use mathlib.Core.Path.{_≡_, refl, sym, ap, _∙_}
 use mathlib.Core.List.{List}
 use Prim.Native.Nat.{ℕ}
 use Rattle.files.specs.Sheet.{files-refusal}
+use Rattle.method.specs.Problem.{problem}
 use Rattle.method.specs.Iterates.{distance, gap}
 use Rattle.method.specs.Answers.{answer-at}
 use Rattle.method.specs.Bounds.{answer-of}
@@ -15,7 +16,7 @@ accepted-exactly b s w ok all =
     (accepted-true b s w all, λ c. (true-accepted b s w ok c, fields-are b s w ok c, shares-back b s w ok c, answer-is b s w ok c))
 
 -- a true card vouches
-true-vouches : (b s w : List ℕ) → files-refusal b s ≡ 0 → (c : Card-true b s w) → Card-vouches b s w (answer-of b s (c .shares) (c .own .steps)) (c .shares)
+true-vouches : (b s w : List ℕ) → files-refusal b s ≡ 0 → (c : Card-true b s w) → Card-vouches b s w (answer-of (problem b s) (c .shares) (c .own .steps)) (c .shares)
 unfolding answer-at
 true-vouches b s w ok c =
     let own = fields-are b s w ok c in

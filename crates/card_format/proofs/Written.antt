@@ -7,12 +7,15 @@ use lib.ListN.{length, getD, length-append}
 use Rattle.files.specs.Book.{columns, boats}
 use Rattle.files.specs.Sheet.{sheet, files-refusal}
 use Rattle.files.proofs.Accepted.{files-accepted}
+use Rattle.method.specs.Problem.{problem}
 use Rattle.method.specs.Iterates.{support}
 use Rattle.method.specs.Answers.{verdict-number, run-iterate, run-answer}
 use Rattle.method.specs.Bounds.{Answer-bounds}
 use Rattle.method.proofs.Shares.{share-most}
 use Rattle.method.proofs.Weights.{weight-most}
+use Rattle.method.proofs.Accepted.{well-formed, in-range}
 use Rattle.method.proofs.Bounds.{run-is, run-bounds}
+use Rattle.method.proofs.Promise.{sized}
 use Rattle.card_format.specs.Format.{pairs, trailer-bytes, answer-fields, card-bytes, run-card}
 use Rattle.card_format.specs.Truth.{Card-true, Written-accepted, Written-short}
 use Rattle.card_format.proofs.Pairs.{readable}
@@ -20,56 +23,62 @@ use Rattle.card_format.proofs.Trailer.{length-trailer}
 use Rattle.card_format.proofs.Truth.{support-most, shares-back, answer-is, true-accepted}
 
 module _ (b s : List ℕ) (ok : files-refusal b s ≡ 0) where
-  bounds : Answer-bounds b s (run-answer b s) (run-iterate b s .shares)
-  bounds = run-bounds b s ok .answer
+  bounds : Answer-bounds (problem b s) (run-answer (problem b s)) (run-iterate (problem b s) .shares)
+  bounds = run-bounds (well-formed b s ok) (in-range b s ok) (sized b s ok) .answer
 
-  share-fits : (j : ℕ) → getD (run-iterate b s .shares) j 0 < 65536
+  -- one share a boat
+  pub run-shares : length (run-iterate (problem b s) .shares) ≡ boats b
+  unfolding problem
+  run-shares = bounds .share-count ∙ files-accepted b s ok .0 .row-count
+
+  share-fits : (j : ℕ) → getD (run-iterate (problem b s) .shares) j 0 < 65536
+  unfolding problem
   share-fits j =
-      omega (arith, share-most (run-iterate b s .shares) j, bounds .total, weight-most {t = run-answer b s .steps} (omega (arith, bounds .most-steps, files-accepted b s ok .1 .most-steps)))
+      omega (arith, share-most (run-iterate (problem b s) .shares) j, bounds .total, weight-most {t = run-answer (problem b s) .steps} (omega (arith, bounds .most-steps, files-accepted b s ok .1 .most-steps)))
 
   -- 4 bytes for each boat that holds shares
-  pub run-pairs-length : length (pairs 0 (run-iterate b s .shares)) ≡ 4 * support (run-iterate b s .shares)
-  run-pairs-length = readable (run-iterate b s .shares) 0 (boats b) (omega (arith, bounds .share-count)) (omega (arith, files-accepted b s ok .0 .most-boats)) share-fits .sized
+  pub run-pairs-length : length (pairs 0 (run-iterate (problem b s) .shares)) ≡ 4 * support (run-iterate (problem b s) .shares)
+  run-pairs-length = readable (run-iterate (problem b s) .shares) 0 (boats b) (omega (arith, run-shares)) (omega (arith, files-accepted b s ok .0 .most-boats)) share-fits .sized
 
   -- and the trailer
-  pub run-card-length : length (run-card b s) ≡ 4 * support (run-iterate b s .shares) + 36
+  pub run-card-length : length (run-card b s) ≡ 4 * support (run-iterate (problem b s) .shares) + 36
   unfolding run-card card-bytes
   run-card-length =
-      let qs = run-iterate b s .shares in
-      length-append (pairs 0 qs) (trailer-bytes (answer-fields (run-answer b s) (length (pairs 0 qs)) (sheet s .tolerance) (boats b) (columns b)))
-      ∙ (omega (arith, length-trailer (answer-fields (run-answer b s) (length (pairs 0 qs)) (sheet s .tolerance) (boats b) (columns b)), run-pairs-length))
+      let qs = run-iterate (problem b s) .shares in
+      length-append (pairs 0 qs) (trailer-bytes (answer-fields (run-answer (problem b s)) (length (pairs 0 qs)) (sheet s .tolerance) (boats b) (columns b)))
+      ∙ (omega (arith, length-trailer (answer-fields (run-answer (problem b s)) (length (pairs 0 qs)) (sheet s .tolerance) (boats b) (columns b)), run-pairs-length))
 
   pub run-card-true : (front : List ℕ) → length front + length (run-card b s) ≤ 40000 → Card-true b s (front ++ run-card b s)
-  unfolding run-card card-bytes answer-fields
+  unfolding problem run-card card-bytes answer-fields
   run-card-true front h =
       record {
         front = front;
-        shares = run-iterate b s .shares;
-        own = answer-fields (run-answer b s) (length (pairs 0 (run-iterate b s .shares))) (sheet s .tolerance) (boats b) (columns b);
+        shares = run-iterate (problem b s) .shares;
+        own = answer-fields (run-answer (problem b s)) (length (pairs 0 (run-iterate (problem b s) .shares))) (sheet s .tolerance) (boats b) (columns b);
         layout = refl;
         most-bytes = omega (arith, length-append front (run-card b s));
         back = refl;
         boats = refl;
         columns = refl;
-        share-count = bounds .share-count;
+        share-count = run-shares;
         total = bounds .total;
         few-boats = bounds .few-boats;
         some-step = bounds .some-step;
         most-steps = bounds .most-steps;
-        distance = ap (λ a. a .distance) (run-is b s ok);
-        gap = ap (λ a. a .gap) (run-is b s ok);
-        verdict = ap (λ a. verdict-number (a .verdict)) (run-is b s ok);
-        stops-here = rw (← run-is b s ok) (bounds .stops-here);
+        distance = ap (λ a. a .distance) (run-is (well-formed b s ok) (in-range b s ok) (sized b s ok));
+        gap = ap (λ a. a .gap) (run-is (well-formed b s ok) (in-range b s ok) (sized b s ok));
+        verdict = ap (λ a. verdict-number (a .verdict)) (run-is (well-formed b s ok) (in-range b s ok) (sized b s ok));
+        stops-here = rw (← run-is (well-formed b s ok) (in-range b s ok) (sized b s ok)) (bounds .stops-here);
         tolerance = refl;
       }
 
 pub written-short : Written-short
 unfolding Written-short
-written-short b s ok = omega (arith, run-card-length b s ok, support-most (run-iterate b s .shares), run-bounds b s ok .answer .share-count, files-accepted b s ok .0 .most-boats)
+written-short b s ok = omega (arith, run-card-length b s ok, support-most (run-iterate (problem b s) .shares), run-shares b s ok, files-accepted b s ok .0 .most-boats)
 
 pub written-accepted : Written-accepted
 unfolding Written-accepted run-card-true
 written-accepted b s front ok h =
     let c = run-card-true b s ok front h in
     let w = front ++ run-card b s in
-    (true-accepted b s w ok c, answer-is b s w ok c ∙ sym (run-is b s ok), shares-back b s w ok c)
+    (true-accepted b s w ok c, answer-is b s w ok c ∙ sym (run-is (well-formed b s ok) (in-range b s ok) (sized b s ok)), shares-back b s w ok c)

@@ -9,9 +9,10 @@ use Rattle.files.specs.Bytes.{number, same, between, length-in-range, trailer, 
 use Rattle.files.specs.Book.{boats, columns}
 use Rattle.files.specs.Sheet.{sheet, files-refusal}
 use Rattle.method.specs.declared.Answer.{Answer}
-use Rattle.method.specs.Iterates.{weight}
+use Rattle.method.specs.Problem.{Schedule, Problem, problem, weight}
 use Rattle.method.specs.Answers.{verdict-number, stops, search-refusal}
-use Rattle.card_format.specs.Format.{WCD1, card-fields, card-body, pair-count, card-shares, card-answer, run-card}
+use Rattle.method.specs.Bounds.{answer-of}
+use Rattle.card_format.specs.Format.{WCD1, card-fields, card-body, pair-count, card-shares, run-card}
 
 -- whether a back count is above zero, a multiple of 4, at most 4 × boats, and starts inside the file
 unfoldable pub back-fits : (boats back : ℕ) → List ℕ → Bool
@@ -23,9 +24,9 @@ pairs-in-order zero next n bs = true
 pairs-in-order (suc k) next n bs =
     (leb next (number 0 2 bs) && (ltb (number 0 2 bs) n && ltb 0 (number 2 2 bs))) && pairs-in-order k (suc (number 0 2 bs)) n (drop 4 bs)
 
--- whether no more boats than steps hold shares, and they total t (t + 1) / 2
-unfoldable pub shares-total : (count : ℕ) → (shares : List ℕ) → (t : ℕ) → Bool
-shares-total k qs t = leb k t && eqb (sum qs) (weight t)
+-- whether no more boats than steps hold shares, and they total W, t (t + 1) / 2 for the fixed shares
+unfoldable pub shares-total : Schedule → (count : ℕ) → (shares : List ℕ) → (t : ℕ) → Bool
+shares-total a k qs t = leb k t && eqb (sum qs) (weight a t)
 
 -- whether E, G and the verdict of a card are those of the answer of its shares, and the verdict ends a run of so many steps there
 unfoldable pub numbers-agree : (steps : ℕ) → (card : List ℕ) → Answer → Bool
@@ -33,6 +34,14 @@ numbers-agree steps w a =
     let f = card-fields w in
     (eqb (f .distance) (a .distance) && eqb (f .gap) (a .gap))
     && (eqb (f .verdict) (verdict-number (a .verdict)) && stops steps (f .steps) (a .verdict))
+
+-- whether what a card says is true of some shares, one a vertex of a problem: 37 to 39; 0 if none applies
+unfoldable pub truth-refusal : Problem → (shares card : List ℕ) → ℕ
+truth-refusal p qs w =
+    let f = card-fields w in
+    cond (not (shares-total (p .schedule) (pair-count w) qs (f .steps))) 37
+    (cond (not (numbers-agree (p .steps) w (answer-of p qs (f .steps)))) 38
+    (cond (eqb (f .tolerance) (p .tolerance)) 0 39))
 
 -- the first refusal, 31 to 39, that applies to a card for an accepted book and sheet; 0 if none does
 unfoldable pub card-refusal : (book sheet card : List ℕ) → ℕ
@@ -44,9 +53,7 @@ card-refusal b s w =
     (cond (not (between 1 3 (f .verdict) && between 1 (sheet s .steps) (f .steps))) 34
     (cond (not (back-fits (boats b) (f .back) w)) 35
     (cond (not (pairs-in-order (pair-count w) 0 (boats b) (card-body w))) 36
-    (cond (not (shares-total (pair-count w) (card-shares (boats b) w) (f .steps))) 37
-    (cond (not (numbers-agree (sheet s .steps) w (card-answer b s w))) 38
-    (cond (eqb (f .tolerance) (sheet s .tolerance)) 0 39))))))))
+    (truth-refusal (problem b s) (card-shares (boats b) w) w))))))
 
 -- of the writer: 1 to 17 of the files, then 22, a buffer shorter than the card
 unfoldable pub write-refusal : (book sheet : List ℕ) → (room : ℕ) → ℕ

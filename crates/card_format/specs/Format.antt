@@ -7,11 +7,12 @@ use Prim.Native.Nat.{ℕ, zero, suc, _+_, _/_}
 use lib.Dec.{eqb}
 use lib.ListN.{length, drop, set, replicate}
 use Rattle.files.specs.Bytes.{number-bytes, number, trailer, body}
-use Rattle.files.specs.Book.{boats, columns, rows}
+use Rattle.files.specs.Book.{boats, columns}
 use Rattle.files.specs.Sheet.{sheet}
 use Rattle.method.specs.declared.Answer.{Answer}
-use Rattle.method.specs.Answers.{verdict-number, answer-at, run-iterate, run-answer}
-use Rattle.method.specs.Bounds.{mixture-iterate}
+use Rattle.method.specs.Problem.{problem}
+use Rattle.method.specs.Answers.{verdict-number, run-iterate, run-answer}
+use Rattle.method.specs.Bounds.{answer-of}
 
 -- ---- Writing
 
@@ -62,7 +63,7 @@ card-bytes a qs tolerance n c = pairs 0 qs ++ trailer-bytes (answer-fields a (le
 
 -- the card of a run
 unfoldable pub run-card : (book sheet : List ℕ) → List ℕ
-run-card b s = card-bytes (run-answer b s) (run-iterate b s .shares) (sheet s .tolerance) (boats b) (columns b)
+run-card b s = card-bytes (run-answer (problem b s)) (run-iterate (problem b s) .shares) (sheet s .tolerance) (boats b) (columns b)
 
 -- ---- Reading
 
@@ -101,4 +102,4 @@ card-shares n w = shares-into (pair-count w) (card-body w) (replicate n 0)
 
 -- the answer of a card's shares and steps
 unfoldable pub card-answer : (book sheet card : List ℕ) → Answer
-card-answer b s w = answer-at (rows b) (sheet s) (card-fields w .steps) (mixture-iterate (columns b) (card-shares (boats b) w) (rows b))
+card-answer b s w = answer-of (problem b s) (card-shares (boats b) w) (card-fields w .steps)

@@ -8,10 +8,11 @@ use lib.IntN.{ℤ, pos, natAbs}
 use lib.Signed.{_≤ℤ_}
 use Rattle.frank_wolfe.specs.Vectors.{subtract, scale, sum, combination}
 use Rattle.files.specs.Bytes.{all-bytes}
-use Rattle.files.specs.Book.{rows, columns, boats}
+use Rattle.files.specs.Book.{columns, boats}
 use Rattle.files.specs.Sheet.{sheet, files-refusal}
 use Rattle.method.specs.declared.Answer.{Answer}
-use Rattle.method.specs.Iterates.{weight, gaps, maximum, mixture-distance, support}
+use Rattle.method.specs.Problem.{fixed, Problem, problem, weight}
+use Rattle.method.specs.Iterates.{gaps, maximum, mixture-distance, support}
 use Rattle.method.specs.Answers.{verdict-number, stops, run-answer, run-iterate}
 use Rattle.method.specs.Bounds.{answer-of, Answer-bounds}
 use Rattle.card_format.specs.Format.{Fields, pairs, trailer-bytes, card-fields, card-shares, card-answer, run-card}
@@ -30,16 +31,16 @@ pub record Card-true (b s w : List ℕ) : Type 0 where
   pub boats : own .boats ≡ boats b
   pub columns : own .columns ≡ columns b
   pub share-count : length shares ≡ own .boats
-  pub total : sum shares ≡ weight (own .steps)
+  pub total : sum shares ≡ weight fixed (own .steps)
   pub few-boats : support shares ≤ own .steps
   pub some-step : 1 ≤ own .steps
   pub most-steps : own .steps ≤ sheet s .steps
   -- ---- The card's own numbers: those of its shares
-  pub distance : own .distance ≡ answer-of b s shares (own .steps) .distance
-  pub gap : own .gap ≡ answer-of b s shares (own .steps) .gap
-  pub verdict : own .verdict ≡ verdict-number (answer-of b s shares (own .steps) .verdict)
+  pub distance : own .distance ≡ answer-of (problem b s) shares (own .steps) .distance
+  pub gap : own .gap ≡ answer-of (problem b s) shares (own .steps) .gap
+  pub verdict : own .verdict ≡ verdict-number (answer-of (problem b s) shares (own .steps) .verdict)
   -- Spent only at the sheet's steps
-  pub stops-here : stops (sheet s .steps) (own .steps) (answer-of b s shares (own .steps) .verdict) ≡ true
+  pub stops-here : stops (sheet s .steps) (own .steps) (answer-of (problem b s) shares (own .steps) .verdict) ≡ true
   pub tolerance : own .tolerance ≡ sheet s .tolerance
 
 -- ---- What an accepted card vouches for: a is the answer given back for it, `shares` its shares. The bound by steps is a run's alone.
@@ -54,7 +55,7 @@ pub record Card-vouches (b s w : List ℕ) (a : Answer) (shares : List ℕ) : Ty
   pub own-verdict : verdict-number (a .verdict) ≡ card-fields w .verdict
   pub own-tolerance : sheet s .tolerance ≡ card-fields w .tolerance
   -- which with the shares keeps what is promised of an answer
-  pub answer : Answer-bounds b s a shares
+  pub answer : Answer-bounds (problem b s) a shares
 
 -- ---- The statements
 
@@ -64,14 +65,14 @@ Accepted-exactly =
     (b s w : List ℕ) → files-refusal b s ≡ 0 → all-bytes w ≡ true →
     (card-refusal b s w ≡ 0 → Card-true b s w)
     × ((c : Card-true b s w) →
-    (card-refusal b s w ≡ 0) × (card-fields w ≡ c .own) × (card-shares (boats b) w ≡ c .shares) × (card-answer b s w ≡ answer-of b s (c .shares) (c .own .steps)))
+    (card-refusal b s w ≡ 0) × (card-fields w ≡ c .own) × (card-shares (boats b) w ≡ c .shares) × (card-answer b s w ≡ answer-of (problem b s) (c .shares) (c .own .steps)))
 
 -- a card that was written is accepted, also behind any front text that keeps it within 40,000 bytes, and reads back as the run's answer and shares
 unfoldable pub Written-accepted : Type 0
 Written-accepted =
     (b s front : List ℕ) → files-refusal b s ≡ 0 → length front + length (run-card b s) ≤ 40000 →
     (card-refusal b s (front ++ run-card b s) ≡ 0)
-    × (card-answer b s (front ++ run-card b s) ≡ run-answer b s) × (card-shares (boats b) (front ++ run-card b s) ≡ run-iterate b s .shares)
+    × (card-answer b s (front ++ run-card b s) ≡ run-answer (problem b s)) × (card-shares (boats b) (front ++ run-card b s) ≡ run-iterate (problem b s) .shares)
 
 -- a written card has at most 1,060 bytes, so it needs no front text to keep within 40,000
 unfoldable pub Written-short : Type 0
@@ -84,12 +85,14 @@ Accepted-vouches =
     Card-vouches b s w (card-answer b s w) (card-shares (boats b) w)
 
 -- ---- Any shares of a total N above zero: N² times their duality gap, before it is clipped
-unfoldable pub mixture-gap : (columns : ℕ) → (u : List ℤ) → (shares : List ℕ) → (rs : List (List ℤ)) → ℤ
-mixture-gap c u qs rs = maximum (gaps (subtract (combination c qs rs) (scale (sum qs) u)) (combination c qs rs) (sum qs) rs)
+unfoldable pub mixture-gap : Problem → (shares : List ℕ) → ℤ
+mixture-gap p qs =
+    let y = combination (p .columns) qs (p .vertices) in
+    maximum (gaps (p .factors) (subtract y (scale (sum qs) (p .target))) y (sum qs) (p .vertices))
 
 -- the gap is not below 0, and E and G keep to 62 bits for any total that a card can have
 unfoldable pub Shares-fit : Type 0
 Shares-fit =
     (b s qs : List ℕ) → files-refusal b s ≡ 0 → length qs ≡ boats b → 1 ≤ sum qs →
-    (pos 0 ≤ℤ mixture-gap (columns b) (sheet s .target) qs (rows b))
-    × (sum qs ≤ 64980 → (mixture-distance (columns b) (sheet s .target) qs (rows b) < 4611686018427387904) × (natAbs (mixture-gap (columns b) (sheet s .target) qs (rows b)) < 4611686018427387904))
+    (pos 0 ≤ℤ mixture-gap (problem b s) qs)
+    × (sum qs ≤ 64980 → (mixture-distance (problem b s) qs < 4611686018427387904) × (natAbs (mixture-gap (problem b s) qs) < 4611686018427387904))

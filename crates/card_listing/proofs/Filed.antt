@@ -9,6 +9,7 @@ use lib.Dec.{ltb, eqb·suc-zero}
 use lib.ListN.{length, take, drop}
 use lib.Seq.{take-at}
 use Rattle.files.specs.Sheet.{files-refusal}
+use Rattle.method.specs.Problem.{problem}
 use Rattle.method.specs.Answers.{outcome, slots-after, run-answer}
 use Rattle.card.specs.declared.Written.{Written}
 use Rattle.card.specs.Filing.{written-size, filing}
@@ -31,12 +32,12 @@ module _ (b s : List ℕ) where
   write-refusal-is (suc n) e = rw (← e, eqb·suc-zero n)
 
   -- what stands in the buffer's first bytes, as many as were written
-  bytes-by-number : (n : ℕ) → n ≡ files-refusal b s → (out : List ℕ) → take (written-size (filing n (run-answer b s) (length (run-card b s)))) (slots-after n (run-card b s) out) ≡ search-card b s
+  bytes-by-number : (n : ℕ) → n ≡ files-refusal b s → (out : List ℕ) → take (written-size (filing n (run-answer (problem b s)) (length (run-card b s)))) (slots-after n (run-card b s) out) ≡ search-card b s
   unfolding filing slots-after search-card written-size
   bytes-by-number zero e out = rw (← e) (take-at (run-card b s) (drop (length (run-card b s)) out) (length (run-card b s)) refl)
   bytes-by-number (suc n) e out = rw (← e, eqb·suc-zero n)
 
-  length-by-number : (n : ℕ) → n ≡ files-refusal b s → written-size (filing n (run-answer b s) (length (run-card b s))) ≡ length (search-card b s)
+  length-by-number : (n : ℕ) → n ≡ files-refusal b s → written-size (filing n (run-answer (problem b s)) (length (run-card b s))) ≡ length (search-card b s)
   unfolding filing search-card written-size
   length-by-number zero e = rw (← e)
   length-by-number (suc n) e = rw (← e, eqb·suc-zero n)
@@ -55,11 +56,11 @@ module _ (b s : List ℕ) where
   listing-by-number (suc n) e = rw (same-refusal b s, ← e, eqb·suc-zero n)
 
   -- the writer's reply and what it leaves in a buffer of 1,060 bytes
-  module _ (out : List ℕ) (room : length out ≡ 1060) {w : Written} {len : ℕ} (e : w ≡ filing (write-refusal b s (length out)) (run-answer b s) (length (run-card b s))) (k : len ≡ written-size w) where
+  module _ (out : List ℕ) (room : length out ≡ 1060) {w : Written} {len : ℕ} (e : w ≡ filing (write-refusal b s (length out)) (run-answer (problem b s)) (length (run-card b s))) (k : len ≡ written-size w) where
     refusal-is : write-refusal b s (length out) ≡ files-refusal b s
     refusal-is = rw room (write-refusal-is (files-refusal b s) refl)
 
-    written-is : len ≡ written-size (filing (files-refusal b s) (run-answer b s) (length (run-card b s)))
+    written-is : len ≡ written-size (filing (files-refusal b s) (run-answer (problem b s)) (length (run-card b s)))
     written-is = rw (← refusal-is, ← e) k
 
     length-is : len ≡ length (search-card b s)

@@ -1,4 +1,4 @@
--- A card of right form, and the outcomes of `judged`: refused by 37, 38 or 39, or answered.
+-- What a card of right form is known by, and the outcomes of `judged`: refused by 37, 38 or 39, or answered.
 use mathlib.Core.Path.{_≡_, refl, sym, ap, _∙_}
 use mathlib.Core.Bool.{Bool, true, false, not}
 use mathlib.Core.List.{List}
@@ -9,29 +9,27 @@ use lib.Dec.{leb}
 use lib.ListN.{length, take, drop}
 use Rattle.frank_wolfe.specs.Vectors.{sum}
 use Rattle.files.specs.Bytes.{number, same, between, length-in-range, trailer}
-use Rattle.files.specs.Book.{boats, columns}
+use Rattle.files.specs.Book.{boats}
 use Rattle.files.specs.Sheet.{sheet, files-refusal}
 use Rattle.files.proofs.Refusal.{and-true, between-true}
 use Rattle.method.specs.declared.Answer.{Answer}
 use Rattle.method.specs.declared.Searched.the-variants.{Refused, Answered}
-use Rattle.method.specs.Iterates.{weight}
+use Rattle.method.specs.Problem.{fixed, problem, weight}
 use Rattle.method.specs.Answers.{outcome}
 use Rattle.iteration.specs.declared.Layout.{Layout}
 use Rattle.iteration.specs.States.{file-layout}
 use Rattle.iteration.proofs.States.{book-fits, sheet-fits}
-use Rattle.card_format.specs.Format.{WCD1, card-fields, card-body, pair-count, card-shares, card-answer}
-use Rattle.card_format.specs.Checks.{back-fits, pairs-in-order, shares-total, numbers-agree}
+use Rattle.card_format.specs.Format.{WCD1, card-fields, card-body, pair-count}
+use Rattle.card_format.specs.Checks.{back-fits, pairs-in-order, shares-total, numbers-agree, truth-refusal}
 use Rattle.method.specs.Bounds.{answer-of}
 use Rattle.card_format.proofs.Truth.{passed, Back-fits, back-means}
 use Rattle.card_input.specs.Forms.{counts-agree, steps-fit, form-refusal}
 use Rattle.card_input.proofs.Reading.{tolerance-at}
-use Rattle.card_truth.specs.Truth.{truth-refusal}
+use Rattle.card_truth.specs.Truth.{Card-readable}
 
 -- what a card of right form is known by
 pub record Formed (n steps : ℕ) (w : List ℕ) : Type 0 where
-  pub long : 36 ≤ length w
-  pub some-step : 1 ≤ card-fields w .steps
-  pub most-steps : card-fields w .steps ≤ steps
+  pub readable : Card-readable steps w
   pub back : Back-fits n (card-fields w .back) w
   pub ordered : pairs-in-order (pair-count w) 0 n (card-body w) ≡ true
 
@@ -46,60 +44,62 @@ formed n c steps w e =
     let p6 = passed (pairs-in-order (pair-count w) 0 n (card-body w)) 35 0 (p5 .1) in
     let k = between-true 1 steps (card-fields w .steps) (and-true (between 1 3 (card-fields w .verdict)) _ (p4 .0) .1) in
     record {
-      long = between-true 36 40000 (length w) (p1 .0) .0;
-      some-step = k .0;
-      most-steps = k .1;
+      readable = record { long = between-true 36 40000 (length w) (p1 .0) .0; some-step = k .0; most-steps = k .1 };
       back = back-means n (card-fields w .back) w (p5 .0);
       ordered = p6 .0;
     }
 
-module _ (b s w : List ℕ) (ok : files-refusal b s ≡ 0) {l : Layout} (e : l ≡ file-layout b s) (f : form-refusal (boats b) (columns b) (sheet s .steps) w ≡ 0)
-    (shares : List ℕ) (es : take (boats b) shares ≡ card-shares (boats b) w) where
-  pub long : 36 ≤ length w
-  long = formed (boats b) (columns b) (sheet s .steps) w f .long
+module _ (b s w : List ℕ) (ok : files-refusal b s ≡ 0) {l : Layout} (e : l ≡ file-layout b s) (f : Card-readable (sheet s .steps) w)
+    (shares : List ℕ) where
+  -- the shares, one a boat
+  abbrev qs : List ℕ
+  qs = take (boats b) shares
 
   pub few-boats : l .boats ≤ 256
   unfolding file-layout
   few-boats = rw e (book-fits b s ok .most-boats)
 
   pub few-steps : card-fields w .steps ≤ 360
-  few-steps = omega (arith, formed (boats b) (columns b) (sheet s .steps) w f .most-steps, sheet-fits b s ok .most-steps)
+  few-steps = omega (arith, f .most-steps, sheet-fits b s ok .most-steps)
 
-  module _ (g : Bool) (eg : g ≡ shares-total (pair-count w) (take (l .boats) shares) (card-fields w .steps)) where
-    total-is : shares-total (pair-count w) (card-shares (boats b) w) (card-fields w .steps) ≡ g
+  module _ (g : Bool) (eg : g ≡ shares-total fixed (pair-count w) (take (l .boats) shares) (card-fields w .steps)) where
+    total-is : shares-total fixed (pair-count w) qs (card-fields w .steps) ≡ g
     unfolding file-layout
-    total-is = sym (eg ∙ rw (e, es))
+    total-is = sym (eg ∙ rw e)
 
-    pub total-refused : not g ≡ true → Refused 37 ≡ outcome (truth-refusal b s w) (card-answer b s w)
-    unfolding truth-refusal outcome
+    pub total-refused : not g ≡ true → Refused 37 ≡ outcome (truth-refusal (problem b s) qs w) (answer-of (problem b s) qs (card-fields w .steps))
+    unfolding problem truth-refusal outcome
     total-refused k = rw (total-is, not-true g k) refl
 
     module _ (g₁ : not g ≡ false) {t : ℕ} (et : t ≡ card-fields w .steps) where
       pub steps-asked : (1 ≤ t) × (t ≤ 360)
-      steps-asked = (omega (arith, formed (boats b) (columns b) (sheet s .steps) w f .some-step), omega (arith, few-steps))
+      steps-asked = (omega (arith, f .some-step), omega (arith, few-steps))
 
-      pub total-asked : sum (take (boats b) shares) ≡ weight t
+      pub total-asked : sum (take (boats b) shares) ≡ weight fixed t
       unfolding shares-total
-      total-asked = rw (es, et) (eqb-true _ _ (and-true (leb (pair-count w) (card-fields w .steps)) _ (total-is ∙ not-false g g₁) .1))
+      total-asked = rw et (eqb-true _ _ (and-true (leb (pair-count w) (card-fields w .steps)) _ (total-is ∙ not-false g g₁) .1))
 
-      module _ {a : Answer} (ea : a ≡ answer-of b s (take (boats b) shares) t) where
-        answer-is : a ≡ card-answer b s w
-        unfolding card-answer
-        answer-is = ea ∙ rw (es, et)
+      module _ {a : Answer} (ea : a ≡ answer-of (problem b s) qs t) where
+        answer-is : a ≡ answer-of (problem b s) qs (card-fields w .steps)
+        answer-is = ea ∙ rw et
 
         module _ {k : ℕ} (ek : k ≡ sheet s .steps) (h : Bool) (eh : h ≡ numbers-agree k w a) where
-          numbers-are : numbers-agree (sheet s .steps) w (card-answer b s w) ≡ h
+          numbers-are : numbers-agree (sheet s .steps) w (answer-of (problem b s) qs (card-fields w .steps)) ≡ h
           numbers-are = sym (eh ∙ rw (ek, answer-is))
 
-          pub numbers-refused : not h ≡ true → Refused 38 ≡ outcome (truth-refusal b s w) (card-answer b s w)
-          unfolding truth-refusal outcome
+          pub numbers-refused : not h ≡ true → Refused 38 ≡ outcome (truth-refusal (problem b s) qs w) (answer-of (problem b s) qs (card-fields w .steps))
+          unfolding problem truth-refusal outcome
           numbers-refused q = rw (total-is, not-false g g₁, numbers-are, not-true h q) refl
 
           module _ (h₁ : not h ≡ false) {x : ℕ} (ex : x ≡ number (length w - 28) 4 w) {τ : ℕ} (eτ : τ ≡ sheet s .tolerance) where
-            pub tolerance-refused : (x ≡ τ → ⊥) → Refused 39 ≡ outcome (truth-refusal b s w) (card-answer b s w)
-            unfolding truth-refusal outcome
-            tolerance-refused q = rw (total-is, not-false g g₁, numbers-are, not-false h h₁, tolerance-at w long, ← ex, ← eτ, ne-eqb x τ q) refl
+            pub tolerance-refused : (x ≡ τ → ⊥) → Refused 39 ≡ outcome (truth-refusal (problem b s) qs w) (answer-of (problem b s) qs (card-fields w .steps))
+            unfolding problem truth-refusal outcome
+            tolerance-refused q = rw (total-is, not-false g g₁, numbers-are, not-false h h₁, tolerance-at w (f .long), ← ex, ← eτ, ne-eqb x τ q) refl
 
-            pub judged-true : x ≡ τ → Answered a ≡ outcome (truth-refusal b s w) (card-answer b s w)
-            unfolding truth-refusal outcome
-            judged-true q = rw (total-is, not-false g g₁, numbers-are, not-false h h₁, tolerance-at w long, ← ex, ← eτ, eq-eqb x τ q) (ap Answered answer-is)
+            accepts : x ≡ τ → truth-refusal (problem b s) qs w ≡ 0
+            unfolding problem truth-refusal
+            accepts q = rw (total-is, not-false g g₁, numbers-are, not-false h h₁, tolerance-at w (f .long), ← ex, ← eτ, eq-eqb x τ q) refl
+
+            pub judged-true : x ≡ τ → Answered a ≡ outcome (truth-refusal (problem b s) qs w) (answer-of (problem b s) qs (card-fields w .steps))
+            unfolding outcome
+            judged-true q = rw (accepts q) (ap Answered answer-is)

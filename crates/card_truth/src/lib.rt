@@ -4,15 +4,16 @@
 ghost use mathlib.Core.Path.{_≡_};
 ghost use Prim.Native.Nat.{_≤_};
 ghost use lib.ListN.{length, take};
-ghost use Rattle.files.specs.Book.{boats, columns};
+ghost use Rattle.files.specs.Book.{boats};
 ghost use Rattle.files.specs.Sheet.{files-refusal};
 ghost use Rattle.files.specs.Sheet as Sheets;
+ghost use Rattle.method.specs.Problem.{fixed, problem};
 ghost use Rattle.method.specs.Answers.{outcome};
+ghost use Rattle.method.specs.Bounds.{answer-of};
 ghost use Rattle.iteration.specs.States.{file-layout};
-ghost use Rattle.card_format.specs.Format.{card-fields, pair-count, card-shares, card-answer};
-ghost use Rattle.card_format.specs.Checks.{shares-total, numbers-agree};
-ghost use Rattle.card_input.specs.Forms.{form-refusal};
-ghost use Rattle.card_truth.specs.Truth.{truth-refusal};
+ghost use Rattle.card_format.specs.Format.{card-fields, pair-count};
+ghost use Rattle.card_format.specs.Checks.{shares-total, numbers-agree, truth-refusal};
+ghost use Rattle.card_truth.specs.Truth.{Card-readable};
 use iteration::Layout;
 use iteration::State;
 use method::Answer;
@@ -22,7 +23,7 @@ use method::Searched;
 fn shares_total(card: &[u8], shares: [u16; 256], boats: usize) -> bool
     requires { ⌜ (36 ≤ length (now card)) × (boats ≤ 256) ⌝ }
     requires { do ⌜ card-fields (now card) .steps ≤ (← ⟦State::MOST_STEPS⟧) ⌝ }
-    ensures { λ r. ⌜ r ≡ shares-total (pair-count (now (card .entry))) (take boats shares) (card-fields (now (card .entry)) .steps) ⌝ }
+    ensures { λ r. ⌜ r ≡ shares-total fixed (pair-count (now (card .entry))) (take boats shares) (card-fields (now (card .entry)) .steps) ⌝ }
 {
     let t = card_input::steps_used(card);
     if (t as usize) < card_input::pair_count(card) {
@@ -49,7 +50,7 @@ fn numbers_agree(card: &[u8], steps: u32, a: Answer) -> bool
     verdicts::stops(steps, card_input::steps_used(card), verdict)
 }
 
-// A card of right form judged by its shares: the number, 37 to 39, that refuses it, or its answer.
+// What a card says judged by the first shares, one a boat: the number, 37 to 39, that refuses it, or its answer.
 pub fn judged(
     book: &[u8],
     sheet: &[u8],
@@ -59,9 +60,8 @@ pub fn judged(
 ) -> Searched
     requires { ⌜ files-refusal (now book) (now sheet) ≡ 0 ⌝ }
     requires { ⌜ layout ≡ file-layout (now book) (now sheet) ⌝ }
-    requires { ⌜ form-refusal (boats (now book)) (columns (now book)) (Sheets.sheet (now sheet) .steps) (now card) ≡ 0 ⌝ }
-    requires { ⌜ take (boats (now book)) shares ≡ card-shares (boats (now book)) (now card) ⌝ }
-    ensures { λ r. ⌜ r ≡ outcome (truth-refusal (now (book .entry)) (now (sheet .entry)) (now (card .entry))) (card-answer (now (book .entry)) (now (sheet .entry)) (now (card .entry))) ⌝ }
+    requires { ⌜ Card-readable (Sheets.sheet (now sheet) .steps) (now card) ⌝ }
+    ensures { λ r. ⌜ r ≡ outcome (truth-refusal (problem (now (book .entry)) (now (sheet .entry))) (take (boats (now (book .entry))) shares) (now (card .entry))) (answer-of (problem (now (book .entry)) (now (sheet .entry))) (take (boats (now (book .entry))) shares) (card-fields (now (card .entry)) .steps)) ⌝ }
 {
     if !shares_total(card, shares, layout.boats) {
         return Searched::Refused(37);

@@ -9,6 +9,7 @@ ghost use mathlib.Core.Path.{_≡_};
 ghost use mathlib.Core.List.{_++_};
 ghost use Prim.Native.Nat.{_≤_};
 ghost use lib.ListN.{length, take, drop};
+ghost use Rattle.method.specs.Problem.{problem};
 ghost use Rattle.method.specs.Answers.{outcome, search-refusal, slots-after, run-answer, run-iterate};
 ghost use Rattle.files.specs.Book.{boats};
 ghost use Rattle.card_format.specs.Format.{card-shares, card-answer, run-card};
@@ -32,9 +33,9 @@ use scale_sheet::ScaleSheet;
 // ENTRY. The search for other languages: the reply of `search` for these files and this share list, and its slots afterwards.
 #[no_mangle]
 pub extern "C" fn dofitrano_search(book: &[u8], sheet: &[u8], shares: &mut [u16]) -> Reply
-    ensures { λ r. ⌜ r ≡ reply-of (outcome (search-refusal (now (book .entry)) (now (sheet .entry)) (length (now (shares .entry)))) (run-answer (now (book .entry)) (now (sheet .entry)))) ⌝ }
-    ensures { λ _. ⌜ now (shares .exit) ≡ slots-after (search-refusal (now (book .entry)) (now (sheet .entry)) (length (now (shares .entry)))) (run-iterate (now (book .entry)) (now (sheet .entry)) .shares) (now (shares .entry)) ⌝ }
-    ensures { λ _. ⌜ Outcome-right (now (book .entry)) (now (sheet .entry)) (outcome (search-refusal (now (book .entry)) (now (sheet .entry)) (length (now (shares .entry)))) (run-answer (now (book .entry)) (now (sheet .entry)))) (now (shares .exit)) ⌝ }
+    ensures { λ r. ⌜ r ≡ reply-of (outcome (search-refusal (now (book .entry)) (now (sheet .entry)) (length (now (shares .entry)))) (run-answer (problem (now (book .entry)) (now (sheet .entry))))) ⌝ }
+    ensures { λ _. ⌜ now (shares .exit) ≡ slots-after (search-refusal (now (book .entry)) (now (sheet .entry)) (length (now (shares .entry)))) (run-iterate (problem (now (book .entry)) (now (sheet .entry))) .shares) (now (shares .entry)) ⌝ }
+    ensures { λ _. ⌜ Outcome-right (now (book .entry)) (now (sheet .entry)) (outcome (search-refusal (now (book .entry)) (now (sheet .entry)) (length (now (shares .entry)))) (run-answer (problem (now (book .entry)) (now (sheet .entry))))) (now (shares .exit)) ⌝ }
 {
     let found = search::search(book, sheet, &mut *shares);
     replies::reply_of(found)
@@ -59,9 +60,9 @@ pub extern "C" fn dofitrano_check_card(
 // ENTRY. The card writer for other languages: the reply of `write_card` for these files and this buffer, and its bytes afterwards.
 #[no_mangle]
 pub extern "C" fn dofitrano_write_card(book: &[u8], sheet: &[u8], output: &mut [u8]) -> CardReply
-    ensures { λ r. ⌜ r ≡ card-reply-of (filing (write-refusal (now (book .entry)) (now (sheet .entry)) (length (now (output .entry)))) (run-answer (now (book .entry)) (now (sheet .entry))) (length (run-card (now (book .entry)) (now (sheet .entry))))) ⌝ }
+    ensures { λ r. ⌜ r ≡ card-reply-of (filing (write-refusal (now (book .entry)) (now (sheet .entry)) (length (now (output .entry)))) (run-answer (problem (now (book .entry)) (now (sheet .entry)))) (length (run-card (now (book .entry)) (now (sheet .entry))))) ⌝ }
     ensures { λ _. ⌜ now (output .exit) ≡ slots-after (write-refusal (now (book .entry)) (now (sheet .entry)) (length (now (output .entry)))) (run-card (now (book .entry)) (now (sheet .entry))) (now (output .entry)) ⌝ }
-    ensures { λ _. ⌜ Filing-right (now (book .entry)) (now (sheet .entry)) (filing (write-refusal (now (book .entry)) (now (sheet .entry)) (length (now (output .entry)))) (run-answer (now (book .entry)) (now (sheet .entry))) (length (run-card (now (book .entry)) (now (sheet .entry))))) (now (output .exit)) ⌝ }
+    ensures { λ _. ⌜ Filing-right (now (book .entry)) (now (sheet .entry)) (filing (write-refusal (now (book .entry)) (now (sheet .entry)) (length (now (output .entry)))) (run-answer (problem (now (book .entry)) (now (sheet .entry)))) (length (run-card (now (book .entry)) (now (sheet .entry))))) (now (output .exit)) ⌝ }
 {
     let written = card::write_card(book, sheet, &mut *output);
     replies::card_reply_of(written)

@@ -1,4 +1,4 @@
--- Lists of integers, as vectors of the theorem: `factored f`, with a natural factor for each column, and `plain`, without, are spaces;
+-- Lists of integers, as vectors of the theorem: `factored fs`, with a natural factor for each column, is a space;
 -- sums, multiples and mixtures of lists are those of the theorem. Assumes nothing.
 use mathlib.Core.Path.{_≡_, refl, sym, ap, ap₂, _∙_}
 use mathlib.Core.List.{List, [], _∷_}
@@ -12,7 +12,7 @@ use Rattle.integers.proofs.Solver.{Expr, con, _⊕_, _⊗_, ⊖_, _⊝_, x₀, 
 use Rattle.integers.proofs.Facts.{_≼_, known, nat, square, equation, _⊞_, _⊡_, derive}
 use Rattle.frank_wolfe.specs.Method.{Space, Plus, Residual, Mixture, none, more}
 use Rattle.frank_wolfe.specs.Theorem.{Compared}
-use Rattle.frank_wolfe.specs.Vectors.{add, subtract, scale, inner, weighted, squared-norm, Among, here, there, sum, combination}
+use Rattle.frank_wolfe.specs.Vectors.{add, subtract, scale, inner, weighted, weighted-norm, ones, squared-norm, Among, here, there, sum, combination}
 use Rattle.frank_wolfe.proofs.Mixtures.{nonneg}
 
 abbrev O : Expr
@@ -23,109 +23,102 @@ two = con (pos 2)
 
 -- ---- The inner product with a factor for each column
 
-abbrev pub rest : (ℕ → ℕ) → ℕ → ℕ
-rest f j = f (suc j)
-
-weighted-nil : (f : ℕ → ℕ) (x : List ℤ) → weighted f x [] ≡ pos 0
+weighted-nil : (fs : List ℕ) (x : List ℤ) → weighted fs x [] ≡ pos 0
 unfolding weighted
-weighted-nil f [] = refl
-weighted-nil f (a ∷ x) = refl
+weighted-nil [] x = refl
+weighted-nil (f ∷ fs) [] = refl
+weighted-nil (f ∷ fs) (a ∷ x) = refl
 
-pub weighted-symmetric : (f : ℕ → ℕ) (x y : List ℤ) → weighted f x y ≡ weighted f y x
+pub weighted-symmetric : (fs : List ℕ) (x y : List ℤ) → weighted fs x y ≡ weighted fs y x
 unfolding weighted
-weighted-symmetric f [] y = sym (weighted-nil f y)
-weighted-symmetric f (a ∷ x) [] = refl
-weighted-symmetric f (a ∷ x) (b ∷ y) = ap₂ (λ p q. pos (f 0) *ℤ p +ℤ q) (*ℤ-comm a b) (weighted-symmetric (rest f) x y)
+weighted-symmetric [] x y = refl
+weighted-symmetric (f ∷ fs) [] y = sym (weighted-nil (f ∷ fs) y)
+weighted-symmetric (f ∷ fs) (a ∷ x) [] = refl
+weighted-symmetric (f ∷ fs) (a ∷ x) (b ∷ y) = ap₂ (λ p q. pos f *ℤ p +ℤ q) (*ℤ-comm a b) (weighted-symmetric fs x y)
 
 -- a² p + 2 a b q + b² r, with a and b for x₀ and x₁
 abbrev form : (p q r : Expr) → Expr
 form p q r = x₀ ⊗ x₀ ⊗ p ⊕ two ⊗ x₀ ⊗ x₁ ⊗ q ⊕ x₁ ⊗ x₁ ⊗ r
 
-pub weighted-positive : (f : ℕ → ℕ) (a b : ℤ) (x y : List ℤ) →
-    pos 0 ≤ℤ (a *ℤ a *ℤ weighted f x x +ℤ pos 2 *ℤ a *ℤ b *ℤ weighted f x y +ℤ b *ℤ b *ℤ weighted f y y)
+pub weighted-positive : (fs : List ℕ) (a b : ℤ) (x y : List ℤ) →
+    pos 0 ≤ℤ (a *ℤ a *ℤ weighted fs x x +ℤ pos 2 *ℤ a *ℤ b *ℤ weighted fs x y +ℤ b *ℤ b *ℤ weighted fs y y)
 unfolding weighted
-weighted-positive f a b [] [] = derive (a ∷ b ∷ []) (O ≼ form O O O) (nat 0) tt
-weighted-positive f a b [] (d ∷ y) =
-    derive (a ∷ b ∷ pos (f 0) ∷ d ∷ weighted (rest f) y y ∷ []) (O ≼ form O O (x₂ ⊗ (x₃ ⊗ x₃) ⊕ x₄))
-    (known (O ≼ x₂) (nonneg (f 0)) ⊡ square (x₁ ⊗ x₃) ⊞ known (O ≼ form O O x₄) (weighted-positive (rest f) a b [] y)) tt
-weighted-positive f a b (c ∷ x) [] =
-    derive (a ∷ b ∷ pos (f 0) ∷ c ∷ weighted (rest f) x x ∷ weighted (rest f) x [] ∷ []) (O ≼ form (x₂ ⊗ (x₃ ⊗ x₃) ⊕ x₄) O O)
-    (known (O ≼ x₂) (nonneg (f 0)) ⊡ square (x₀ ⊗ x₃) ⊞ known (O ≼ form x₄ x₅ O) (weighted-positive (rest f) a b x [])
-    ⊞ equation (⊖ two ⊗ x₀ ⊗ x₁) x₅ O (weighted-nil (rest f) x)) tt
-weighted-positive f a b (c ∷ x) (d ∷ y) =
-    derive (a ∷ b ∷ pos (f 0) ∷ c ∷ d ∷ weighted (rest f) x x ∷ weighted (rest f) x y ∷ weighted (rest f) y y ∷ [])
+weighted-positive [] a b x y = derive (a ∷ b ∷ []) (O ≼ form O O O) (nat 0) tt
+weighted-positive (f ∷ fs) a b [] [] = derive (a ∷ b ∷ []) (O ≼ form O O O) (nat 0) tt
+weighted-positive (f ∷ fs) a b [] (d ∷ y) =
+    derive (a ∷ b ∷ pos f ∷ d ∷ weighted fs y y ∷ weighted fs [] [] ∷ weighted fs [] y ∷ []) (O ≼ form O O (x₂ ⊗ (x₃ ⊗ x₃) ⊕ x₄))
+    (known (O ≼ x₂) (nonneg f) ⊡ square (x₁ ⊗ x₃) ⊞ known (O ≼ form x₅ x₆ x₄) (weighted-positive fs a b [] y)
+    ⊞ equation (⊖ x₀ ⊗ x₀) x₅ O (weighted-nil fs []) ⊞ equation (⊖ two ⊗ x₀ ⊗ x₁) x₆ O (weighted-symmetric fs [] y ∙ weighted-nil fs y)) tt
+weighted-positive (f ∷ fs) a b (c ∷ x) [] =
+    derive (a ∷ b ∷ pos f ∷ c ∷ weighted fs x x ∷ weighted fs x [] ∷ weighted fs [] [] ∷ []) (O ≼ form (x₂ ⊗ (x₃ ⊗ x₃) ⊕ x₄) O O)
+    (known (O ≼ x₂) (nonneg f) ⊡ square (x₀ ⊗ x₃) ⊞ known (O ≼ form x₄ x₅ x₆) (weighted-positive fs a b x [])
+    ⊞ equation (⊖ two ⊗ x₀ ⊗ x₁) x₅ O (weighted-nil fs x) ⊞ equation (⊖ x₁ ⊗ x₁) x₆ O (weighted-nil fs [])) tt
+weighted-positive (f ∷ fs) a b (c ∷ x) (d ∷ y) =
+    derive (a ∷ b ∷ pos f ∷ c ∷ d ∷ weighted fs x x ∷ weighted fs x y ∷ weighted fs y y ∷ [])
     (O ≼ form (x₂ ⊗ (x₃ ⊗ x₃) ⊕ x₅) (x₂ ⊗ (x₃ ⊗ x₄) ⊕ x₆) (x₂ ⊗ (x₄ ⊗ x₄) ⊕ x₇))
-    (known (O ≼ x₂) (nonneg (f 0)) ⊡ square (x₀ ⊗ x₃ ⊕ x₁ ⊗ x₄) ⊞ known (O ≼ form x₅ x₆ x₇) (weighted-positive (rest f) a b x y)) tt
+    (known (O ≼ x₂) (nonneg f) ⊡ square (x₀ ⊗ x₃ ⊕ x₁ ⊗ x₄) ⊞ known (O ≼ form x₅ x₆ x₇) (weighted-positive fs a b x y)) tt
 
-abbrev pub factored : (ℕ → ℕ) → Space
-factored f = record { Vec = List ℤ; inner = weighted f; symmetric = weighted-symmetric f; positive = weighted-positive f }
+abbrev pub factored : List ℕ → Space
+factored fs = record { Vec = List ℤ; inner = weighted fs; symmetric = weighted-symmetric fs; positive = weighted-positive fs }
 
--- ---- The inner product without factors is that with every factor 1
+-- ---- Every factor 1
 
-pub inner-is : (x y : List ℤ) → inner x y ≡ weighted (λ j. 1) x y
-unfolding inner weighted
-inner-is [] y = refl
-inner-is (a ∷ x) [] = refl
-inner-is (a ∷ x) (b ∷ y) = ap₂ (λ p q. p +ℤ q) (solve ((a *ℤ b) ∷ []) x₀ (con (pos 1) ⊗ x₀) tt) (inner-is x y)
+pub weighted-ones : (c : ℕ) (x y : List ℤ) → length x ≡ c → weighted (ones c) x y ≡ inner x y
+unfolding weighted inner
+weighted-ones zero [] y e = refl
+weighted-ones zero (a ∷ x) y e = absurd (omega arith)
+weighted-ones (suc c) [] y e = absurd (omega arith)
+weighted-ones (suc c) (a ∷ x) [] e = refl
+weighted-ones (suc c) (a ∷ x) (b ∷ y) e = ap₂ (λ p q. p +ℤ q) (solve ((a *ℤ b) ∷ []) (con (pos 1) ⊗ x₀) x₀ tt) (weighted-ones c x y (omega arith))
 
-abbrev pub plain : Space
-plain =
-    record {
-      Vec = List ℤ;
-      inner = inner;
-      symmetric = λ x y. simp inner-is (weighted-symmetric (λ j. 1) x y);
-      positive = λ a b x y. simp inner-is (weighted-positive (λ j. 1) a b x y);
-    }
+pub norm-ones : (c : ℕ) (x : List ℤ) → length x ≡ c → weighted-norm (ones c) x ≡ squared-norm x
+unfolding weighted-norm squared-norm
+norm-ones zero [] e = refl
+norm-ones zero (a ∷ x) e = absurd (omega arith)
+norm-ones (suc c) [] e = absurd (omega arith)
+norm-ones (suc c) (a ∷ x) e = let h : weighted-norm (ones c) x ≡ squared-norm x = norm-ones c x (omega arith) in omega arith
 
 -- ---- Sums and multiples
 
-pub weighted-add : (f : ℕ → ℕ) (x y z : List ℤ) → length y ≡ length z → weighted f x (add y z) ≡ weighted f x y +ℤ weighted f x z
+pub weighted-add : (fs : List ℕ) (x y z : List ℤ) → length y ≡ length z → weighted fs x (add y z) ≡ weighted fs x y +ℤ weighted fs x z
 unfolding weighted add
-weighted-add f [] y z e = refl
-weighted-add f (a ∷ x) [] [] e = refl
-weighted-add f (a ∷ x) [] (c ∷ z) e = absurd (omega arith)
-weighted-add f (a ∷ x) (b ∷ y) [] e = absurd (omega arith)
-weighted-add f (a ∷ x) (b ∷ y) (c ∷ z) e =
-    ap (λ q. pos (f 0) *ℤ (a *ℤ (b +ℤ c)) +ℤ q) (weighted-add (rest f) x y z (omega arith))
-    ∙ solve (pos (f 0) ∷ a ∷ b ∷ c ∷ weighted (rest f) x y ∷ weighted (rest f) x z ∷ [])
+weighted-add [] x y z e = refl
+weighted-add (f ∷ fs) [] y z e = refl
+weighted-add (f ∷ fs) (a ∷ x) [] [] e = refl
+weighted-add (f ∷ fs) (a ∷ x) [] (c ∷ z) e = absurd (omega arith)
+weighted-add (f ∷ fs) (a ∷ x) (b ∷ y) [] e = absurd (omega arith)
+weighted-add (f ∷ fs) (a ∷ x) (b ∷ y) (c ∷ z) e =
+    ap (λ q. pos f *ℤ (a *ℤ (b +ℤ c)) +ℤ q) (weighted-add fs x y z (omega arith))
+    ∙ solve (pos f ∷ a ∷ b ∷ c ∷ weighted fs x y ∷ weighted fs x z ∷ [])
     (x₀ ⊗ (x₁ ⊗ (x₂ ⊕ x₃)) ⊕ (x₄ ⊕ x₅)) (x₀ ⊗ (x₁ ⊗ x₂) ⊕ x₄ ⊕ (x₀ ⊗ (x₁ ⊗ x₃) ⊕ x₅)) tt
 
-pub weighted-subtract : (f : ℕ → ℕ) (x y z : List ℤ) → length y ≡ length z → weighted f x (subtract y z) ≡ weighted f x y -ℤ weighted f x z
+pub weighted-subtract : (fs : List ℕ) (x y z : List ℤ) → length y ≡ length z → weighted fs x (subtract y z) ≡ weighted fs x y -ℤ weighted fs x z
 unfolding weighted subtract
-weighted-subtract f [] y z e = refl
-weighted-subtract f (a ∷ x) [] [] e = refl
-weighted-subtract f (a ∷ x) [] (c ∷ z) e = absurd (omega arith)
-weighted-subtract f (a ∷ x) (b ∷ y) [] e = absurd (omega arith)
-weighted-subtract f (a ∷ x) (b ∷ y) (c ∷ z) e =
-    ap (λ q. pos (f 0) *ℤ (a *ℤ (b -ℤ c)) +ℤ q) (weighted-subtract (rest f) x y z (omega arith))
-    ∙ solve (pos (f 0) ∷ a ∷ b ∷ c ∷ weighted (rest f) x y ∷ weighted (rest f) x z ∷ [])
+weighted-subtract [] x y z e = refl
+weighted-subtract (f ∷ fs) [] y z e = refl
+weighted-subtract (f ∷ fs) (a ∷ x) [] [] e = refl
+weighted-subtract (f ∷ fs) (a ∷ x) [] (c ∷ z) e = absurd (omega arith)
+weighted-subtract (f ∷ fs) (a ∷ x) (b ∷ y) [] e = absurd (omega arith)
+weighted-subtract (f ∷ fs) (a ∷ x) (b ∷ y) (c ∷ z) e =
+    ap (λ q. pos f *ℤ (a *ℤ (b -ℤ c)) +ℤ q) (weighted-subtract fs x y z (omega arith))
+    ∙ solve (pos f ∷ a ∷ b ∷ c ∷ weighted fs x y ∷ weighted fs x z ∷ [])
     (x₀ ⊗ (x₁ ⊗ (x₂ ⊝ x₃)) ⊕ (x₄ ⊝ x₅)) (x₀ ⊗ (x₁ ⊗ x₂) ⊕ x₄ ⊝ (x₀ ⊗ (x₁ ⊗ x₃) ⊕ x₅)) tt
 
-pub weighted-scale : (f : ℕ → ℕ) (x : List ℤ) (k : ℕ) (y : List ℤ) → weighted f x (scale k y) ≡ pos k *ℤ weighted f x y
+pub weighted-scale : (fs : List ℕ) (x : List ℤ) (k : ℕ) (y : List ℤ) → weighted fs x (scale k y) ≡ pos k *ℤ weighted fs x y
 unfolding weighted scale
-weighted-scale f [] k y = solve (pos k ∷ []) O (x₀ ⊗ O) tt
-weighted-scale f (a ∷ x) k [] = solve (pos k ∷ []) O (x₀ ⊗ O) tt
-weighted-scale f (a ∷ x) k (b ∷ y) =
-    ap (λ q. pos (f 0) *ℤ (a *ℤ (pos k *ℤ b)) +ℤ q) (weighted-scale (rest f) x k y)
-    ∙ solve (pos (f 0) ∷ a ∷ pos k ∷ b ∷ weighted (rest f) x y ∷ []) (x₀ ⊗ (x₁ ⊗ (x₂ ⊗ x₃)) ⊕ x₂ ⊗ x₄) (x₂ ⊗ (x₀ ⊗ (x₁ ⊗ x₃) ⊕ x₄)) tt
+weighted-scale [] x k y = solve (pos k ∷ []) O (x₀ ⊗ O) tt
+weighted-scale (f ∷ fs) [] k y = solve (pos k ∷ []) O (x₀ ⊗ O) tt
+weighted-scale (f ∷ fs) (a ∷ x) k [] = solve (pos k ∷ []) O (x₀ ⊗ O) tt
+weighted-scale (f ∷ fs) (a ∷ x) k (b ∷ y) =
+    ap (λ q. pos f *ℤ (a *ℤ (pos k *ℤ b)) +ℤ q) (weighted-scale fs x k y)
+    ∙ solve (pos f ∷ a ∷ pos k ∷ b ∷ weighted fs x y ∷ []) (x₀ ⊗ (x₁ ⊗ (x₂ ⊗ x₃)) ⊕ x₂ ⊗ x₄) (x₂ ⊗ (x₀ ⊗ (x₁ ⊗ x₃) ⊕ x₄)) tt
 
-pub weighted-zero : (f : ℕ → ℕ) (x : List ℤ) (c : ℕ) → weighted f x (replicate c (pos 0)) ≡ pos 0
+pub weighted-zero : (fs : List ℕ) (x : List ℤ) (c : ℕ) → weighted fs x (replicate c (pos 0)) ≡ pos 0
 unfolding weighted
-weighted-zero f [] c = refl
-weighted-zero f (a ∷ x) zero = refl
-weighted-zero f (a ∷ x) (suc c) = ap (λ q. pos (f 0) *ℤ (a *ℤ pos 0) +ℤ q) (weighted-zero (rest f) x c) ∙ solve (pos (f 0) ∷ a ∷ []) (x₀ ⊗ (x₁ ⊗ O) ⊕ O) O tt
-
-pub inner-add : (x y z : List ℤ) → length y ≡ length z → inner x (add y z) ≡ inner x y +ℤ inner x z
-inner-add x y z e = simp inner-is (weighted-add (λ j. 1) x y z e)
-
-pub inner-subtract : (x y z : List ℤ) → length y ≡ length z → inner x (subtract y z) ≡ inner x y -ℤ inner x z
-inner-subtract x y z e = simp inner-is (weighted-subtract (λ j. 1) x y z e)
-
-pub inner-scale : (x : List ℤ) (k : ℕ) (y : List ℤ) → inner x (scale k y) ≡ pos k *ℤ inner x y
-inner-scale x k y = simp inner-is (weighted-scale (λ j. 1) x k y)
-
-pub inner-zero : (x : List ℤ) (c : ℕ) → inner x (replicate c (pos 0)) ≡ pos 0
-inner-zero x c = simp inner-is (weighted-zero (λ j. 1) x c)
+weighted-zero [] x c = refl
+weighted-zero (f ∷ fs) [] c = refl
+weighted-zero (f ∷ fs) (a ∷ x) zero = refl
+weighted-zero (f ∷ fs) (a ∷ x) (suc c) = ap (λ q. pos f *ℤ (a *ℤ pos 0) +ℤ q) (weighted-zero fs x c) ∙ solve (pos f ∷ a ∷ []) (x₀ ⊗ (x₁ ⊗ O) ⊕ O) O tt
 
 -- ---- Lengths
 
@@ -195,11 +188,11 @@ add-zero (suc c) (a ∷ v) e = ap₂ _∷_ (solve (a ∷ []) (O ⊗ x₀ ⊕ O) 
 
 -- ---- What the theorem asks of vectors, by lists of one length
 
-pub plus-is : (y : List ℤ) (k : ℕ) (s : List ℤ) → length y ≡ length s → Plus plain y (pos k) s (add y (scale k s))
-plus-is y k s e = record { along = λ x. inner-add x y (scale k s) (e ∙ sym (length-scale k s)) ∙ ap (λ q. inner x y +ℤ q) (inner-scale x k s) }
+pub plus-is : (fs : List ℕ) (y : List ℤ) (k : ℕ) (s : List ℤ) → length y ≡ length s → Plus (factored fs) y (pos k) s (add y (scale k s))
+plus-is fs y k s e = record { along = λ x. weighted-add fs x y (scale k s) (e ∙ sym (length-scale k s)) ∙ ap (λ q. weighted fs x y +ℤ q) (weighted-scale fs x k s) }
 
-pub residual-is : (y : List ℤ) (w : ℕ) (u : List ℤ) → length y ≡ length u → Residual plain y (pos w) u (subtract y (scale w u))
-residual-is y w u e = record { along = λ x. inner-subtract x y (scale w u) (e ∙ sym (length-scale w u)) ∙ ap (λ q. inner x y -ℤ q) (inner-scale x w u) }
+pub residual-is : (fs : List ℕ) (y : List ℤ) (w : ℕ) (u : List ℤ) → length y ≡ length u → Residual (factored fs) y (pos w) u (subtract y (scale w u))
+residual-is fs y w u e = record { along = λ x. weighted-subtract fs x y (scale w u) (e ∙ sym (length-scale w u)) ∙ ap (λ q. weighted fs x y -ℤ q) (weighted-scale fs x w u) }
 
 -- every row has so many columns
 pub record Wide (c : ℕ) (vs : List (List ℤ)) : Type 0 where
@@ -243,32 +236,33 @@ combination-set c (q ∷ qs) (v ∷ vs) zero k e h = scale-more q k v (combinati
 combination-set c (q ∷ qs) (v ∷ vs) (suc i) k e h =
     add-associative (scale q v) (combination c qs vs) (scale k (getD vs i [])) ∙ ap (add (scale q v)) (combination-set c qs vs i k (omega arith) (omega arith))
 
-mixture-among : (rs : List (List ℤ)) (c : ℕ) (qs : List ℕ) (vs : List (List ℤ)) → length qs ≡ length vs → Wide c vs → ((v : List ℤ) → Among vs v → Among rs v) →
-    Mixture plain (Among rs) (sum qs) (combination c qs vs)
+mixture-among : (fs : List ℕ) (rs : List (List ℤ)) (c : ℕ) (qs : List ℕ) (vs : List (List ℤ)) → length qs ≡ length vs → Wide c vs → ((v : List ℤ) → Among vs v → Among rs v) →
+    Mixture (factored fs) (Among rs) (sum qs) (combination c qs vs)
 unfolding sum combination
-mixture-among rs c [] vs e w f = none (record { along = λ x. inner-zero x c })
-mixture-among rs c (q ∷ qs) [] e w f = absurd (omega arith)
-mixture-among rs c (q ∷ qs) (v ∷ vs) e w f =
+mixture-among fs rs c [] vs e w f = none (record { along = λ x. weighted-zero fs x c })
+mixture-among fs rs c (q ∷ qs) [] e w f = absurd (omega arith)
+mixture-among fs rs c (q ∷ qs) (v ∷ vs) e w f =
     rw (add-comm q (sum qs))
-    (more (mixture-among rs c qs vs (omega arith) (wide-rest w) (λ v a. f v (there a))) (f v here)
+    (more (mixture-among fs rs c qs vs (omega arith) (wide-rest w) (λ v a. f v (there a))) (f v here)
     (record {
       along = λ x.
-          inner-add x (scale q v) (combination c qs vs) (length-scale q v ∙ w .each v here ∙ sym (length-combination c qs vs (wide-rest w)))
-          ∙ ap (λ p. p +ℤ inner x (combination c qs vs)) (inner-scale x q v)
-          ∙ solve (pos q ∷ inner x v ∷ inner x (combination c qs vs) ∷ []) (x₀ ⊗ x₁ ⊕ x₂) (x₂ ⊕ x₀ ⊗ x₁) tt;
+          weighted-add fs x (scale q v) (combination c qs vs) (length-scale q v ∙ w .each v here ∙ sym (length-combination c qs vs (wide-rest w)))
+          ∙ ap (λ p. p +ℤ weighted fs x (combination c qs vs)) (weighted-scale fs x q v)
+          ∙ solve (pos q ∷ weighted fs x v ∷ weighted fs x (combination c qs vs) ∷ []) (x₀ ⊗ x₁ ⊕ x₂) (x₂ ⊕ x₀ ⊗ x₁) tt;
     }))
 
 -- a list of shares, one a row, is a mixture of the rows
-pub mixture-is : (c : ℕ) (qs : List ℕ) (vs : List (List ℤ)) → length qs ≡ length vs → Wide c vs → Mixture plain (Among vs) (sum qs) (combination c qs vs)
-mixture-is c qs vs e w = mixture-among vs c qs vs e w (λ v a. a)
+pub mixture-is : (fs : List ℕ) (c : ℕ) (qs : List ℕ) (vs : List (List ℤ)) → length qs ≡ length vs → Wide c vs → Mixture (factored fs) (Among vs) (sum qs) (combination c qs vs)
+mixture-is fs c qs vs e w = mixture-among fs vs c qs vs e w (λ v a. a)
 
-pub compared-is : (c : ℕ) (u : List ℤ) (qs : List ℕ) (vs : List (List ℤ)) → length u ≡ c → length qs ≡ length vs → Wide c vs →
-    Compared plain (Among vs) u (sum qs) (combination c qs vs) (subtract (combination c qs vs) (scale (sum qs) u))
-compared-is c u qs vs hu e w =
-    record { mixture = mixture-is c qs vs e w; residual = residual-is (combination c qs vs) (sum qs) u (length-combination c qs vs w ∙ sym hu) }
+pub compared-is : (fs : List ℕ) (c : ℕ) (u : List ℤ) (qs : List ℕ) (vs : List (List ℤ)) → length u ≡ c → length qs ≡ length vs → Wide c vs →
+    Compared (factored fs) (Among vs) u (sum qs) (combination c qs vs) (subtract (combination c qs vs) (scale (sum qs) u))
+compared-is fs c u qs vs hu e w =
+    record { mixture = mixture-is fs c qs vs e w; residual = residual-is fs (combination c qs vs) (sum qs) u (length-combination c qs vs w ∙ sym hu) }
 
-pub norm-inner : (x : List ℤ) → pos (squared-norm x) ≡ inner x x
-unfolding squared-norm inner
-norm-inner [] = refl
-norm-inner (pos n ∷ x) = ap (λ p. pos (n * n) +ℤ p) (norm-inner x)
-norm-inner (negsuc n ∷ x) = ap (λ p. pos (suc n * suc n) +ℤ p) (norm-inner x)
+pub norm-weighted : (fs : List ℕ) (x : List ℤ) → pos (weighted-norm fs x) ≡ weighted fs x x
+unfolding weighted-norm weighted
+norm-weighted [] x = refl
+norm-weighted (f ∷ fs) [] = refl
+norm-weighted (f ∷ fs) (pos n ∷ x) = ap (λ p. pos (f * (n * n)) +ℤ p) (norm-weighted fs x)
+norm-weighted (f ∷ fs) (negsuc n ∷ x) = ap (λ p. pos (f * (suc n * suc n)) +ℤ p) (norm-weighted fs x)

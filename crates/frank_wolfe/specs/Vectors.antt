@@ -1,7 +1,7 @@
 -- Lists of integers as vectors: sums, multiples, inner products, mixtures of rows. Definitions only. Assumes nothing.
 -- Where two lists differ in length, what lies past the end of the shorter one counts for nothing.
 use mathlib.Core.List.{List, [], _∷_}
-use Prim.Native.Nat.{ℕ, suc, _+_, _*_}
+use Prim.Native.Nat.{ℕ, _+_, _*_}
 use lib.IntN.{ℤ, pos, natAbs, _+ℤ_, _-ℤ_, _*ℤ_}
 use lib.ListN.{replicate}
 
@@ -25,11 +25,22 @@ inner [] ys = pos 0
 inner (x ∷ xs) [] = pos 0
 inner (x ∷ xs) (y ∷ ys) = x *ℤ y +ℤ inner xs ys
 
--- the sum over the columns j of f j times the product
-unfoldable pub weighted : (f : ℕ → ℕ) → List ℤ → List ℤ → ℤ
-weighted f [] ys = pos 0
-weighted f (x ∷ xs) [] = pos 0
-weighted f (x ∷ xs) (y ∷ ys) = pos (f 0) *ℤ (x *ℤ y) +ℤ weighted (λ j. f (suc j)) xs ys
+-- the sum over the columns of factor times product
+unfoldable pub weighted : (factors : List ℕ) → List ℤ → List ℤ → ℤ
+weighted [] xs ys = pos 0
+weighted (f ∷ fs) [] ys = pos 0
+weighted (f ∷ fs) (x ∷ xs) [] = pos 0
+weighted (f ∷ fs) (x ∷ xs) (y ∷ ys) = pos f *ℤ (x *ℤ y) +ℤ weighted fs xs ys
+
+-- the sum over the columns of factor times square
+unfoldable pub weighted-norm : (factors : List ℕ) → List ℤ → ℕ
+weighted-norm [] xs = 0
+weighted-norm (f ∷ fs) [] = 0
+weighted-norm (f ∷ fs) (x ∷ xs) = f * (natAbs x * natAbs x) + weighted-norm fs xs
+
+-- every factor 1
+abbrev pub ones : (columns : ℕ) → List ℕ
+ones c = replicate c 1
 
 -- the sum of the squares
 unfoldable pub squared-norm : List ℤ → ℕ

@@ -10,7 +10,8 @@ use Rattle.files.specs.Book.{boats, columns, rows}
 use Rattle.files.specs.Sheet.{sheet, files-refusal}
 use Rattle.frank_wolfe.specs.Vectors.{add, subtract, scale}
 use Rattle.method.specs.declared.Answer.{Answer}
-use Rattle.method.specs.Iterates.{weight, argmin, residual}
+use Rattle.method.specs.Problem.{problem, weight}
+use Rattle.method.specs.Iterates.{argmin, residual}
 use Rattle.method.specs.Answers.{answer-at}
 use Rattle.method.proofs.Accepted.{residual-length}
 use Rattle.sums.specs.Operands.{Span, Movable}
@@ -52,13 +53,13 @@ module _ (b s : List ℕ) (ok : files-refusal b s ≡ 0) {i : ℕ} (h : i ≡ ar
       unfolding file-layout fresh-state
       held =
           next-holds b s ok fresh-held
-          (rw picks (moved-is b s ok (residual (sheet s .target) 0 (iterate-of b s 0)) (replicate (64 - columns b) (pos 0)) i 1 pick-below (residual-length b s ok 0) (fresh-held .residual-is) (rw e at er)))
+          (rw picks (moved-is b s ok (residual (problem b s) 0 (iterate-of b s 0)) (replicate (64 - columns b) (pos 0)) i 1 pick-below (residual-length b s ok 0) (fresh-held .residual-is) (rw e at er)))
           (ep ∙ ap least-of (rw picks at (first-scores b s ok fresh-held))) ez
 
       pub first-measurable : Measurable r 1 z s l
       unfolding weight
       first-measurable = answerable b s ok held (omega arith) e .numbers
 
-      pub first-right : {a : Answer} → a ≡ measure 1 1 (sheet s .tolerance) (take (l .columns) r) (values (l .columns) (drop (l .target) s)) z → a ≡ answer-at (rows b) (sheet s) 1 (iterate-of b s 1)
+      pub first-right : {a : Answer} → a ≡ measure 1 1 (sheet s .tolerance) (take (l .columns) r) (values (l .columns) (drop (l .target) s)) z → a ≡ answer-at (problem b s) 1 (iterate-of b s 1)
       unfolding weight
       first-right f = f ∙ answer-right b s ok held (omega arith) e

@@ -14,14 +14,15 @@ use Rattle.files.specs.Sheet.{sheet, target-offset, files-refusal}
 use Rattle.files.specs.Fits.{Book-fits, Sheet-fits}
 use Rattle.files.proofs.Accepted.{files-accepted}
 use Rattle.files.proofs.Access.{rows-at, row-at, target-at}
-use Rattle.frank_wolfe.specs.Vectors.{add, subtract, scale, inner}
-use Rattle.frank_wolfe.proofs.Vectors.{plain, length-scale, length-subtract, inner-add, inner-scale, inner-zero, scale-one}
+use Rattle.frank_wolfe.specs.Vectors.{add, subtract, scale, weighted, ones, sum}
+use Rattle.frank_wolfe.proofs.Vectors.{length-scale, length-subtract, weighted-symmetric, weighted-add, weighted-scale, weighted-zero, scale-one}
+use Rattle.method.specs.Problem.{problem, share}
 use Rattle.method.specs.Iterates as M
-use Rattle.method.specs.Iterates.{iterate, direction, step, start, argmin, row, residual}
+use Rattle.method.specs.Iterates.{iterate, direction, pick, with-shares, step, start, argmin, row, residual}
 use Rattle.method.proofs.Argmin.{argmin-below, among-row, score-at, length-scores}
 use Rattle.method.proofs.Entries as E
 use Rattle.method.proofs.Shares.{residual-step, residual-start}
-use Rattle.method.proofs.Accepted.{in-range, residual-length}
+use Rattle.method.proofs.Accepted.{in-range, few-ones, residual-length}
 use Rattle.sums.specs.Operands.{Bounded, Span, Grid, Movable, Rows-bounded, Rescorable}
 use Rattle.scoring.specs.Scores.{least-of}
 use Rattle.scoring.specs.declared.Least.{Least}
@@ -30,19 +31,19 @@ use Rattle.iteration.specs.States.{iterate-of, scores-of, boat-differenc
 
 -- ---- Scores are linear in the vector that they are taken with
 
-pub scores-zero : (c : ℕ) (rs : List (List ℤ)) → M.scores (replicate c (pos 0)) rs ≡ replicate (length rs) (pos 0)
+pub scores-zero : (fs : List ℕ) (c : ℕ) (rs : List (List ℤ)) → M.scores fs (replicate c (pos 0)) rs ≡ replicate (length rs) (pos 0)
 unfolding M.scores
-scores-zero c [] = refl
-scores-zero c (v ∷ rs) = ap₂ (λ p q. p ∷ q) (plain .symmetric (replicate c (pos 0)) v ∙ inner-zero v c) (scores-zero c rs)
+scores-zero fs c [] = refl
+scores-zero fs c (v ∷ rs) = ap₂ (λ p q. p ∷ q) (weighted-symmetric fs (replicate c (pos 0)) v ∙ weighted-zero fs v c) (scores-zero fs c rs)
 
-scores-add : (r d : List ℤ) (k : ℕ) (rs : List (List ℤ)) → length r ≡ length d → M.scores (add r (scale k d)) rs ≡ add (M.scores r rs) (scale k (M.scores d rs))
+scores-add : (fs : List ℕ) (r d : List ℤ) (k : ℕ) (rs : List (List ℤ)) → length r ≡ length d → M.scores fs (add r (scale k d)) rs ≡ add (M.scores fs r rs) (scale k (M.scores fs d rs))
 unfolding M.scores add scale
-scores-add r d k [] e = refl
-scores-add r d k (v ∷ rs) e =
+scores-add fs r d k [] e = refl
+scores-add fs r d k (v ∷ rs) e =
     ap₂ (λ p q. p ∷ q)
-    (plain .symmetric (add r (scale k d)) v ∙ inner-add v r (scale k d) (e ∙ sym (length-scale k d))
-    ∙ ap₂ (λ p q. p +ℤ q) (plain .symmetric v r) (inner-scale v k d ∙ ap (λ p. pos k *ℤ p) (plain .symmetric v d)))
-    (scores-add r d k rs e)
+    (weighted-symmetric fs (add r (scale k d)) v ∙ weighted-add fs v r (scale k d) (e ∙ sym (length-scale k d))
+    ∙ ap₂ (λ p q. p +ℤ q) (weighted-symmetric fs v r) (weighted-scale fs v k d ∙ ap (λ p. pos k *ℤ p) (weighted-symmetric fs v d)))
+    (scores-add fs r d k rs e)
 
 pub zeros-add : (n : ℕ) (ps : List ℤ) → length ps ≡ n → add (replicate n (pos 0)) ps ≡ ps
 unfolding add
@@ -113,6 +114,7 @@ module _ (b s : List ℕ) (ok : files-refusal b s ≡ 0) where
   -- ---- Products
 
   difference-bounded : (i : ℕ) → i < boats b → (j : ℕ) → natAbs (getD (subtract (row (rows b) i) (sheet s .target)) j (pos 0)) ≤ 4000
+  unfolding problem
   difference-bounded i h =
       E.bounded-subtract (in-range b s ok .rows-bounded (row (rows b) i) (among-row (rows b) i (omega (arith, book-fits .row-count)))) (in-range b s ok .target-bounded) .each
 
@@ -137,18 +139,19 @@ module _ (b s : List ℕ) (ok : files-refusal b s ≡ 0) where
   unfolding row
   rows-bounded = rw (← rows-at b) (record { each-row = λ i h. row-bounded i (omega (arith, book-fits .row-count)) })
 
-  pub products-are : (i : ℕ) (d : List ℤ) → take (columns b) d ≡ boat-difference b s i → M.scores (take (columns b) d) (rows-from (boats b) (columns b) (drop (rows-offset b) b)) ≡ boat-products b s i
+  pub products-are : (i : ℕ) (d : List ℤ) → take (columns b) d ≡ boat-difference b s i → M.scores (ones (columns b)) (take (columns b) d) (rows-from (boats b) (columns b) (drop (rows-offset b) b)) ≡ boat-products b s i
   products-are i d e = rw (e, ← rows-at b)
 
   pub product-count : (i : ℕ) → length (boat-products b s i) ≡ boats b
-  product-count i = length-scores (subtract (row (rows b) i) (sheet s .target)) (rows b) ∙ book-fits .row-count
+  product-count i = length-scores (ones (columns b)) (subtract (row (rows b) i) (sheet s .target)) (rows b) ∙ book-fits .row-count
 
   product-size : (i : ℕ) → i < boats b → (q : ℕ) → q < boats b → natAbs (getD (boat-products b s i) q (pos 0)) ≤ 512000000
+  unfolding problem
   product-size i h q k =
       let f = in-range b s ok in
-      let m : natAbs (inner (subtract (row (rows b) i) (sheet s .target)) (row (rows b) q)) ≤ length (subtract (row (rows b) i) (sheet s .target)) * (4000 * 2000) =
-      E.inner-bound 4000 2000 (subtract (row (rows b) i) (sheet s .target)) (row (rows b) q) (record { each = difference-bounded i h }) (f .rows-bounded _ (among-row (rows b) q (omega (arith, book-fits .row-count)))) in
-      rw (score-at (subtract (row (rows b) i) (sheet s .target)) (rows b) q) (omega (arith, m, length-difference i h, book-fits .most-columns))
+      let m : natAbs (weighted (ones (columns b)) (subtract (row (rows b) i) (sheet s .target)) (row (rows b) q)) ≤ sum (ones (columns b)) * (4000 * 2000) =
+      E.weighted-bound (ones (columns b)) 4000 2000 (subtract (row (rows b) i) (sheet s .target)) (row (rows b) q) (record { each = difference-bounded i h }) (f .rows-bounded _ (among-row (rows b) q (omega (arith, book-fits .row-count)))) in
+      rw (score-at (ones (columns b)) (subtract (row (rows b) i) (sheet s .target)) (rows b) q) (omega (arith, m, few-ones b s ok))
 
   -- scores of at most 512,000,000 × 64,980, moved by k times a boat's products
   pub rescorable : (k i : ℕ) {sc ps : List ℤ} → i < boats b → boats b ≤ length sc → boats b ≤ length ps → take (boats b) ps ≡ boat-products b s i → k ≤ 64980 →
@@ -168,9 +171,9 @@ module _ (b s : List ℕ) (ok : files-refusal b s ≡ 0) where
   -- ---- The fresh state
 
   pub fresh-holds : {p : Least} → p ≡ least-of (boat-products b s 0) → Holds b s 0 (fresh-state p)
-  unfolding iterate start direction least-of fresh-state
+  unfolding problem iterate start direction least-of fresh-state
   fresh-holds e =
-      let z : residual (sheet s .target) 0 (start (rows b) (columns b)) ≡ replicate (columns b) (pos 0) = residual-start (rows b) (sheet s .target) (columns b) (sheet-fits .target-length) in
+      let z : residual (problem b s) 0 (start (problem b s)) ≡ replicate (columns b) (pos 0) = residual-start (problem b s) (sheet-fits .target-length) in
       record {
         steps-are = refl;
         residual-is = rw z (replicate-parts (columns b) 64 (pos 0) (book-fits .most-columns));
@@ -181,42 +184,42 @@ module _ (b s : List ℕ) (ok : files-refusal b s ≡ 0) where
   -- ---- The next state
 
   pub best-below : {t : ℕ} {x : State} → Holds b s t x → x .best < boats b
-  best-below {t} H = rw (H .best-is) (rw (book-fits .row-count) at (argmin-below (direction (rows b) (sheet s .target) t (iterate-of b s t)) (rows b) (omega (arith, book-fits .row-count, book-fits .some-boats))))
+  best-below {t} H = rw (H .best-is) (rw (book-fits .row-count) at (argmin-below (ones (columns b)) (direction (problem b s) t (iterate-of b s t)) (rows b) (omega (arith, book-fits .row-count, book-fits .some-boats))))
 
   pub next-holds : {t : ℕ} {x : State} → Holds b s t x → {r : List ℤ} →
-      r ≡ add (residual (sheet s .target) t (iterate-of b s t)) (scale (suc t) (subtract (row (rows b) (x .best)) (sheet s .target))) ++ replicate (64 - columns b) (pos 0) →
+      r ≡ add (residual (problem b s) t (iterate-of b s t)) (scale (suc t) (subtract (row (rows b) (x .best)) (sheet s .target))) ++ replicate (64 - columns b) (pos 0) →
       {p : Least} → p ≡ least-of (scores-of b s (suc t)) → {z : ℤ} → z ≡ p .score → Holds b s (suc t) (record { steps = suc t; residual = r; best = p .boat; least = z })
-  unfolding iterate least-of
+  unfolding problem share pick iterate least-of
   next-holds {t} {x} H e ep ez =
       record {
         steps-are = refl;
         residual-is = e ∙ rw (H .best-is) (ap (λ (l : List ℤ). l ++ replicate (64 - columns b) (pos 0))
-            (sym (residual-step (rows b) (sheet s .target) t (direction (rows b) (sheet s .target) t (iterate-of b s t)) (iterate-of b s t))));
+            (sym (residual-step (problem b s) t (direction (problem b s) t (iterate-of b s t)) (iterate-of b s t))));
         best-is = ap (λ (y : Least). y .boat) ep;
         least-is = ez ∙ ap (λ (y : Least). y .score) ep;
       }
 
   -- the shares of the next iterate
   pub next-shares : {t : ℕ} {x : State} → Holds b s t x → set (iterate-of b s t .shares) (x .best) (getD (iterate-of b s t .shares) (x .best) 0 + suc t) ≡ iterate-of b s (suc t) .shares
-  unfolding iterate step
+  unfolding problem share pick iterate step with-shares
   next-shares H = rw (H .best-is)
 
   -- the scores move with the residual
   pub next-scores : {t : ℕ} {x : State} → Holds b s t x →
-      add (M.scores (residual (sheet s .target) t (iterate-of b s t)) (rows b)) (scale (suc t) (boat-products b s (x .best))) ≡ scores-of b s (suc t)
-  unfolding iterate direction
+      add (M.scores (ones (columns b)) (residual (problem b s) t (iterate-of b s t)) (rows b)) (scale (suc t) (boat-products b s (x .best))) ≡ scores-of b s (suc t)
+  unfolding problem share pick iterate direction
   next-scores {t} {x} H =
       rw (H .best-is)
-      (sym (scores-add (residual (sheet s .target) t (iterate-of b s t)) (subtract (row (rows b) (argmin (scores-of b s t))) (sheet s .target)) (suc t) (rows b)
+      (sym (scores-add (ones (columns b)) (residual (problem b s) t (iterate-of b s t)) (subtract (row (rows b) (argmin (scores-of b s t))) (sheet s .target)) (suc t) (rows b)
       (residual-length b s ok t ∙ sym (length-difference (argmin (scores-of b s t)) (rw (H .best-is) at (best-below H)))))
-      ∙ ap (λ r. M.scores r (rows b)) (sym (residual-step (rows b) (sheet s .target) t (direction (rows b) (sheet s .target) t (iterate-of b s t)) (iterate-of b s t))))
+      ∙ ap (λ r. M.scores (ones (columns b)) r (rows b)) (sym (residual-step (problem b s) t (direction (problem b s) t (iterate-of b s t)) (iterate-of b s t))))
 
   -- at the first step they are the boat's products
   pub first-scores : {x : State} → Holds b s 0 x → boat-products b s (x .best) ≡ scores-of b s 1
-  unfolding iterate start
+  unfolding problem iterate start
   first-scores {x} H =
-      let z : M.scores (residual (sheet s .target) 0 (iterate-of b s 0)) (rows b) ≡ replicate (boats b) (pos 0) =
-      rw (residual-start (rows b) (sheet s .target) (columns b) (sheet-fits .target-length), scores-zero (columns b) (rows b), book-fits .row-count) in
+      let z : M.scores (ones (columns b)) (residual (problem b s) 0 (iterate-of b s 0)) (rows b) ≡ replicate (boats b) (pos 0) =
+      rw (residual-start (problem b s) (sheet-fits .target-length), scores-zero (ones (columns b)) (columns b) (rows b), book-fits .row-count) in
       let a : add (replicate (boats b) (pos 0)) (scale 1 (boat-products b s (x .best))) ≡ boat-products b s (x .best) =
       rw (scale-one (boat-products b s (x .best))) (zeros-add (boats b) (boat-products b s (x .best)) (product-count (x .best))) in
       sym a ∙ rw (← z) (next-scores H)

@@ -11,11 +11,12 @@ use mir.Syntax.{w64}
 use mir.Val.{Fits}
 use Rattle.files.specs.Bytes.{values}
 use Rattle.files.specs.Book.{boats, columns, rows, rows-from}
-use Rattle.files.specs.Sheet.{sheet, files-refusal}
-use Rattle.frank_wolfe.specs.Vectors.{add, subtract, scale}
+use Rattle.files.specs.Sheet.{files-refusal}
+use Rattle.frank_wolfe.specs.Vectors.{add, subtract, scale, ones}
+use Rattle.method.specs.Problem.{fixed, problem, weight}
 use Rattle.method.specs.Iterates as M
-use Rattle.method.specs.Iterates.{weight, residual}
-use Rattle.method.proofs.Weights.{weight-most, weight-suc}
+use Rattle.method.specs.Iterates.{residual}
+use Rattle.method.proofs.Weights.{weight-most, weight-more}
 use Rattle.method.proofs.Accepted.{residual-entries, residual-length}
 use Rattle.sums.specs.Operands.{Bounded, Span, Grid, Movable, Rows-bounded}
 use Rattle.scoring.specs.Scores.{least-of}
@@ -61,16 +62,16 @@ module _ (b s : List ℕ) (ok : files-refusal b s ≡ 0) {l : Layout} (e : l ≡
       unfolding file-layout
       products-asks n = rw e (grid b s ok, (difference-front b s ok i h d n front, rows-bounded b s ok))
 
-      products-right : M.scores (take (l .columns) d) (rows-from (l .boats) (l .columns) (drop (l .rows) b)) ≡ boat-products b s i
+      products-right : M.scores (ones (l .columns)) (take (l .columns) d) (rows-from (l .boats) (l .columns) (drop (l .rows) b)) ≡ boat-products b s i
       unfolding file-layout
       products-right = rw e (products-are b s ok i d front)
 
-      pub slots-right : (old : List ℤ) {new : List ℤ} → new ≡ M.scores (take (l .columns) d) (rows-from (l .boats) (l .columns) (drop (l .rows) b)) ++ drop (l .boats) old →
+      pub slots-right : (old : List ℤ) {new : List ℤ} → new ≡ M.scores (ones (l .columns)) (take (l .columns) d) (rows-from (l .boats) (l .columns) (drop (l .rows) b)) ++ drop (l .boats) old →
           new ≡ boat-products b s i ++ drop (boats b) old
       unfolding file-layout
       slots-right old f = f ∙ rw products-right (ap (λ (n : ℕ). boat-products b s i ++ drop n old) (ap (λ (x : Layout). x .boats) e))
 
-      pub least-right : {x : Least} → x ≡ least-of (M.scores (take (l .columns) d) (rows-from (l .boats) (l .columns) (drop (l .rows) b))) → x ≡ least-of (boat-products b s i)
+      pub least-right : {x : Least} → x ≡ least-of (M.scores (ones (l .columns)) (take (l .columns) d) (rows-from (l .boats) (l .columns) (drop (l .rows) b))) → x ≡ least-of (boat-products b s i)
       least-right f = f ∙ ap least-of products-right
 
   pub slots-enough : {n : ℕ} → boats b ≤ n → l .boats ≤ n
@@ -80,12 +81,12 @@ module _ (b s : List ℕ) (ok : files-refusal b s ≡ 0) {l : Layout} (e : l ≡
   -- ---- next
 
   module _ {x : State} (H : Holds b s (x .steps) x) (few : x .steps < 360) where
-    next-weight : weight (suc (x .steps)) ≤ 64980
+    next-weight : weight fixed (suc (x .steps)) ≤ 64980
     next-weight = weight-most (omega arith)
 
-    old-entry : (j : ℕ) → j < columns b → natAbs (getD (x .residual) j (pos 0)) ≤ 4000 * weight (x .steps)
+    old-entry : (j : ℕ) → j < columns b → natAbs (getD (x .residual) j (pos 0)) ≤ 4000 * weight fixed (x .steps)
     old-entry j h =
-        let f : take (columns b) (x .residual) ≡ residual (sheet s .target) (x .steps) (iterate-of b s (x .steps)) =
+        let f : take (columns b) (x .residual) ≡ residual (problem b s) (x .steps) (iterate-of b s (x .steps)) =
         ap (take (columns b)) (H .residual-is) ∙ take-at _ (replicate (64 - columns b) (pos 0)) (columns b) (residual-length b s ok (x .steps)) in
         rw (← getD-take (columns b) (x .residual) j (pos 0) h, f) (residual-entries b s ok (x .steps) j)
 
@@ -98,7 +99,7 @@ module _ (b s : List ℕ) (ok : files-refusal b s ≡ 0) {l : Layout} (e : l ≡
           (
             target-span b s ok,
             movable b s ok (x .residual) (x .best) (x .steps + 1) (best-below b s ok H) (omega arith)
-                (λ j h. omega (arith, old-entry j h, next-weight, weight-suc (x .steps))),
+                (λ j h. omega (arith, old-entry j h, next-weight, weight-more (x .steps))),
           ),
         )
 
@@ -110,6 +111,6 @@ module _ (b s : List ℕ) (ok : files-refusal b s ≡ 0) {l : Layout} (e : l ≡
     next-result er ep ez =
         rw add-one
         (next-holds b s ok H
-        (moved-is b s ok (residual (sheet s .target) (x .steps) (iterate-of b s (x .steps))) (replicate (64 - columns b) (pos 0)) (x .best) (suc (x .steps)) (best-below b s ok H)
+        (moved-is b s ok (residual (problem b s) (x .steps) (iterate-of b s (x .steps))) (replicate (64 - columns b) (pos 0)) (x .best) (suc (x .steps)) (best-below b s ok H)
         (residual-length b s ok (x .steps)) (H .residual-is) (rw (e, add-one) at er))
         (rw add-one at ep) ez)

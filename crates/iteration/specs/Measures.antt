@@ -6,7 +6,8 @@ use lib.IntN.{ℤ, pos, _+ℤ_, _-ℤ_, _*ℤ_}
 use Rattle.files.specs.Bytes.{values}
 use Rattle.files.specs.Sheet.{sheet}
 use Rattle.frank_wolfe.specs.Vectors.{inner, squared-norm}
-use Rattle.method.specs.Iterates.{natural, weight}
+use Rattle.method.specs.Problem.{fixed, weight}
+use Rattle.method.specs.Iterates.{natural}
 use Rattle.method.specs.Answers.{verdict}
 use Rattle.verdicts.specs.Sizes.{Judgeable}
 use Rattle.method.specs.declared.Answer.{Answer}
@@ -39,4 +40,4 @@ pub record Measurable (r : List ℤ) (w : ℕ) (least : ℤ) (s : List ℕ) (l :
 -- what an answer asks of a state: a step count of the table, and numbers that keep to the machine's
 pub record Answerable (x : State) (s : List ℕ) (l : Layout) : Type 0 where
   pub few-steps : x .steps ≤ 360
-  pub numbers : Measurable (x .residual) (weight (x .steps)) (x .least) s l
+  pub numbers : Measurable (x .residual) (weight fixed (x .steps)) (x .least) s l

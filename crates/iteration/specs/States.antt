@@ -6,9 +6,10 @@ use lib.ListN.{getD, replicate}
 use lib.IntN.{ℤ, pos}
 use Rattle.files.specs.Book.{boats, columns, rows, rows-offset}
 use Rattle.files.specs.Sheet.{sheet, target-offset}
+use Rattle.method.specs.Problem.{problem}
 use Rattle.method.specs.Iterates as M
 use Rattle.method.specs.Iterates.{Iterate, iterate, direction, argmin, row}
-use Rattle.frank_wolfe.specs.Vectors.{subtract}
+use Rattle.frank_wolfe.specs.Vectors.{subtract, ones}
 use Rattle.scoring.specs.declared.Least.{Least}
 use Rattle.iteration.specs.declared.Layout.{Layout}
 use Rattle.iteration.specs.declared.State.{State}
@@ -18,11 +19,11 @@ file-layout b s = record { boats = boats b; columns = columns b; rows = rows-off
 
 -- the iterate of a fleet book and a sheet after t steps
 abbrev pub iterate-of : (b s : List ℕ) → (t : ℕ) → Iterate
-iterate-of b s t = iterate (rows b) (sheet s .target) (columns b) t
+iterate-of b s t = iterate (problem b s) t
 
 -- the scores that step t + 1 picks by
 abbrev pub scores-of : (b s : List ℕ) → (t : ℕ) → List ℤ
-scores-of b s t = M.scores (direction (rows b) (sheet s .target) t (iterate-of b s t)) (rows b)
+scores-of b s t = M.scores (ones (columns b)) (direction (problem b s) t (iterate-of b s t)) (rows b)
 
 -- a boat's row less the target
 abbrev pub boat-difference : (b s : List ℕ) → (boat : ℕ) → List ℤ
@@ -30,7 +31,7 @@ boat-difference b s i = subtract (row (rows b) i) (sheet s .target)
 
 -- its products with every row
 abbrev pub boat-products : (b s : List ℕ) → (boat : ℕ) → List ℤ
-boat-products b s i = M.scores (boat-difference b s i) (rows b)
+boat-products b s i = M.scores (ones (columns b)) (boat-difference b s i) (rows b)
 
 -- the state before the first step, which picks p
 unfoldable pub fresh-state : (p : Least) → State
@@ -39,6 +40,6 @@ fresh-state p = record { steps = 0; residual = replicate 64 (pos 0); best = p .b
 -- the state x holds the residual of the iterate after t steps, and the boat that the next step picks, with its score
 pub record Holds (b s : List ℕ) (t : ℕ) (x : State) : Type 0 where
   pub steps-are : x .steps ≡ t
-  pub residual-is : x .residual ≡ M.residual (sheet s .target) t (iterate-of b s t) ++ replicate (64 - columns b) (pos 0)
+  pub residual-is : x .residual ≡ M.residual (problem b s) t (iterate-of b s t) ++ replicate (64 - columns b) (pos 0)
   pub best-is : x .best ≡ argmin (scores-of b s t)
   pub least-is : x .least ≡ getD (scores-of b s t) (argmin (scores-of b s t)) (pos 0)

@@ -6,11 +6,11 @@ ghost use mathlib.Core.List.{_++_};
 ghost use Prim.Native.Nat.{_+_, _-_, _≤_, _<_};
 ghost use lib.ListN.{length, take, drop, replicate};
 ghost use lib.IntN.{pos};
-ghost use Rattle.files.specs.Book.{boats, columns, rows};
+ghost use Rattle.files.specs.Book.{boats, columns};
 ghost use Rattle.files.specs.Sheet.{files-refusal};
-ghost use Rattle.files.specs.Sheet as Sheets;
 ghost use Rattle.files.specs.Bytes.{values};
-ghost use Rattle.method.specs.Iterates.{weight, argmin};
+ghost use Rattle.method.specs.Problem.{fixed, weight, problem};
+ghost use Rattle.method.specs.Iterates.{argmin};
 ghost use Rattle.method.specs.Answers.{answer-at};
 ghost use Rattle.scoring.specs.Scores.{least-of};
 ghost use Rattle.iteration.specs.States.{file-layout, boat-difference, boat-products, iterate-of, scores-of, fresh-state, Holds};
@@ -158,7 +158,7 @@ pub fn first_answer(boat: usize, book: &[u8], sheet: &[u8], layout: Layout) -> A
     requires { ⌜ files-refusal (now book) (now sheet) ≡ 0 ⌝ }
     requires { ⌜ layout ≡ file-layout (now book) (now sheet) ⌝ }
     requires { ⌜ boat ≡ argmin (scores-of (now book) (now sheet) 0) ⌝ }
-    ensures { λ x. ⌜ x ≡ answer-at (rows (now (book .entry))) (Sheets.sheet (now (sheet .entry))) 1 (iterate-of (now (book .entry)) (now (sheet .entry)) 1) ⌝ }
+    ensures { λ x. ⌜ x ≡ answer-at (problem (now (book .entry)) (now (sheet .entry))) 1 (iterate-of (now (book .entry)) (now (sheet .entry)) 1) ⌝ }
 {
     let rows = layout.rows;
     let target = layout.target;
@@ -173,7 +173,7 @@ impl State {
     // The answer after the steps taken.
     pub fn answer(self, sheet: &[u8], layout: Layout) -> Answer
         requires { ⌜ Answerable self (now sheet) layout ⌝ }
-        ensures { λ x. ⌜ x ≡ measure (self .steps) (weight (self .steps)) (tolerance-of (now (sheet .entry))) (take (layout .columns) (self .residual)) (values (layout .columns) (drop (layout .target) (now (sheet .entry)))) (self .least) ⌝ }
+        ensures { λ x. ⌜ x ≡ measure (self .steps) (weight fixed (self .steps)) (tolerance-of (now (sheet .entry))) (take (layout .columns) (self .residual)) (values (layout .columns) (drop (layout .target) (now (sheet .entry)))) (self .least) ⌝ }
     {
         let t = self.steps;
         let r = self.residual;

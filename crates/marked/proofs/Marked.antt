@@ -4,8 +4,9 @@ use mathlib.Core.List.{List, [], _∷_, List·Memᴰ, List·Memᴰ·head, List·
 use Rattle.files.specs.Bytes.{number-bytes, same, little-endian, number, value, values, between, in-range, all-in-range, length-in-range, trailer, body, reaches, body-refusal}
 use Rattle.files.specs.Book.{boats, columns, rows-from, rows, book-refusal}
 use Rattle.files.specs.Sheet.{sheet-columns, sheet, sheet-refusal, files-refusal}
-use Rattle.frank_wolfe.specs.Vectors.{add, subtract, scale, inner, squared-norm}
-use Rattle.method.specs.Iterates.{weight, start, residual, row, direction, scores, argmin-from, argmin, step, iterate, distance, gaps, maximum-from, maximum, signed-gap, natural, gap}
+use Rattle.frank_wolfe.specs.Vectors.{add, subtract, scale, weighted, weighted-norm}
+use Rattle.method.specs.Problem.{problem, share, weight}
+use Rattle.method.specs.Iterates.{start, residual, row, direction, scores, argmin-from, argmin, pick, with-shares, step, iterate, distance, gaps, maximum-from, maximum, signed-gap, natural, gap}
 use Rattle.method.specs.Answers.{outcome, verdict, stops, answer-at, steps-from, steps-used, run-iterate, run-answer, search-refusal, slots-after}
 use Rattle.marked.specs.Marked.{value-bytes, body-bytes, book-bytes, sheet-bytes, fleet-P, fleet-origin, fleet-origin-twice, fleet-far, lent, Marked, marked-sheets, Marked-right, All-marked}
 
@@ -27,8 +28,8 @@ a and b = (a, b)
 table : Each marked-sheets
 unfolding same little-endian number value values between in-range all-in-range length-in-range trailer body reaches body-refusal
     boats columns rows-from rows book-refusal sheet-columns sheet sheet-refusal files-refusal
-    add subtract scale inner squared-norm
-    weight start residual row direction scores argmin-from argmin step iterate distance gaps maximum-from maximum signed-gap natural gap
+    add subtract scale weighted weighted-norm
+    problem share weight start residual row direction scores argmin-from argmin pick with-shares step iterate distance gaps maximum-from maximum signed-gap natural gap
     outcome verdict stops answer-at steps-from steps-used run-iterate run-answer search-refusal slots-after
     number-bytes value-bytes body-bytes book-bytes sheet-bytes fleet-P fleet-origin fleet-origin-twice fleet-far lent marked-sheets Each
 table =

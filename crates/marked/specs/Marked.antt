@@ -10,6 +10,7 @@ use Rattle.method.specs.declared.Verdict.the-variants.{Within, Beyond, Spent}
 use Rattle.files.specs.Bytes.{number-bytes}
 use Rattle.method.specs.declared.Searched.{Searched}
 use Rattle.method.specs.declared.Searched.the-variants.{Refused, Answered}
+use Rattle.method.specs.Problem.{problem}
 use Rattle.method.specs.Answers.{outcome, run-iterate, run-answer, search-refusal, slots-after}
 
 -- ---- Files
@@ -149,8 +150,8 @@ marked-sheets =
 
 -- the search's outcome is the table's, and so is the share list that it leaves
 pub record Marked-right (m : Marked) : Type 0 where
-  pub result : outcome (search-refusal (m .book) (m .sheet) (length (m .slots))) (run-answer (m .book) (m .sheet)) ≡ m .result
-  pub left : slots-after (search-refusal (m .book) (m .sheet) (length (m .slots))) (run-iterate (m .book) (m .sheet) .shares) (m .slots) ≡ m .left
+  pub result : outcome (search-refusal (m .book) (m .sheet) (length (m .slots))) (run-answer (problem (m .book) (m .sheet))) ≡ m .result
+  pub left : slots-after (search-refusal (m .book) (m .sheet) (length (m .slots))) (run-iterate (problem (m .book) (m .sheet)) .shares) (m .slots) ≡ m .left
 
 unfoldable pub All-marked : Type 0
 All-marked = (m : Marked) → List·Memᴰ m marked-sheets → Marked-right m

@@ -1,7 +1,7 @@
--- The rows and the target of an accepted fleet book and sheet are a problem in range; what the code needs of its iterates.
-use mathlib.Core.Path.{_≡_, _∙_}
+-- An accepted fleet book and sheet are a well-formed problem in range; what the code needs of its iterates.
+use mathlib.Core.Path.{_≡_, refl, _∙_}
 use mathlib.Core.List.{List, [], _∷_}
-use Prim.Native.Nat.{ℕ, suc, _*_, _≤_, _<_}
+use Prim.Native.Nat.{ℕ, zero, suc, _*_, _≤_, _<_}
 use native.Mathlib.Omega.{arith}
 use lib.IntN.{ℤ, pos, natAbs}
 use lib.ListN.{length, getD}
@@ -9,52 +9,69 @@ use Rattle.files.specs.Book.{boats, columns, rows}
 use Rattle.files.specs.Sheet.{sheet, files-refusal}
 use Rattle.files.specs.Fits.{Book-fits, Sheet-fits}
 use Rattle.files.proofs.Accepted.{files-accepted}
-use Rattle.frank_wolfe.specs.Vectors.{Among, here, there}
-use Rattle.method.specs.Iterates.{weight, residual, iterate}
-use Rattle.method.proofs.Weights.{weight-most}
+use Rattle.frank_wolfe.specs.Vectors.{ones, sum, Among, here, there}
+use Rattle.method.specs.Problem.{fixed, problem, weight}
+use Rattle.method.specs.Iterates.{residual, iterate}
+use Rattle.method.proofs.Weights.{fixed-fits, weight-most}
 use Rattle.method.proofs.Entries.{Bounded}
 use Rattle.method.proofs.Shares.{Mixed, mixed-length, mixed-share, iterate-mixed}
-use Rattle.method.proofs.Mixtures.{Problem, In-range, length-residual, residual-bounded}
+use Rattle.method.proofs.Mixtures.{Well-formed, In-range, length-residual, residual-bounded}
 
 -- what holds of each row by its index holds of the rows
 among-by : (P : List ℤ → Type 0) (vs : List (List ℤ)) → ((i : ℕ) → i < length vs → P (getD vs i [])) → {v : List ℤ} → Among vs v → P v
 among-by P (v ∷ vs) f here = f 0 (omega arith)
 among-by P (u ∷ vs) f (there a) = among-by P vs (λ i h. f (suc i) (omega arith)) a
 
-pub book-problem : (b s : List ℕ) → Book-fits b → Sheet-fits (columns b) s → Problem (columns b) (rows b) (sheet s .target)
-book-problem b s f g =
-    record {
-      some-row = rw (f .row-count) (f .some-boats);
-      wide = record { each = λ v a. among-by (λ v. length v ≡ columns b) (rows b) (λ i h. f .row-length i (rw (f .row-count) at h)) a };
-      target-length = g .target-length;
-    }
-
-pub book-in-range : (b s : List ℕ) → Book-fits b → Sheet-fits (columns b) s → In-range (columns b) (rows b) (sheet s .target)
-book-in-range b s f g =
-    record {
-      few-columns = f .most-columns;
-      rows-bounded = λ v a. among-by (Bounded 2000) (rows b) (λ i h. record { each = f .entry-bound i }) a;
-      target-bounded = record { each = g .target-bound };
-    }
+sum-ones : (n : ℕ) → sum (ones n) ≡ n
+unfolding sum
+sum-ones zero = refl
+sum-ones (suc n) = omega (arith, sum-ones n)
 
 module _ (b s : List ℕ) (ok : files-refusal b s ≡ 0) where
-  pub problem : Problem (columns b) (rows b) (sheet s .target)
-  problem = book-problem b s (files-accepted b s ok .0) (files-accepted b s ok .1)
+  abbrev f : Book-fits b
+  f = files-accepted b s ok .0
 
-  pub in-range : In-range (columns b) (rows b) (sheet s .target)
-  in-range = book-in-range b s (files-accepted b s ok .0) (files-accepted b s ok .1)
+  abbrev g : Sheet-fits (columns b) s
+  g = files-accepted b s ok .1
 
-  pub mixed : (t : ℕ) → Mixed (rows b) (columns b) t (iterate (rows b) (sheet s .target) (columns b) t)
-  mixed t = iterate-mixed (rows b) (sheet s .target) (columns b) (problem .some-row) (problem .wide) t
+  pub row-wide : (v : List ℤ) → Among (rows b) v → length v ≡ columns b
+  row-wide v a = among-by (λ v. length v ≡ columns b) (rows b) (λ i h. f .row-length i (rw (f .row-count) at h)) a
 
-  pub residual-length : (t : ℕ) → length (residual (sheet s .target) t (iterate (rows b) (sheet s .target) (columns b) t)) ≡ columns b
-  residual-length t = length-residual problem t _ (mixed-length (problem .wide) (mixed t))
+  pub row-bounded : (v : List ℤ) → Among (rows b) v → Bounded 2000 v
+  row-bounded v a = among-by (Bounded 2000) (rows b) (λ i h. record { each = f .entry-bound i }) a
 
-  pub residual-entries : (t j : ℕ) → natAbs (getD (residual (sheet s .target) t (iterate (rows b) (sheet s .target) (columns b) t)) j (pos 0)) ≤ 4000 * weight t
+  pub few-ones : sum (ones (columns b)) ≤ 64
+  few-ones = omega (arith, sum-ones (columns b), f .most-columns)
+
+  pub well-formed : Well-formed (problem b s)
+  unfolding problem
+  well-formed =
+      record {
+        some-row = rw (f .row-count) (f .some-boats);
+        wide = record { each = row-wide };
+        target-length = g .target-length;
+        schedule-fits = fixed-fits;
+      }
+
+  pub in-range : In-range (problem b s)
+  unfolding problem
+  in-range = record { few-factors = few-ones; rows-bounded = row-bounded; target-bounded = record { each = g .target-bound } }
+
+  pub mixed : (t : ℕ) → Mixed (problem b s) t (iterate (problem b s) t)
+  mixed t = iterate-mixed (problem b s) (well-formed .some-row) (well-formed .wide) t
+
+  pub residual-length : (t : ℕ) → length (residual (problem b s) t (iterate (problem b s) t)) ≡ columns b
+  unfolding problem
+  residual-length t = length-residual well-formed t _ (mixed-length (well-formed .wide) (mixed t))
+
+  pub residual-entries : (t j : ℕ) → natAbs (getD (residual (problem b s) t (iterate (problem b s) t)) j (pos 0)) ≤ 4000 * weight fixed t
+  unfolding problem
   residual-entries t j = residual-bounded in-range (mixed t) .each j
 
-  pub share-count : (t : ℕ) → length (iterate (rows b) (sheet s .target) (columns b) t .shares) ≡ boats b
-  share-count t = mixed t .count ∙ files-accepted b s ok .0 .row-count
+  pub share-count : (t : ℕ) → length (iterate (problem b s) t .shares) ≡ boats b
+  unfolding problem
+  share-count t = mixed t .count ∙ f .row-count
 
-  pub share-below : (t i : ℕ) → t ≤ 360 → getD (iterate (rows b) (sheet s .target) (columns b) t .shares) i 0 < 65536
+  pub share-below : (t i : ℕ) → t ≤ 360 → getD (iterate (problem b s) t .shares) i 0 < 65536
+  unfolding problem
   share-below t i h = omega (arith, mixed-share (mixed t) i, weight-most h)

@@ -13,9 +13,10 @@ use Rattle.integers.proofs.Solver.{con, _⊗_, _⊝_, x₀, x₁, x₂, x₃}
 use Rattle.integers.proofs.Order.{<→<ℤ, ≤→≤ℤ}
 use Rattle.integers.proofs.Facts.{_≼_, known, _⊡_, derive, derive-times, ≤ℤ-trans, <ℤ→≤ℤ}
 use Rattle.frank_wolfe.specs.Method.{Argmin}
-use Rattle.frank_wolfe.specs.Vectors.{subtract, scale, inner, Among, here, there}
-use Rattle.frank_wolfe.proofs.Vectors.{plain, Wide, wide-rest, inner-subtract, inner-scale, length-scale}
-use Rattle.method.specs.Iterates.{row, scores, argmin, argmin-from, gaps, maximum, maximum-from}
+use Rattle.frank_wolfe.specs.Vectors.{subtract, scale, weighted, Among, here, there}
+use Rattle.frank_wolfe.proofs.Vectors.{factored, Wide, wide-rest, weighted-subtract, weighted-scale, length-scale}
+use Rattle.method.specs.Problem.{Problem}
+use Rattle.method.specs.Iterates.{row, scores, argmin, argmin-from, pick, gaps, maximum, maximum-from}
 use Rattle.method.specs.Minimum.{minimum, minimum-from}
 
 -- ---- The lowest index among equals
@@ -95,15 +96,16 @@ unfolding argmin minimum
 argmin-at [] = refl
 argmin-at (p ∷ ps) = argmin-from-at (p ∷ ps) 1 0 p ps (λ j. let e : 1 + j ≡ suc j = omega arith in rw e) refl
 
-pub score-at : (g : List ℤ) (rs : List (List ℤ)) (i : ℕ) → getD (scores g rs) i (pos 0) ≡ inner g (row rs i)
-unfolding scores row inner
-score-at [] [] i = refl
-score-at (a ∷ g) [] i = refl
-score-at g (v ∷ vs) zero = refl
-score-at g (v ∷ vs) (suc i) = score-at g vs i
+pub score-at : (fs : List ℕ) (g : List ℤ) (rs : List (List ℤ)) (i : ℕ) → getD (scores fs g rs) i (pos 0) ≡ weighted fs g (row rs i)
+unfolding scores row weighted
+score-at [] g [] i = refl
+score-at (f ∷ fs) [] [] i = refl
+score-at (f ∷ fs) (a ∷ g) [] i = refl
+score-at fs g (v ∷ vs) zero = refl
+score-at fs g (v ∷ vs) (suc i) = score-at fs g vs i
 
-pub least-score : (g : List ℤ) (rs : List (List ℤ)) → inner g (row rs (argmin (scores g rs))) ≡ minimum (scores g rs)
-least-score g rs = sym (score-at g rs (argmin (scores g rs))) ∙ argmin-at (scores g rs)
+pub least-score : (fs : List ℕ) (g : List ℤ) (rs : List (List ℤ)) → weighted fs g (row rs (argmin (scores fs g rs))) ≡ minimum (scores fs g rs)
+least-score fs g rs = sym (score-at fs g rs (argmin (scores fs g rs))) ∙ argmin-at (scores fs g rs)
 
 not-above : {a b : ℤ} → ltZ a b ≡ true → a ≤ℤ b
 not-above e = <ℤ→≤ℤ (ltZ-yes (rw e tt))
@@ -120,20 +122,20 @@ minimum-from-first m (p ∷ ps) = by (ltZ p m) refl (minimum-from-first p ps) (m
     by true e h k = ≤ℤ-trans h (not-above e)
     by false e h k = k
 
-minimum-from-each : (g : List ℤ) (m : ℤ) {vs : List (List ℤ)} {v : List ℤ} → Among vs v → minimum-from m (scores g vs) ≤ℤ inner g v
+minimum-from-each : (fs : List ℕ) (g : List ℤ) (m : ℤ) {vs : List (List ℤ)} {v : List ℤ} → Among vs v → minimum-from m (scores fs g vs) ≤ℤ weighted fs g v
 unfolding minimum-from scores
-minimum-from-each g m (here {v} {vs}) = by (ltZ (inner g v) m) refl
+minimum-from-each fs g m (here {v} {vs}) = by (ltZ (weighted fs g v) m) refl
   where
-    by : (t : Bool) → ltZ (inner g v) m ≡ t → cond t (minimum-from (inner g v) (scores g vs)) (minimum-from m (scores g vs)) ≤ℤ inner g v
-    by true e = minimum-from-first (inner g v) (scores g vs)
-    by false e = ≤ℤ-trans (minimum-from-first m (scores g vs)) (not-below e)
-minimum-from-each g m (there {u} {v} a) = either (λ x. x ≤ℤ inner g v) (ltZ (inner g u) m) (minimum-from-each g (inner g u) a) (minimum-from-each g m a)
+    by : (t : Bool) → ltZ (weighted fs g v) m ≡ t → cond t (minimum-from (weighted fs g v) (scores fs g vs)) (minimum-from m (scores fs g vs)) ≤ℤ weighted fs g v
+    by true e = minimum-from-first (weighted fs g v) (scores fs g vs)
+    by false e = ≤ℤ-trans (minimum-from-first m (scores fs g vs)) (not-below e)
+minimum-from-each fs g m (there {u} {v} a) = either (λ x. x ≤ℤ weighted fs g v) (ltZ (weighted fs g u) m) (minimum-from-each fs g (weighted fs g u) a) (minimum-from-each fs g m a)
 
 -- no row scores less than the least score
-pub minimum-least : (g : List ℤ) {rs : List (List ℤ)} {v : List ℤ} → Among rs v → minimum (scores g rs) ≤ℤ inner g v
+pub minimum-least : (fs : List ℕ) (g : List ℤ) {rs : List (List ℤ)} {v : List ℤ} → Among rs v → minimum (scores fs g rs) ≤ℤ weighted fs g v
 unfolding minimum scores
-minimum-least g (here {v} {vs}) = minimum-from-first (inner g v) (scores g vs)
-minimum-least g (there {u} a) = minimum-from-each g (inner g u) a
+minimum-least fs g (here {v} {vs}) = minimum-from-first (weighted fs g v) (scores fs g vs)
+minimum-least fs g (there {u} a) = minimum-from-each fs g (weighted fs g u) a
 
 -- ---- The index
 
@@ -148,13 +150,13 @@ unfolding argmin
 argmin-in [] h = absurd (omega arith)
 argmin-in (p ∷ ps) h = argmin-from-below (suc (length ps)) 1 0 p ps (omega arith) (omega arith)
 
-pub length-scores : (g : List ℤ) (rs : List (List ℤ)) → length (scores g rs) ≡ length rs
+pub length-scores : (fs : List ℕ) (g : List ℤ) (rs : List (List ℤ)) → length (scores fs g rs) ≡ length rs
 unfolding scores
-length-scores g [] = refl
-length-scores g (v ∷ vs) = ap suc (length-scores g vs)
+length-scores fs g [] = refl
+length-scores fs g (v ∷ vs) = ap suc (length-scores fs g vs)
 
-pub argmin-below : (g : List ℤ) (rs : List (List ℤ)) → 1 ≤ length rs → argmin (scores g rs) < length rs
-argmin-below g rs h = rw (length-scores g rs) at (argmin-in (scores g rs) (rw (length-scores g rs) h))
+pub argmin-below : (fs : List ℕ) (g : List ℤ) (rs : List (List ℤ)) → 1 ≤ length rs → argmin (scores fs g rs) < length rs
+argmin-below fs g rs h = rw (length-scores fs g rs) at (argmin-in (scores fs g rs) (rw (length-scores fs g rs) h))
 
 pub among-row : (rs : List (List ℤ)) (i : ℕ) → i < length rs → Among rs (row rs i)
 unfolding row
@@ -162,9 +164,19 @@ among-row [] i h = absurd (omega arith)
 among-row (v ∷ vs) zero h = here
 among-row (v ∷ vs) (suc i) h = there (among-row vs i (omega arith))
 
-pub argmin-row : (g : List ℤ) (rs : List (List ℤ)) → 1 ≤ length rs → Argmin plain (Among rs) g (row rs (argmin (scores g rs)))
-argmin-row g rs h =
-    record { vertex = among-row rs (argmin (scores g rs)) (argmin-below g rs h); least = λ v a. rw (least-score g rs) (minimum-least g a) }
+-- ---- The vertex that a step takes
+
+module _ (p : Problem) (g : List ℤ) where
+  pub pick-below : 1 ≤ length (p .vertices) → pick p g < length (p .vertices)
+  unfolding pick
+  pick-below h = argmin-below (p .factors) g (p .vertices) h
+
+  pub pick-score : weighted (p .factors) g (row (p .vertices) (pick p g)) ≡ minimum (scores (p .factors) g (p .vertices))
+  unfolding pick
+  pick-score = least-score (p .factors) g (p .vertices)
+
+  pub pick-row : 1 ≤ length (p .vertices) → Argmin (factored (p .factors)) (Among (p .vertices)) g (row (p .vertices) (pick p g))
+  pick-row h = record { vertex = among-row (p .vertices) (pick p g) (pick-below h); least = λ v a. rw pick-score (minimum-least (p .factors) g a) }
 
 -- ---- The greatest of <r, y - w v> by the least of <r, v>
 
@@ -182,19 +194,19 @@ turned c w s t h = by (ltZ (c -ℤ pos w *ℤ s) (c -ℤ pos w *ℤ t)) (ltZ t s
         clashℤ (ltZ-yes (rw f tt))
         (derive-times (c ∷ pos w ∷ s ∷ t ∷ []) x₁ (x₂ ≼ x₃) (<→<ℤ h) (known (x₀ ⊝ x₁ ⊗ x₃ ≼ x₀ ⊝ x₁ ⊗ x₂) (not-below e)) tt)
 
-pub inner-gap : (r y : List ℤ) (w : ℕ) (v : List ℤ) → length v ≡ length y → inner r (subtract y (scale w v)) ≡ inner r y -ℤ pos w *ℤ inner r v
-inner-gap r y w v e = inner-subtract r y (scale w v) (sym (length-scale w v ∙ e)) ∙ ap (λ p. inner r y -ℤ p) (inner-scale r w v)
+pub inner-gap : (fs : List ℕ) (r y : List ℤ) (w : ℕ) (v : List ℤ) → length v ≡ length y → weighted fs r (subtract y (scale w v)) ≡ weighted fs r y -ℤ pos w *ℤ weighted fs r v
+inner-gap fs r y w v e = weighted-subtract fs r y (scale w v) (sym (length-scale w v ∙ e)) ∙ ap (λ p. weighted fs r y -ℤ p) (weighted-scale fs r w v)
 
-maximum-gaps : (r y : List ℤ) (w : ℕ) (m : ℤ) (vs : List (List ℤ)) → 1 ≤ w → Wide (length y) vs →
-    maximum-from (inner r y -ℤ pos w *ℤ m) (gaps r y w vs) ≡ inner r y -ℤ pos w *ℤ minimum-from m (scores r vs)
+maximum-gaps : (fs : List ℕ) (r y : List ℤ) (w : ℕ) (m : ℤ) (vs : List (List ℤ)) → 1 ≤ w → Wide (length y) vs →
+    maximum-from (weighted fs r y -ℤ pos w *ℤ m) (gaps fs r y w vs) ≡ weighted fs r y -ℤ pos w *ℤ minimum-from m (scores fs r vs)
 unfolding maximum-from minimum-from gaps scores
-maximum-gaps r y w m [] h wide = refl
-maximum-gaps r y w m (v ∷ vs) h wide =
-    rw (inner-gap r y w v (wide .each v here), turned (inner r y) w m (inner r v) h)
-    (either₂ (λ a x. a ≡ inner r y -ℤ pos w *ℤ x) (ltZ (inner r v) m) (maximum-gaps r y w (inner r v) vs h (wide-rest wide)) (maximum-gaps r y w m vs h (wide-rest wide)))
+maximum-gaps fs r y w m [] h wide = refl
+maximum-gaps fs r y w m (v ∷ vs) h wide =
+    rw (inner-gap fs r y w v (wide .each v here), turned (weighted fs r y) w m (weighted fs r v) h)
+    (either₂ (λ a x. a ≡ weighted fs r y -ℤ pos w *ℤ x) (ltZ (weighted fs r v) m) (maximum-gaps fs r y w (weighted fs r v) vs h (wide-rest wide)) (maximum-gaps fs r y w m vs h (wide-rest wide)))
 
-pub maximum-by-minimum : (r y : List ℤ) (w : ℕ) (rs : List (List ℤ)) → 1 ≤ w → 1 ≤ length rs → Wide (length y) rs →
-    maximum (gaps r y w rs) ≡ inner r y -ℤ pos w *ℤ minimum (scores r rs)
+pub maximum-by-minimum : (fs : List ℕ) (r y : List ℤ) (w : ℕ) (rs : List (List ℤ)) → 1 ≤ w → 1 ≤ length rs → Wide (length y) rs →
+    maximum (gaps fs r y w rs) ≡ weighted fs r y -ℤ pos w *ℤ minimum (scores fs r rs)
 unfolding maximum minimum gaps scores
-maximum-by-minimum r y w [] h k wide = absurd (omega arith)
-maximum-by-minimum r y w (v ∷ vs) h k wide = rw (inner-gap r y w v (wide .each v here)) (maximum-gaps r y w (inner r v) vs h (wide-rest wide))
+maximum-by-minimum fs r y w [] h k wide = absurd (omega arith)
+maximum-by-minimum fs r y w (v ∷ vs) h k wide = rw (inner-gap fs r y w v (wide .each v here)) (maximum-gaps fs r y w (weighted fs r v) vs h (wide-rest wide))

@@ -1,4 +1,4 @@
--- What specs/Bounds.antt promises of an answer and its shares, and of a run, holds for every accepted fleet book and sheet.
+-- What specs/Bounds.antt promises of an answer and its shares, and of a run, holds for every problem that is well-formed and in range.
 use mathlib.Core.Path.{_≡_, refl, sym, ap, _∙_, subst}
 use mathlib.Core.Bool.{true}
 use mathlib.Core.List.{List}
@@ -8,84 +8,83 @@ use native.Mathlib.Omega.{arith}
 use lib.Dec.{lit≤}
 use lib.ListN.{length}
 use Rattle.frank_wolfe.specs.Vectors.{sum}
-use Rattle.files.specs.Book.{rows, columns, boats}
-use Rattle.files.specs.Sheet.{sheet, files-refusal}
-use Rattle.files.proofs.Accepted.{files-accepted}
 use Rattle.integers.proofs.Order.{≤→≤ℤ}
-use Rattle.method.specs.Iterates.{Iterate, weight, iterate, distance, gap, support}
+use Rattle.method.specs.Problem.{Problem, weight}
+use Rattle.method.specs.Iterates.{Iterate, iterate, distance, gap, support}
 use Rattle.method.specs.Answers.{stops, answer-at, steps-used, run-iterate, run-answer}
 use Rattle.method.specs.Bounds.{mixture-iterate, answer-of, Answer-bounds, Run-bounds}
 use Rattle.method.proofs.Weights.{weight-positive, weight-fits}
-use Rattle.method.proofs.Shares.{mixed-is, shares-mixed, iterate-support}
-use Rattle.method.proofs.Mixtures.{gap-is, distance-is, gap-bound, beyond-bound, distance-most, gap-most}
+use Rattle.method.proofs.Shares.{mixed-is, shares-mixed, iterate-mixed, iterate-support}
+use Rattle.method.proofs.Mixtures.{Well-formed, In-range, gap-is, distance-is, gap-bound, beyond-bound, distance-most, gap-most}
 use Rattle.method.proofs.Iterates.{step-bound, spent-bound}
 use Rattle.method.proofs.Verdicts.{verdict-means, within-means, beyond-means, spent-means, stops-spent}
-use Rattle.method.proofs.Accepted.{problem, in-range, mixed, share-count}
 use Rattle.method.proofs.Running.{stops-at, stopped}
 
--- shares, one a boat, of the total of t steps
-pub answer-bounds : (b s : List ℕ) → files-refusal b s ≡ 0 → (shares : List ℕ) (t : ℕ) →
-    length shares ≡ boats b → sum shares ≡ weight t → support shares ≤ t → 1 ≤ t → t ≤ sheet s .steps →
-    stops (sheet s .steps) t (answer-of b s shares t .verdict) ≡ true → Answer-bounds b s (answer-of b s shares t) shares
-unfolding answer-at
-answer-bounds b s ok shares t one total boats some most here =
-    let x = mixture-iterate (columns b) shares (rows b) in
-    let p = problem b s ok in
-    let count = files-accepted b s ok .0 .row-count in
-    let fits = files-accepted b s ok .1 in
-    let m = shares-mixed (rows b) (columns b) t shares (one ∙ sym count) total in
-    let few : t ≤ 360 = omega (arith, most, fits .most-steps) in
-    let hw : 1 ≤ weight t = weight-positive some in
-    let means = verdict-means (sheet s .tolerance) (weight t) (distance (sheet s .target) t x) (gap (rows b) (sheet s .target) t x) in
-    record {
-      share-count = one;
-      total = total;
-      weight = refl;
-      few-boats = boats;
-      some-step = some;
-      most-steps = most;
-      stops-here = here;
-      own-distance = distance-is p hw m;
-      own-gap = gap-is p hw m;
-      gap-bound = λ qs e hq. gap-bound p hw m _ (lit≤ tt) qs (e ∙ sym count);
-      within = λ v. within-means means v;
-      beyond = λ floor v qs e hq. beyond-bound p hw m (sheet s .tolerance) (beyond-means means floor v .0) qs (e ∙ sym count) hq;
-      beyond-above = λ floor v. beyond-means means floor v .0;
-      beyond-floor = λ floor v. beyond-means means floor v .1;
-      spent-undecided = λ short v. spent-means means short v .1;
-      spent-above = λ short v. spent-means means short v .0;
-      spent-last = λ short v. stops-spent (sheet s .steps) t short (rw v at here);
-      spent-shortfall = λ short v. spent-means means short v .2;
-      distance-fits = lt-of-le-of-lt (distance-most p (in-range b s ok) m) (weight-fits few (le-refl 1024000000));
-      gap-fits = lt-of-le-of-lt (gap-most p (in-range b s ok) m hw) (weight-fits few (le-refl 1024000000));
-      limit-fits = weight-fits few (fits .most-tolerance);
-    }
+-- what the machine's numbers need beside: the weights and the tolerance
+pub record Sized (p : Problem) : Type 0 where
+  pub some-steps : 1 ≤ p .steps
+  pub weights : (t : ℕ) → t ≤ p .steps → weight (p .schedule) t ≤ 64980
+  pub most-tolerance : p .tolerance ≤ 1024000000
 
--- the answer of a run is that of its shares
-pub run-is : (b s : List ℕ) → files-refusal b s ≡ 0 → run-answer b s ≡ answer-of b s (run-iterate b s .shares) (run-answer b s .steps)
-unfolding run-answer run-iterate answer-at
-run-is b s ok =
-    let t = steps-used (rows b) (sheet s) (columns b) in
-    unfold answer-at in ap (answer-at (rows b) (sheet s) t) (mixed-is (mixed b s ok t))
+module _ {p : Problem} (h : Well-formed p) (f : In-range p) (z : Sized p) where
+  -- shares, one a vertex, of the total of t steps
+  pub answer-bounds : (shares : List ℕ) (t : ℕ) →
+      length shares ≡ length (p .vertices) → sum shares ≡ weight (p .schedule) t → support shares ≤ t → 1 ≤ t → t ≤ p .steps →
+      stops (p .steps) t (answer-of p shares t .verdict) ≡ true → Answer-bounds p (answer-of p shares t) shares
+  unfolding answer-at
+  answer-bounds shares t one total boats some most here =
+      let x = mixture-iterate p shares in
+      let m = shares-mixed p t shares one total in
+      let few : weight (p .schedule) t ≤ 64980 = z .weights t most in
+      let hw : 1 ≤ weight (p .schedule) t = weight-positive (h .schedule-fits) some in
+      let means = verdict-means (p .tolerance) (weight (p .schedule) t) (distance p t x) (gap p t x) in
+      record {
+        share-count = one;
+        total = total;
+        weight = refl;
+        few-boats = boats;
+        some-step = some;
+        most-steps = most;
+        stops-here = here;
+        own-distance = distance-is h hw m;
+        own-gap = gap-is h hw m;
+        gap-bound = λ qs e hq. gap-bound h hw m _ (lit≤ tt) qs e;
+        within = λ v. within-means means v;
+        beyond = λ floor v qs e hq. beyond-bound h hw m (p .tolerance) (beyond-means means floor v .0) qs e hq;
+        beyond-above = λ floor v. beyond-means means floor v .0;
+        beyond-floor = λ floor v. beyond-means means floor v .1;
+        spent-undecided = λ short v. spent-means means short v .1;
+        spent-above = λ short v. spent-means means short v .0;
+        spent-last = λ short v. stops-spent (p .steps) t short (rw v at here);
+        spent-shortfall = λ short v. spent-means means short v .2;
+        distance-fits = lt-of-le-of-lt (distance-most h f m) (weight-fits few (le-refl 1024000000));
+        gap-fits = lt-of-le-of-lt (gap-most h f m hw) (weight-fits few (le-refl 1024000000));
+        limit-fits = weight-fits few (z .most-tolerance);
+      }
 
-pub run-bounds : (b s : List ℕ) → files-refusal b s ≡ 0 → Run-bounds b s (run-answer b s) (run-iterate b s .shares)
-unfolding run-answer run-iterate answer-at stops-at
-run-bounds b s ok =
-    let t = steps-used (rows b) (sheet s) (columns b) in
-    let x = iterate (rows b) (sheet s .target) (columns b) t in
-    let p = problem b s ok in
-    let m = mixed b s ok t in
-    let count = files-accepted b s ok .0 .row-count in
-    let st = stopped (rows b) (sheet s) (columns b) (files-accepted b s ok .1 .some-steps) in
-    let here : stops (sheet s .steps) t (answer-of b s (x .shares) t .verdict) ≡ true =
-    ap (λ (y : Iterate). stops (sheet s .steps) t (answer-at (rows b) (sheet s) t y .verdict)) (sym (mixed-is m)) ∙ st .here in
-    let own : Answer-bounds b s (answer-at (rows b) (sheet s) t x) (x .shares) =
-    subst (λ (y : Iterate). Answer-bounds b s (answer-at (rows b) (sheet s) t y) (x .shares)) (sym (mixed-is m))
-    (answer-bounds b s ok (x .shares) t (share-count b s ok t) (m .total) (iterate-support (rows b) (sheet s .target) (columns b) t) (st .later) (omega (arith, st .most)) here) in
-    record {
-      answer = own;
-      first = λ j h k. st .first j h k;
-      every-gap = λ j h. rw (gap-is p (weight-positive h) (mixed b s ok j)) (≤→≤ℤ (omega arith));
-      step-bound = λ qs e hq. step-bound p _ (lit≤ tt) t qs (e ∙ sym count);
-      spent = λ short v qs e hq. spent-bound p _ (lit≤ tt) (sheet s .tolerance) t (st .later) (le-of-lt (own .spent-above short v)) qs (e ∙ sym count);
-    }
+  -- the answer of a run is that of its shares
+  pub run-is : run-answer p ≡ answer-of p (run-iterate p .shares) (run-answer p .steps)
+  unfolding run-answer run-iterate answer-at
+  run-is =
+      let t = steps-used p in
+      unfold answer-at in ap (answer-at p t) (mixed-is (iterate-mixed p (h .some-row) (h .wide) t))
+
+  pub run-bounds : Run-bounds p (run-answer p) (run-iterate p .shares)
+  unfolding run-answer run-iterate answer-at stops-at
+  run-bounds =
+      let t = steps-used p in
+      let x = iterate p t in
+      let m = iterate-mixed p (h .some-row) (h .wide) t in
+      let st = stopped p (z .some-steps) in
+      let here : stops (p .steps) t (answer-of p (x .shares) t .verdict) ≡ true =
+      ap (λ (y : Iterate). stops (p .steps) t (answer-at p t y .verdict)) (sym (mixed-is m)) ∙ st .here in
+      let own : Answer-bounds p (answer-at p t x) (x .shares) =
+      subst (λ (y : Iterate). Answer-bounds p (answer-at p t y) (x .shares)) (sym (mixed-is m))
+      (answer-bounds (x .shares) t (m .count) (m .total) (iterate-support p t) (st .later) (omega (arith, st .most)) here) in
+      record {
+        answer = own;
+        first = λ j a k. st .first j a k;
+        every-gap = λ j a. rw (gap-is h (weight-positive (h .schedule-fits) a) (iterate-mixed p (h .some-row) (h .wide) j)) (≤→≤ℤ (omega arith));
+        step-bound = λ qs e hq. step-bound h t qs e;
+        spent = λ short v qs e hq. spent-bound h t qs e (p .tolerance) (st .later) (le-of-lt (own .spent-above short v));
+      }

@@ -1,8 +1,8 @@
--- The iterates are a run of the Frank-Wolfe theorem, and the diameter is that of its vertices: the step bound, and what Spent means.
-use mathlib.Core.Path.{_≡_, sym, ap, ap₂, _∙_}
+-- The iterates are a run of the Frank-Wolfe theorem, and the diameter is that of its vertices: the bound by steps, and what Spent means.
+use mathlib.Core.Path.{_≡_, refl, sym, ap, ap₂, _∙_, subst}
 use mathlib.Core.List.{List, [], _∷_}
-use Prim.Native.Nat.{ℕ, zero, suc, _+_, _*_, _≤_}
-use native.Mathlib.Nat.{le-trans, le-refl, add-le-add, mul-le-mul-right, le-max-left, le-max-right}
+use Prim.Native.Nat.{ℕ, zero, suc, _*_, _≤_}
+use native.Mathlib.Nat.{le-trans, le-max-left, le-max-right}
 use native.Mathlib.Omega.{arith}
 use lib.IntN.{ℤ, pos, _-ℤ_}
 use lib.ListN.{length}
@@ -10,95 +10,124 @@ use lib.Signed.{_≤ℤ_}
 use Rattle.integers.proofs.Solver.{con, _⊕_, _⊗_, _⊝_, x₀, x₁, x₂, x₃, solve}
 use Rattle.integers.proofs.Order.{≤→≤ℤ, ≤ℤ→≤}
 use Rattle.integers.proofs.Facts.{_≼_, known, _⊞_, derive}
-use Rattle.frank_wolfe.specs.Method.{squared-distance, Residual, Diameter, Scored, at-start, at-iterate, Run, start as run-start, step as run-step, total}
-use Rattle.frank_wolfe.specs.Vectors.{subtract, scale, inner, squared-norm, sum, combination, Among, here, there}
-use Rattle.frank_wolfe.proofs.Vectors.{plain, Wide, wide-rest, plus-is, residual-is, compared-is, norm-inner, inner-zero, inner-subtract, scale-one}
+use Rattle.frank_wolfe.specs.Method.{Space, squared-distance, Residual, Diameter, Scored, at-start, at-iterate, Run, start as run-start, step as run-step, total}
+use Rattle.frank_wolfe.specs.Theorem.{Compared}
+use Rattle.frank_wolfe.specs.Vectors.{subtract, scale, weighted, weighted-norm, sum, combination, Among, here, there}
+use Rattle.frank_wolfe.proofs.Vectors.{factored, Wide, wide-rest, plus-is, residual-is, compared-is, norm-weighted, weighted-zero, weighted-subtract, scale-one}
 use Rattle.frank_wolfe.proofs.Theorem.{frank-wolfe}
-use Rattle.method.specs.Iterates.{weight, start, residual, row, direction, scores, argmin, step, iterate, distance, mixture-distance, farthest, diameter}
+use Rattle.method.specs.Problem.{Schedule, fixed, Problem, share, weight}
+use Rattle.method.specs.Iterates.{start, residual, row, direction, pick, with-shares, step, iterate, distance, mixture-distance, farthest, row-diameter}
+use Rattle.method.specs.Bounds.{Step-bound, Spent-bound}
 use Rattle.method.proofs.Weights.{weight-total}
-use Rattle.method.proofs.Argmin.{argmin-row, among-row}
+use Rattle.method.proofs.Argmin.{among-row, pick-row}
 use Rattle.method.proofs.Shares.{mixed-length, iterate-mixed}
-use Rattle.method.proofs.Mixtures.{Problem, residual-of}
+use Rattle.method.proofs.Mixtures.{Well-formed, residual-of}
 
 -- ---- The diameter
 
-distance-apart : (s v : List ℤ) → length s ≡ length v → pos (squared-norm (subtract s v)) ≡ squared-distance plain s v
-distance-apart s v e =
-    let d = subtract s v in
-    let along : (x : List ℤ) → inner d x ≡ inner x s -ℤ inner x v = λ x. plain .symmetric d x ∙ inner-subtract x s v e in
-    norm-inner d ∙ inner-subtract d s v e ∙ ap₂ (λ a b. a -ℤ b) (along s) (along v ∙ ap (λ a. a -ℤ inner v v) (plain .symmetric v s))
-    ∙ solve (inner s s ∷ inner s v ∷ inner v v ∷ []) (x₀ ⊝ x₁ ⊝ (x₁ ⊝ x₂)) (x₀ ⊝ con (pos 2) ⊗ x₁ ⊕ x₂) tt
+module _ (fs : List ℕ) where
+  distance-apart : (s v : List ℤ) → length s ≡ length v → pos (weighted-norm fs (subtract s v)) ≡ squared-distance (factored fs) s v
+  distance-apart s v e =
+      let d = subtract s v in
+      let along : (x : List ℤ) → weighted fs d x ≡ weighted fs x s -ℤ weighted fs x v = λ x. factored fs .symmetric d x ∙ weighted-subtract fs x s v e in
+      norm-weighted fs d ∙ weighted-subtract fs d s v e ∙ ap₂ (λ a b. a -ℤ b) (along s) (along v ∙ ap (λ a. a -ℤ weighted fs v v) (factored fs .symmetric v s))
+      ∙ solve (weighted fs s s ∷ weighted fs s v ∷ weighted fs v v ∷ []) (x₀ ⊝ x₁ ⊝ (x₁ ⊝ x₂)) (x₀ ⊝ con (pos 2) ⊗ x₁ ⊕ x₂) tt
 
-farthest-over : (v : List ℤ) {vs : List (List ℤ)} {w : List ℤ} → Among vs w → squared-norm (subtract v w) ≤ farthest v vs
-unfolding farthest
-farthest-over v (here {v = w} {vs = ws}) = le-max-left (squared-norm (subtract v w)) (farthest v ws)
-farthest-over v (there {u} {v = w} {vs = ws} a) = le-trans (farthest-over v a) (le-max-right (squared-norm (subtract v u)) (farthest v ws))
+  farthest-over : (v : List ℤ) {vs : List (List ℤ)} {w : List ℤ} → Among vs w → weighted-norm fs (subtract v w) ≤ farthest fs v vs
+  unfolding farthest
+  farthest-over v (here {v = w} {vs = ws}) = le-max-left (weighted-norm fs (subtract v w)) (farthest fs v ws)
+  farthest-over v (there {u} {v = w} {vs = ws} a) = le-trans (farthest-over v a) (le-max-right (weighted-norm fs (subtract v u)) (farthest fs v ws))
 
-apart : (c : ℕ) {vs : List (List ℤ)} {s v : List ℤ} → Wide c vs → Among vs s → Among vs v → squared-distance plain s v ≤ℤ pos (diameter vs)
-unfolding diameter
-apart c wide (here {v = s} {vs}) here =
-    derive (inner s s ∷ pos (diameter (s ∷ vs)) ∷ []) (x₀ ⊝ con (pos 2) ⊗ x₀ ⊕ x₀ ≼ x₁) (known (con (pos 0) ≼ x₁) (≤→≤ℤ (omega arith))) tt
-apart c wide (here {v = s} {vs}) (there {v = v} a) =
-    rw (← distance-apart s v (wide .each s here ∙ sym (wide .each v (there a))))
-    (≤→≤ℤ (le-trans (farthest-over s a) (le-max-left (farthest s vs) (diameter vs))))
-apart c wide (there {v = s} a) (here {v} {vs}) =
-    rw (plain .symmetric s v)
-    (derive (inner s s ∷ inner v s ∷ inner v v ∷ pos (diameter (v ∷ vs)) ∷ []) (x₀ ⊝ con (pos 2) ⊗ x₁ ⊕ x₂ ≼ x₃)
-    (known (x₂ ⊝ con (pos 2) ⊗ x₁ ⊕ x₀ ≼ x₃)
-    (rw (← distance-apart v s (wide .each v here ∙ sym (wide .each s (there a)))) (≤→≤ℤ (le-trans (farthest-over v a) (le-max-left (farthest v vs) (diameter vs)))))) tt)
-apart c wide (there {u} {v = s} {vs} a) (there {v = v} b) =
-    derive (squared-distance plain s v ∷ pos (diameter vs) ∷ pos (diameter (u ∷ vs)) ∷ []) (x₀ ≼ x₂)
-    (known (x₀ ≼ x₁) (apart c (wide-rest wide) a b) ⊞ known (x₁ ≼ x₂) (≤→≤ℤ (le-max-right (farthest u vs) (diameter vs)))) tt
+  apart : (c : ℕ) {vs : List (List ℤ)} {s v : List ℤ} → Wide c vs → Among vs s → Among vs v → squared-distance (factored fs) s v ≤ℤ pos (row-diameter fs vs)
+  unfolding row-diameter
+  apart c wide (here {v = s} {vs}) here =
+      derive (weighted fs s s ∷ pos (row-diameter fs (s ∷ vs)) ∷ []) (x₀ ⊝ con (pos 2) ⊗ x₀ ⊕ x₀ ≼ x₁) (known (con (pos 0) ≼ x₁) (≤→≤ℤ (omega arith))) tt
+  apart c wide (here {v = s} {vs}) (there {v = v} a) =
+      rw (← distance-apart s v (wide .each s here ∙ sym (wide .each v (there a))))
+      (≤→≤ℤ (le-trans (farthest-over s a) (le-max-left (farthest fs s vs) (row-diameter fs vs))))
+  apart c wide (there {v = s} a) (here {v} {vs}) =
+      rw (factored fs .symmetric s v)
+      (derive (weighted fs s s ∷ weighted fs v s ∷ weighted fs v v ∷ pos (row-diameter fs (v ∷ vs)) ∷ []) (x₀ ⊝ con (pos 2) ⊗ x₁ ⊕ x₂ ≼ x₃)
+      (known (x₂ ⊝ con (pos 2) ⊗ x₁ ⊕ x₀ ≼ x₃)
+      (rw (← distance-apart v s (wide .each v here ∙ sym (wide .each s (there a)))) (≤→≤ℤ (le-trans (farthest-over v a) (le-max-left (farthest fs v vs) (row-diameter fs vs)))))) tt)
+  apart c wide (there {u} {v = s} {vs} a) (there {v = v} b) =
+      derive (squared-distance (factored fs) s v ∷ pos (row-diameter fs vs) ∷ pos (row-diameter fs (u ∷ vs)) ∷ []) (x₀ ≼ x₂)
+      (known (x₀ ≼ x₁) (apart c (wide-rest wide) a b) ⊞ known (x₁ ≼ x₂) (≤→≤ℤ (le-max-right (farthest fs u vs) (row-diameter fs vs)))) tt
 
-pub diameter-is : {c : ℕ} {rs : List (List ℤ)} → Wide c rs → Diameter plain (Among rs) (pos (diameter rs))
-diameter-is {c} wide = record { apart = λ s v a b. apart c wide a b }
+  pub diameter-is : {c : ℕ} {rs : List (List ℤ)} → Wide c rs → Diameter (factored fs) (Among rs) (pos (row-diameter fs rs))
+  diameter-is {c} wide = record { apart = λ s v a b. apart c wide a b }
 
 -- ---- The run
 
-module _ {c : ℕ} {rs : List (List ℤ)} {u : List ℤ} (p : Problem c rs u) where
-  long : (t : ℕ) → length (iterate rs u c t .point) ≡ c
-  long t = mixed-length (p .wide) (iterate-mixed rs u c (p .some-row) (p .wide) t)
+module _ {p : Problem} (h : Well-formed p) where
+  abbrev V′ : List ℤ → Type 0
+  V′ = Among (p .vertices)
 
-  residual-total : (t : ℕ) → Residual plain (iterate rs u c t .point) (pos (total suc t)) u (residual u t (iterate rs u c t))
-  residual-total t = rw (weight-total t) at (residual-of p t (iterate rs u c t) (long t))
+  long : (t : ℕ) → length (iterate p t .point) ≡ p .columns
+  long t = mixed-length (h .wide) (iterate-mixed p (h .some-row) (h .wide) t)
 
-  scored : (t : ℕ) → Scored plain (Among rs) u suc t (iterate rs u c t .point) (direction rs u t (iterate rs u c t))
+  residual-total : (t : ℕ) → Residual (factored (p .factors)) (iterate p t .point) (pos (total (share (p .schedule)) t)) (p .target) (residual p t (iterate p t))
+  residual-total t = rw (weight-total (p .schedule) t) at (residual-of h t (iterate p t) (long t))
+
+  scored : (t : ℕ) → Scored (factored (p .factors)) V′ (p .target) (share (p .schedule)) t (iterate p t .point) (direction p t (iterate p t))
   unfolding direction
   scored zero =
-      let a : Among rs (row rs 0) = among-row rs 0 (p .some-row) in
-      at-start a (rw (scale-one u) at (residual-is (row rs 0) 1 u (p .wide .each (row rs 0) a ∙ sym (p .target-length))))
+      let a : Among (p .vertices) (row (p .vertices) 0) = among-row (p .vertices) 0 (h .some-row) in
+      at-start a (rw (scale-one (p .target)) at (residual-is (p .factors) (row (p .vertices) 0) 1 (p .target) (h .wide .each (row (p .vertices) 0) a ∙ sym (h .target-length))))
   scored (suc t) = at-iterate (residual-total (suc t))
 
-  pub iterate-run : (t : ℕ) → Run plain (Among rs) u suc t (iterate rs u c t .point)
-  unfolding iterate start step
-  iterate-run zero = run-start (record { along = λ x. inner-zero x c })
+  pub iterate-run : (t : ℕ) → Run (factored (p .factors)) V′ (p .target) (share (p .schedule)) t (iterate p t .point)
+  unfolding iterate start step with-shares
+  iterate-run zero = run-start (record { along = λ x. weighted-zero (p .factors) x (p .columns) })
   iterate-run (suc t) =
-      let g = direction rs u t (iterate rs u c t) in
-      let l = argmin-row g rs (p .some-row) in
-      run-step (iterate-run t) (scored t) l (plus-is (iterate rs u c t .point) (suc t) (row rs (argmin (scores g rs))) (long t ∙ sym (p .wide .each _ (l .vertex))))
+      let g = direction p t (iterate p t) in
+      let l = pick-row p g (h .some-row) in
+      run-step (iterate-run t) (scored t) l
+      (plus-is (p .factors) (iterate p t .point) (share (p .schedule) t) (row (p .vertices) (pick p g)) (long t ∙ sym (h .wide .each _ (l .vertex))))
 
-  -- E N² (t + 2) ≤ Q W² (t + 2) + k D² W² N², for a factor k of 4 or more
-  pub step-bound : (k : ℕ) → 4 ≤ k → (t : ℕ) (qs : List ℕ) → length qs ≡ length rs →
-      distance u t (iterate rs u c t) * (sum qs * sum qs) * (t + 2)
-      ≤ mixture-distance c u qs rs * (weight t * weight t) * (t + 2) + k * diameter rs * (weight t * weight t) * (sum qs * sum qs)
-  unfolding distance mixture-distance
-  step-bound k hk t qs e =
-      let r = residual u t (iterate rs u c t) in
-      let ρ = subtract (combination c qs rs) (scale (sum qs) u) in
-      le-trans
-      (≤ℤ→≤ (rw (← norm-inner r, ← norm-inner ρ, ← weight-total t) at
-      (frank-wolfe plain (Among rs) u .step-bound (diameter-is (p .wide)) (iterate-run t) (residual-total t) (compared-is c u qs rs (p .target-length) e (p .wide)))))
-      (add-le-add (le-refl _) (mul-le-mul-right (sum qs * sum qs) (mul-le-mul-right (weight t * weight t) (mul-le-mul-right (diameter rs) hk))))
+module _ {p : Problem} (h : Well-formed p) where
+  abbrev S : Space
+  S = factored (p .factors)
 
-  -- where E is at least τ W²: τ N² (t + 2) ≤ Q (t + 2) + k D² N²
-  pub spent-bound : (k : ℕ) → 4 ≤ k → (τ t : ℕ) → 1 ≤ t → τ * (weight t * weight t) ≤ distance u t (iterate rs u c t) → (qs : List ℕ) → length qs ≡ length rs →
-      τ * (sum qs * sum qs) * (t + 2) ≤ mixture-distance c u qs rs * (t + 2) + k * diameter rs * (sum qs * sum qs)
-  unfolding distance mixture-distance
-  spent-bound k hk τ t ht b qs e =
-      let r = residual u t (iterate rs u c t) in
-      let ρ = subtract (combination c qs rs) (scale (sum qs) u) in
-      le-trans
-      (≤ℤ→≤ (rw (← norm-inner ρ) at
-      (frank-wolfe plain (Among rs) u .spent (pos τ) (diameter-is (p .wide)) ht (iterate-run t) (residual-total t) (compared-is c u qs rs (p .target-length) e (p .wide))
-      (rw (← norm-inner r, ← weight-total t) (≤→≤ℤ b)))))
-      (add-le-add (le-refl _) (mul-le-mul-right (sum qs * sum qs) (mul-le-mul-right (diameter rs) hk)))
+  abbrev u : List ℤ
+  u = p .target
+
+  abbrev ρ : (qs : List ℕ) → List ℤ
+  ρ qs = subtract (combination (p .columns) qs (p .vertices)) (scale (sum qs) (p .target))
+
+  -- the run and its residual for shares by another name
+  run-by : {a : ℕ → ℕ} → share (p .schedule) ≡ a → (t : ℕ) → Run S (Among (p .vertices)) u a t (iterate p t .point)
+  run-by e t = subst (λ a. Run S (Among (p .vertices)) u a t (iterate p t .point)) e (iterate-run h t)
+
+  residual-by : {a : ℕ → ℕ} → share (p .schedule) ≡ a → (t : ℕ) → Residual S (iterate p t .point) (pos (total a t)) u (residual p t (iterate p t))
+  residual-by e t = subst (λ a. Residual S (iterate p t .point) (pos (total a t)) u (residual p t (iterate p t))) e (residual-total h t)
+
+  weight-by : {a : ℕ → ℕ} → share (p .schedule) ≡ a → (t : ℕ) → weight (p .schedule) t ≡ total a t
+  weight-by e t = weight-total (p .schedule) t ∙ ap (λ a. total a t) e
+
+  module _ (t : ℕ) (qs : List ℕ) (e : length qs ≡ length (p .vertices)) where
+    compared : Compared S (Among (p .vertices)) u (sum qs) (combination (p .columns) qs (p .vertices)) (ρ qs)
+    compared = compared-is (p .factors) (p .columns) u qs (p .vertices) (h .target-length) e (h .wide)
+
+    pub step-bound : Step-bound (p .schedule) t (weight (p .schedule) t) (distance p t (iterate p t)) (row-diameter (p .factors) (p .vertices)) (sum qs) (mixture-distance p qs)
+    unfolding distance mixture-distance Step-bound share
+    step-bound = by (p .schedule) refl
+      where
+        by : (a : Schedule) → p .schedule ≡ a →
+            Step-bound a t (weight (p .schedule) t) (weighted-norm (p .factors) (residual p t (iterate p t))) (row-diameter (p .factors) (p .vertices)) (sum qs) (weighted-norm (p .factors) (ρ qs))
+        by fixed f =
+            let g : share (p .schedule) ≡ suc = ap share f in
+            ≤ℤ→≤ (rw (← norm-weighted (p .factors) (residual p t (iterate p t)), ← norm-weighted (p .factors) (ρ qs), ← weight-by g t) at
+            (frank-wolfe S (Among (p .vertices)) u .step-bound (diameter-is (p .factors) (h .wide)) (run-by g t) (residual-by g t) compared))
+
+    pub spent-bound : (τ : ℕ) → 1 ≤ t → τ * (weight (p .schedule) t * weight (p .schedule) t) ≤ distance p t (iterate p t) →
+        Spent-bound (p .schedule) t (weight (p .schedule) t) τ (row-diameter (p .factors) (p .vertices)) (sum qs) (mixture-distance p qs)
+    unfolding distance mixture-distance Spent-bound share
+    spent-bound τ ht b = by (p .schedule) refl
+      where
+        by : (a : Schedule) → p .schedule ≡ a → Spent-bound a t (weight (p .schedule) t) τ (row-diameter (p .factors) (p .vertices)) (sum qs) (weighted-norm (p .factors) (ρ qs))
+        by fixed f =
+            let g : share (p .schedule) ≡ suc = ap share f in
+            ≤ℤ→≤ (rw (← norm-weighted (p .factors) (ρ qs)) at
+            (frank-wolfe S (Among (p .vertices)) u .spent (pos τ) (diameter-is (p .factors) (h .wide)) ht (run-by g t) (residual-by g t) compared
+            (rw (← norm-weighted (p .factors) (residual p t (iterate p t)), ← weight-by g t) (≤→≤ℤ b))))

@@ -6,8 +6,8 @@ pub mod Shares
 pub mod Mixtures
 pub mod Iterates
 pub mod Verdicts
-pub mod Accepted
 pub mod Running
+pub mod Accepted
 pub mod Bounds
 pub mod Fractions
 pub mod Numerators

@@ -5,17 +5,19 @@ use mathlib.Core.Bool.{Bool, true, false, _||_, cond}
 use mathlib.Core.List.{List, [], _∷_}
 use Prim.Native.Nat.{ℕ, zero, suc, _+_, _*_, _≤_}
 use native.Mathlib.Omega.{arith}
-use native.Mathlib.Nat.{mul-one, one-le-mul}
+use native.Mathlib.Nat.{one-mul, mul-one, one-le-mul}
 use native.Mathlib.Numerals.{add-one}
-use lib.IntN.{ℤ, pos, _+ℤ_, _-ℤ_, _*ℤ_}
+use lib.IntN.{ℤ, pos, _+ℤ_, _*ℤ_}
 use lib.ListN.{length, getD, replicate}
 use lib.Signed.{ltZ}
 use Rattle.integers.proofs.Solver.{Expr, con, _⊕_, _⊗_, _⊝_, x₀, x₁, x₂, x₃, solve}
 use Rattle.integers.proofs.Facts.{plus-equation}
-use Rattle.frank_wolfe.specs.Vectors.{add, subtract, scale, inner}
+use Rattle.frank_wolfe.specs.Vectors.{add, subtract, scale, weighted}
+use Rattle.method.specs.Problem.{Schedule, fixed, share, weight}
 use Rattle.method.specs.Iterates.{scores, argmin, gaps, maximum-from, maximum}
 use Rattle.method.specs.Fractions.{Fraction, integer, Is-ratio, _+ℚ_, _-ℚ_, _*ℚ_, fractions, difference, inner-product}
 use Rattle.method.specs.Published.{linear-form, any-below, first-minimizer, step-size, move, gap-terms, greatest-from, greatest}
+use Rattle.method.proofs.Weights.{weight-suc, weight-twice}
 use Rattle.method.proofs.Argmin.{any-belowℤ, first-minimizerℤ, argmin-first}
 use Rattle.method.proofs.Fractions.{one, integer-value, ratio-value, add-value, subtract-value, multiply-value, lt-value, same-value}
 
@@ -31,6 +33,11 @@ integer-over b {w} h = record { above-zero = h; cross = solve (b ∷ pos w ∷ [
 
 zero-over : {w : ℕ} → 1 ≤ w → Is-ratio (integer (pos 0)) (pos 0) w
 zero-over {w} h = record { above-zero = h; cross = solve (pos w ∷ []) (O ⊗ x₀) (O ⊗ one) tt }
+
+-- shares as integers
+unfoldable pub integers : List ℕ → List ℤ
+integers [] = []
+integers (q ∷ qs) = pos q ∷ integers qs
 
 -- each fraction is the integer at its place over w
 pub data Over (w : ℕ) : List Fraction → List ℤ → Type 0 where
@@ -55,22 +62,23 @@ over-difference none u = none
 over-difference (more e o) [] = none
 over-difference (more e o) (b ∷ u) = more (subtract-value e (integer-over b (e .above-zero))) (over-difference o u)
 
-pub over-inner : {w v : ℕ} {x s : List Fraction} {y z : List ℤ} → 1 ≤ w → 1 ≤ v → Over w x y → Over v s z → Is-ratio (inner-product x s) (inner y z) (w * v)
-unfolding inner-product inner
-over-inner hw hv none o = zero-over (one-le-mul hw hv)
-over-inner hw hv (more d n) none = zero-over (one-le-mul hw hv)
-over-inner hw hv (more d n) (more e o) = add-value (multiply-value d e) (over-inner hw hv n o)
+pub over-inner : (fs : List ℕ) {w v : ℕ} {x s : List Fraction} {y z : List ℤ} → 1 ≤ w → 1 ≤ v → Over w x y → Over v s z → Is-ratio (inner-product fs x s) (weighted fs y z) (w * v)
+unfolding inner-product weighted
+over-inner [] hw hv n o = zero-over (one-le-mul hw hv)
+over-inner (f ∷ fs) hw hv none o = zero-over (one-le-mul hw hv)
+over-inner (f ∷ fs) hw hv (more d n) none = zero-over (one-le-mul hw hv)
+over-inner (f ∷ fs) hw hv (more d n) (more e o) = add-value (rw one-mul at (multiply-value (integer-value (pos f)) (multiply-value d e))) (over-inner fs hw hv n o)
 
-pub over-linear-form : {w : ℕ} {g : List Fraction} {r : List ℤ} → 1 ≤ w → Over w g r → (rs : List (List ℤ)) → Over w (linear-form g rs) (scores r rs)
+pub over-linear-form : (fs : List ℕ) {w : ℕ} {g : List Fraction} {r : List ℤ} → 1 ≤ w → Over w g r → (rs : List (List ℤ)) → Over w (linear-form fs g rs) (scores fs r rs)
 unfolding linear-form scores
-over-linear-form h o [] = none
-over-linear-form {w} h o (v ∷ vs) = more (rw mul-one at (over-inner h (omega arith) o (over-fractions v))) (over-linear-form h o vs)
+over-linear-form fs h o [] = none
+over-linear-form fs {w} h o (v ∷ vs) = more (rw mul-one at (over-inner fs h (omega arith) o (over-fractions v))) (over-linear-form fs h o vs)
 
-pub over-gap-terms : {w : ℕ} {g x : List Fraction} {r y : List ℤ} → 1 ≤ w → Over w g r → Over w x y → (rs : List (List ℤ)) →
-    Over (w * w) (gap-terms g x rs) (gaps r y w rs)
+pub over-gap-terms : (fs : List ℕ) {w : ℕ} {g x : List Fraction} {r y : List ℤ} → 1 ≤ w → Over w g r → Over w x y → (rs : List (List ℤ)) →
+    Over (w * w) (gap-terms fs g x rs) (gaps fs r y w rs)
 unfolding gap-terms gaps
-over-gap-terms h n o [] = none
-over-gap-terms h n o (v ∷ vs) = more (over-inner h h n (over-difference o v)) (over-gap-terms h n o vs)
+over-gap-terms fs h n o [] = none
+over-gap-terms fs h n o (v ∷ vs) = more (over-inner fs h h n (over-difference o v)) (over-gap-terms fs h n o vs)
 
 -- ---- The least and the greatest
 
@@ -105,51 +113,49 @@ over-greatest h (more e o) = over-greatest-from e o
 
 -- ---- A step
 
--- γ = 2 / (k + 2)
-step-size-value : (k : ℕ) → Is-ratio (step-size k) (pos 2) (k + 1 + 1)
+-- γ = a / (w + a): the shares a of the step over the total that includes them
+step-ratio-fixed : (t w : ℕ) → 2 * w ≡ t * (t + 1) → Is-ratio (step-size fixed t) (pos (suc t)) (w + suc t)
 unfolding step-size
-step-size-value k = ratio-value (pos 2) (k + 1)
+step-ratio-fixed t w h =
+    same-value (ratio-value (pos 2) (t + 1)) (omega arith)
+    (rw (← add-one t)
+    (solve (pos t ∷ pos w ∷ []) (two ⊗ (x₁ ⊕ (x₀ ⊕ one))) ((x₀ ⊕ one) ⊗ (x₀ ⊕ one ⊕ one) ⊕ one ⊗ (two ⊗ x₁ ⊝ x₀ ⊗ (x₀ ⊕ one))) tt ∙ plus-equation _ (pos 1) (ap pos h)))
 
--- (1 - γ) p + γ b with p = y / w
-move-value : (k : ℕ) (b : ℤ) {p : Fraction} {y : ℤ} {w : ℕ} → Is-ratio p y w →
-    Is-ratio ((integer (pos 1) -ℚ step-size k) *ℚ p +ℚ step-size k *ℚ integer b) (pos k *ℤ y +ℤ pos 2 *ℤ b *ℤ pos w) ((k + 1 + 1) * w)
-move-value k b {p} {y} {w} e =
-    let g = step-size-value k in
-    let positive = one-le-mul (g .above-zero) (e .above-zero) in
+pub step-ratio : (a : Schedule) (t : ℕ) → 1 ≤ weight a (suc t) → Is-ratio (step-size a t) (pos (share a t)) (weight a (suc t))
+unfolding share
+step-ratio fixed t h = rw (weight-suc fixed t) (step-ratio-fixed t (weight fixed t) (weight-twice t))
+
+-- (1 - γ) p + γ b, with p = y / w and γ = a / (w + a), is (y + a b) / (w + a)
+move-value : (a : ℕ) (b : ℤ) {γ p : Fraction} {y : ℤ} {w : ℕ} → Is-ratio γ (pos a) (w + a) → Is-ratio p y w →
+    Is-ratio ((integer (pos 1) -ℚ γ) *ℚ p +ℚ γ *ℚ integer b) (y +ℤ pos a *ℤ b) (w + a)
+move-value a b {γ} {p} {y} {w} g e =
     same-value
     (add-value (multiply-value (subtract-value (integer-over (pos 1) (g .above-zero)) g) e)
-    (same-value (multiply-value g (integer-value b)) positive
-    (solve (pos k ∷ b ∷ pos w ∷ []) (two ⊗ x₁ ⊗ ((x₀ ⊕ one ⊕ one) ⊗ x₂)) (two ⊗ x₁ ⊗ x₂ ⊗ ((x₀ ⊕ one ⊕ one) ⊗ one)) tt)))
-    positive
-    (solve (pos k ∷ y ∷ b ∷ pos w ∷ []) ((((x₀ ⊕ one ⊕ one) ⊗ one ⊝ two) ⊗ x₁ ⊕ two ⊗ x₂ ⊗ x₃) ⊗ ((x₀ ⊕ one ⊕ one) ⊗ x₃))
-    ((x₀ ⊗ x₁ ⊕ two ⊗ x₂ ⊗ x₃) ⊗ ((x₀ ⊕ one ⊕ one) ⊗ x₃)) tt)
+    (same-value (multiply-value g (integer-value b)) (one-le-mul (g .above-zero) (e .above-zero))
+    (solve (pos a ∷ b ∷ pos w ∷ []) (x₀ ⊗ x₁ ⊗ ((x₂ ⊕ x₀) ⊗ x₂)) (x₀ ⊗ x₁ ⊗ x₂ ⊗ ((x₂ ⊕ x₀) ⊗ one)) tt)))
+    (g .above-zero)
+    (solve (pos a ∷ b ∷ y ∷ pos w ∷ []) (((((x₃ ⊕ x₀) ⊗ one) ⊝ x₀) ⊗ x₂ ⊕ x₀ ⊗ x₁ ⊗ x₃) ⊗ (x₃ ⊕ x₀)) ((x₂ ⊕ x₀ ⊗ x₁) ⊗ ((x₃ ⊕ x₀) ⊗ x₃)) tt)
 
--- step t, from shares that total t (t + 1) / 2
-step-value : (t : ℕ) (b : ℤ) {p : Fraction} {y : ℤ} {w : ℕ} → 2 * w ≡ t * (t + 1) → Is-ratio p y w →
-    Is-ratio ((integer (pos 1) -ℚ step-size t) *ℚ p +ℚ step-size t *ℚ integer b) (y +ℤ pos (suc t) *ℤ b) (w + suc t)
-step-value t b {p} {y} {w} h e =
-    same-value (move-value t b e) (omega (arith, e .above-zero))
-    (rw (← add-one t)
-    (solve (pos t ∷ y ∷ b ∷ pos w ∷ [])
-    ((x₀ ⊗ x₁ ⊕ two ⊗ x₂ ⊗ x₃) ⊗ (x₃ ⊕ (x₀ ⊕ one)))
-    ((x₁ ⊕ (x₀ ⊕ one) ⊗ x₂) ⊗ ((x₀ ⊕ one ⊕ one) ⊗ x₃) ⊕ (x₂ ⊗ x₃ ⊝ x₁) ⊗ (two ⊗ x₃ ⊝ x₀ ⊗ (x₀ ⊕ one))) tt
-    ∙ plus-equation _ (b *ℤ pos w -ℤ y) (ap pos h)))
+-- the first step, γ = 1, leaves nothing of the point that it starts from
+first-value : (a : ℕ) (b : ℤ) {γ : Fraction} (p : Fraction) → Is-ratio γ (pos a) a → Is-ratio ((integer (pos 1) -ℚ γ) *ℚ p +ℚ γ *ℚ integer b) (pos 0 +ℤ pos a *ℤ b) a
+first-value a b {γ} p g =
+    let e = ratio-value (p .numerator) (p .below) in
+    same-value
+    (add-value (multiply-value (subtract-value (integer-over (pos 1) (g .above-zero)) g) e)
+    (same-value (multiply-value g (integer-value b)) (one-le-mul (g .above-zero) (e .above-zero))
+    (solve (pos a ∷ b ∷ pos (p .below) ∷ []) (x₀ ⊗ x₁ ⊗ (x₀ ⊗ (x₂ ⊕ one))) (x₀ ⊗ x₁ ⊗ (x₂ ⊕ one) ⊗ (x₀ ⊗ one)) tt)))
+    (g .above-zero)
+    (solve (pos a ∷ b ∷ p .numerator ∷ pos (p .below) ∷ []) (((x₀ ⊗ one ⊝ x₀) ⊗ x₂ ⊕ x₀ ⊗ x₁ ⊗ (x₃ ⊕ one)) ⊗ x₀) ((O ⊕ x₀ ⊗ x₁) ⊗ (x₀ ⊗ (x₃ ⊕ one))) tt)
 
--- step 0 leaves nothing of the point that it starts from
-first-value : (p : Fraction) (b : ℤ) → Is-ratio ((integer (pos 1) -ℚ step-size 0) *ℚ p +ℚ step-size 0 *ℚ integer b) (pos 0 +ℤ pos 1 *ℤ b) 1
-first-value p b =
-    same-value (move-value 0 b (ratio-value (p .numerator) (p .below))) (omega arith)
-    (solve (p .numerator ∷ b ∷ pos (p .below) ∷ []) ((O ⊗ x₀ ⊕ two ⊗ x₁ ⊗ (x₂ ⊕ one)) ⊗ one) ((O ⊕ one ⊗ x₁) ⊗ (two ⊗ (x₂ ⊕ one))) tt)
-
-pub over-step : (t : ℕ) {w : ℕ} {x : List Fraction} {y : List ℤ} → 2 * w ≡ t * (t + 1) → Over w x y → (v : List ℤ) →
-    Over (w + suc t) (move (step-size t) x (fractions v)) (add y (scale (suc t) v))
+pub over-step : {γ : Fraction} (a : ℕ) {w : ℕ} {x : List Fraction} {y : List ℤ} → Is-ratio γ (pos a) (w + a) → Over w x y → (v : List ℤ) →
+    Over (w + a) (move γ x (fractions v)) (add y (scale a v))
 unfolding move fractions add scale
-over-step t h none v = none
-over-step t h (more e o) [] = none
-over-step t h (more e o) (b ∷ v) = more (step-value t b h e) (over-step t h o v)
+over-step a g none v = none
+over-step a g (more e o) [] = none
+over-step a g (more e o) (b ∷ v) = more (move-value a b g e) (over-step a g o v)
 
-pub over-first : (x : List Fraction) (v : List ℤ) → Over 1 (move (step-size 0) x (fractions v)) (add (replicate (length x) (pos 0)) (scale 1 v))
+pub over-first : {γ : Fraction} (a : ℕ) → Is-ratio γ (pos a) a → (x : List Fraction) (v : List ℤ) → Over a (move γ x (fractions v)) (add (replicate (length x) (pos 0)) (scale a v))
 unfolding move fractions add scale
-over-first [] v = none
-over-first (p ∷ x) [] = none
-over-first (p ∷ x) (b ∷ v) = more (first-value p b) (over-first x v)
+over-first a g [] v = none
+over-first a g (p ∷ x) [] = none
+over-first a g (p ∷ x) (b ∷ v) = more (first-value a b p g) (over-first a g x v)

@@ -8,23 +8,35 @@ use borrow.Author.Tests.{eqb-true, eq-eqb, ltb-false}
 use lib.Dec.{eqb, ltb}
 use lib.ListN.{length, take, drop, length-append, length-drop}
 use lib.Seq.{take-at}
-use Rattle.files.specs.Book.{rows, columns, boats}
-use Rattle.files.specs.Sheet.{sheet, files-refusal}
+use Rattle.files.specs.Book.{boats}
+use Rattle.files.specs.Sheet.{files-refusal}
+use Rattle.files.proofs.Accepted.{files-accepted}
+use native.Mathlib.Nat.{le-trans}
+use Rattle.method.specs.Problem.{problem}
 use Rattle.method.specs.declared.Answer.{Answer}
 use Rattle.method.specs.declared.Searched.{Searched}
 use Rattle.method.specs.declared.Searched.the-variants.{Refused, Answered}
 use Rattle.method.specs.Answers.{refusal-number, outcome, steps-used, run-iterate, run-answer, search-refusal, slots-after}
 use Rattle.method.specs.Promise.{Run-right, Outcome-right}
-use Rattle.method.proofs.Accepted.{share-count}
-use Rattle.method.proofs.Bounds.{run-bounds}
+use Rattle.method.proofs.Weights.{weight-most}
+use Rattle.method.proofs.Accepted.{well-formed, in-range, share-count}
+use Rattle.method.proofs.Bounds.{Sized, run-bounds}
 use Rattle.method.proofs.Published.{published-run}
 
-pub run-right : (b s : List ℕ) → files-refusal b s ≡ 0 → Run-right b s (run-answer b s) (run-iterate b s .shares)
-run-right b s ok = record { bounds = run-bounds b s ok; published = published-run b s ok }
+-- accepted files keep to the machine's numbers
+pub sized : (b s : List ℕ) → files-refusal b s ≡ 0 → Sized (problem b s)
+unfolding problem
+sized b s ok =
+    let g = files-accepted b s ok .1 in
+    record { some-steps = g .some-steps; weights = λ t h. weight-most (le-trans h (g .most-steps)); most-tolerance = g .most-tolerance }
 
-run-share-count : (b s : List ℕ) → files-refusal b s ≡ 0 → length (run-iterate b s .shares) ≡ boats b
+pub run-right : (b s : List ℕ) → files-refusal b s ≡ 0 → Run-right (problem b s) (run-answer (problem b s)) (run-iterate (problem b s) .shares)
+run-right b s ok =
+    record { bounds = run-bounds (well-formed b s ok) (in-range b s ok) (sized b s ok); published = published-run (well-formed b s ok) (sized b s ok .some-steps) }
+
+run-share-count : (b s : List ℕ) → files-refusal b s ≡ 0 → length (run-iterate (problem b s) .shares) ≡ boats b
 unfolding run-iterate
-run-share-count b s ok = share-count b s ok (steps-used (rows b) (sheet s) (columns b))
+run-share-count b s ok = share-count b s ok (steps-used (problem b s))
 
 -- a search that is not refused has files that are not, and a slot for each boat
 pub search-accepted : (b s : List ℕ) (slots : ℕ) → search-refusal b s slots ≡ 0 → (files-refusal b s ≡ 0) × (boats b ≤ slots)
@@ -65,16 +77,16 @@ unfolding slots-after
 slots-kept qs slots n e = take-at qs (drop (length qs) slots) n e
 
 pub outcome-right : (b s slots : List ℕ) (n : ℕ) (r : Searched) (now : List ℕ) →
-    n ≡ search-refusal b s (length slots) → r ≡ outcome n (run-answer b s) → now ≡ slots-after n (run-iterate b s .shares) slots → Outcome-right b s r now
+    n ≡ search-refusal b s (length slots) → r ≡ outcome n (run-answer (problem b s)) → now ≡ slots-after n (run-iterate (problem b s) .shares) slots → Outcome-right b s r now
 outcome-right b s slots n r now e f g =
     record {
-      number = ap refusal-number f ∙ outcome-number n (run-answer b s) ∙ e ∙ ap (search-refusal b s) (sym same-length);
-      refused = λ m q. outcome-refused n m (run-answer b s) (sym f ∙ q) .1;
-      answered = λ a q. let h = outcome-answered n (run-answer b s) a (sym f ∙ q) in rw (← h .1, kept (h .0)) (run-right b s (accepted (h .0) .0));
+      number = ap refusal-number f ∙ outcome-number n (run-answer (problem b s)) ∙ e ∙ ap (search-refusal b s) (sym same-length);
+      refused = λ m q. outcome-refused n m (run-answer (problem b s)) (sym f ∙ q) .1;
+      answered = λ a q. let h = outcome-answered n (run-answer (problem b s)) a (sym f ∙ q) in rw (← h .1, kept (h .0)) (run-right b s (accepted (h .0) .0));
     }
   where
     qs : List ℕ
-    qs = run-iterate b s .shares
+    qs = run-iterate (problem b s) .shares
 
     accepted : n ≡ 0 → (files-refusal b s ≡ 0) × (boats b ≤ length slots)
     accepted z = search-accepted b s (length slots) (sym e ∙ z)

@@ -6,7 +6,7 @@ use mathlib.Core.Bool.{false}
 use mathlib.Core.List.{List, [], _∷_}
 use Prim.Native.Nat.{ℕ, zero, suc, _+_, _*_, _≤_, _<_}
 use native.Mathlib.Omega.{arith}
-use native.Mathlib.Nat.{one-mul, one-le-mul, le-of-lt}
+use native.Mathlib.Nat.{zero-add, one-mul, one-le-mul, le-of-lt}
 use lib.Dec.{ltb, ltb→lt, lt→ltb}
 use lib.IntN.{ℤ, pos, _-ℤ_, *ℤ-comm}
 use lib.ListN.{length, getD, set, replicate, length-replicate}
@@ -14,32 +14,25 @@ use Rattle.integers.proofs.Solver.{con, _⊕_, _⊗_, x₀, x₁, solve}
 use Rattle.integers.proofs.Bounds.{pos-sub}
 use Rattle.integers.proofs.Facts.{lt-move}
 use Rattle.frank_wolfe.specs.Vectors.{add, scale}
-use Rattle.frank_wolfe.proofs.Vectors.{norm-inner, scale-one}
-use Rattle.files.specs.Book.{rows, columns}
-use Rattle.files.specs.Sheet.{Sheet, sheet, files-refusal}
-use Rattle.files.proofs.Accepted.{files-accepted}
-use Rattle.method.specs.Iterates.{weight, start, residual, row, direction, scores, argmin, step, iterate, distance, signed-gap, gap}
+use Rattle.frank_wolfe.proofs.Vectors.{norm-weighted, scale-one}
+use Rattle.method.specs.Problem.{Problem, share, weight}
+use Rattle.method.specs.Iterates.{start, residual, row, direction, pick, with-shares, step, iterate, distance, signed-gap, gap}
 use Rattle.method.specs.declared.Verdict.{Verdict}
 use Rattle.method.specs.declared.Verdict.the-variants.{Within, Beyond, Spent}
 use Rattle.method.specs.Answers.{verdict, verdict-number, verdict-carries, stops, answer-at, steps-used, run-iterate, run-answer}
 use Rattle.method.specs.Fractions.{Fraction, integer, Is-ratio, _-ℚ_, _*ℚ_, ltQ, _≤ℚ_, _<ℚ_, fractions}
 use Rattle.method.specs.Published.{unit-vector, gradient, step-size, move, minimizer, published-iterate, published-pick, published-distance, published-gap, published-floor}
 use Rattle.method.specs.PublishedRun.{Is-published, Published-step, Published-run}
-use Rattle.method.proofs.Weights.{weight-suc, weight-twice, weight-positive}
+use Rattle.method.proofs.Weights.{weight-zero, weight-suc, weight-positive}
 use Rattle.method.proofs.Argmin.{among-row}
 use Rattle.method.proofs.Shares.{Mixed, mixed-is, iterate-mixed}
-use Rattle.method.proofs.Mixtures.{Problem, gap-is}
+use Rattle.method.proofs.Mixtures.{Well-formed, gap-is}
 use Rattle.method.proofs.Verdicts.{Means, verdict-means, within-exactly, beyond-exactly, beyond-carries, spent-carries}
-use Rattle.method.proofs.Accepted.{problem, mixed as accepted-mixed}
 use Rattle.method.proofs.Running.{stops-at, Stopped, stopped}
 use Rattle.method.proofs.Fractions.{one, integer-value, subtract-value, multiply-value, lt-value, le-exactly}
-use Rattle.method.proofs.Numerators.{integer-over, Over, over-at, over-fractions, over-difference, over-inner, over-linear-form, over-gap-terms, over-argmin, over-greatest, over-step, over-first}
+use Rattle.method.proofs.Numerators.{integer-over, Over, over-at, over-fractions, over-difference, over-inner, integers, over-linear-form, over-gap-terms, over-argmin, over-greatest, step-ratio, over-step, over-first}
 
 -- ---- Shares as integers
-
-integers : List ℕ → List ℤ
-integers [] = []
-integers (q ∷ qs) = pos q ∷ integers qs
 
 integers-at : (qs : List ℕ) (i : ℕ) → getD (integers qs) i (pos 0) ≡ pos (getD qs i 0)
 unfolding integers
@@ -96,65 +89,86 @@ over-by {w} {v} {x} {x'} {y} {y'} o e f g = subst (λ y. Over v x' y) g (subst (
 
 -- ---- The iterates
 
-module _ {c : ℕ} {rs : List (List ℤ)} {u : List ℤ} (p : Problem c rs u) where
+module _ {p : Problem} (wf : Well-formed p) where
+  -- W after t + 1 steps
+  abbrev w : ℕ → ℕ
+  w t = weight (p .schedule) (suc t)
+
   -- after t + 1 steps
   record Same (t : ℕ) : Type 0 where
-    shares : Over (weight (suc t)) (published-iterate rs u (suc t) .weights) (integers (iterate rs u c (suc t) .shares))
-    point : Over (weight (suc t)) (published-iterate rs u (suc t) .point) (iterate rs u c (suc t) .point)
+    shares : Over (weight (p .schedule) (suc t)) (published-iterate p (suc t) .weights) (integers (iterate p (suc t) .shares))
+    point : Over (weight (p .schedule) (suc t)) (published-iterate p (suc t) .point) (iterate p (suc t) .point)
 
-  above-zero : (t : ℕ) → 1 ≤ weight (suc t)
-  above-zero t = weight-positive (omega arith)
+  above-zero : (t : ℕ) → 1 ≤ weight (p .schedule) (suc t)
+  above-zero t = weight-positive (wf .schedule-fits) (omega arith)
 
-  mixed : (t : ℕ) → Mixed rs c t (iterate rs u c t)
-  mixed t = iterate-mixed rs u c (p .some-row) (p .wide) t
+  mixed : (t : ℕ) → Mixed p t (iterate p t)
+  mixed t = iterate-mixed p (wf .some-row) (wf .wide) t
 
-  over-residual : (t : ℕ) → Same t → Over (weight (suc t)) (gradient u (published-iterate rs u (suc t) .point)) (residual u (suc t) (iterate rs u c (suc t)))
+  over-residual : (t : ℕ) → Same t → Over (w t) (gradient (p .target) (published-iterate p (suc t) .point)) (residual p (suc t) (iterate p (suc t)))
   unfolding gradient residual
-  over-residual t s = over-difference (s .point) u
+  over-residual t s = over-difference (s .point) (p .target)
 
-  pick-first : published-pick rs u 0 ≡ argmin (scores (direction rs u 0 (iterate rs u c 0)) rs)
-  unfolding published-pick minimizer gradient published-iterate direction row
-  pick-first = over-argmin (over-linear-form (omega arith) (rw scale-one at (over-difference (over-fractions (getD rs 0 [])) u)) rs)
+  pick-first : published-pick p 0 ≡ pick p (direction p 0 (iterate p 0))
+  unfolding published-pick minimizer gradient published-iterate direction row pick
+  pick-first = over-argmin (over-linear-form (p .factors) (omega arith) (rw scale-one at (over-difference (over-fractions (getD (p .vertices) 0 [])) (p .target))) (p .vertices))
 
-  pick-later : (t : ℕ) → Same t → published-pick rs u (suc t) ≡ argmin (scores (direction rs u (suc t) (iterate rs u c (suc t))) rs)
-  unfolding published-pick minimizer direction
-  pick-later t s = over-argmin (over-linear-form (above-zero t) (over-residual t s) rs)
+  pick-later : (t : ℕ) → Same t → published-pick p (suc t) ≡ pick p (direction p (suc t) (iterate p (suc t)))
+  unfolding published-pick minimizer direction pick
+  pick-later t s = over-argmin (over-linear-form (p .factors) (above-zero t) (over-residual t s) (p .vertices))
+
+  first-share : Is-ratio (step-size (p .schedule) 0) (pos (share (p .schedule) 0)) (share (p .schedule) 0)
+  first-share = rw (weight-suc (p .schedule) 0, weight-zero (p .schedule), zero-add) at (step-ratio (p .schedule) 0 (above-zero 0))
+
+  first-weight : share (p .schedule) 0 ≡ weight (p .schedule) 1
+  first-weight = sym (weight-suc (p .schedule) 0 ∙ rw (weight-zero (p .schedule)) (zero-add (share (p .schedule) 0)))
 
   same-first : Same 0
-  unfolding published-iterate published-pick iterate step start row weight
+  unfolding published-iterate published-pick iterate step with-shares start row
   same-first =
       record {
         shares =
-            over-by (over-first (unit-vector (length rs) 0) (unitℤ (length rs) i)) refl
-            (ap (λ v. move (step-size 0) (unit-vector (length rs) 0) v) (sym (unit-is (length rs) i) ∙ ap (unit-vector (length rs)) (sym pick-first)))
-            (ap₂ (λ n m. add (replicate n (pos 0)) (scale 1 (unitℤ m i))) (length-unit (length rs) 0) (sym (length-replicate (length rs) 0))
-            ∙ ap (λ l. add l (scale 1 (unitℤ (length none-yet) i))) (sym (integers-zero (length rs))) ∙ shares-step 1 none-yet i);
+            over-by (over-first k first-share (unit-vector n 0) (unitℤ n i)) first-weight
+            (ap (λ v. move (step-size (p .schedule) 0) (unit-vector n 0) v) (sym (unit-is n i) ∙ ap (unit-vector n) (sym pick-first)))
+            (ap₂ (λ l m. add (replicate l (pos 0)) (scale k (unitℤ m i))) (length-unit n 0) (sym (length-replicate n 0))
+            ∙ ap (λ l. add l (scale k (unitℤ (length none-yet) i))) (sym (integers-zero n)) ∙ shares-step k none-yet i);
         point =
-            over-by (over-first (fractions (getD rs 0 [])) (getD rs i [])) refl
-            (ap (λ j. move (step-size 0) (fractions (getD rs 0 [])) (fractions (getD rs j []))) (sym pick-first))
-            (ap (λ n. add (replicate n (pos 0)) (scale 1 (getD rs i []))) (length-fractions (getD rs 0 []) ∙ p .wide .each (row rs 0) (among-row rs 0 (p .some-row))));
+            over-by (over-first k first-share (fractions (getD (p .vertices) 0 [])) (getD (p .vertices) i [])) first-weight
+            (ap (λ j. move (step-size (p .schedule) 0) (fractions (getD (p .vertices) 0 [])) (fractions (getD (p .vertices) j []))) (sym pick-first))
+            (ap (λ n. add (replicate n (pos 0)) (scale k (getD (p .vertices) i [])))
+            (length-fractions (getD (p .vertices) 0 []) ∙ wf .wide .each (row (p .vertices) 0) (among-row (p .vertices) 0 (wf .some-row))));
       }
     where
+      n : ℕ
+      n = length (p .vertices)
+
+      k : ℕ
+      k = share (p .schedule) 0
+
       i : ℕ
-      i = argmin (scores (direction rs u 0 (start rs c)) rs)
+      i = pick p (direction p 0 (start p))
 
       none-yet : List ℕ
-      none-yet = replicate (length rs) 0
+      none-yet = replicate (length (p .vertices)) 0
 
   same-later : (t : ℕ) → Same t → Same (suc t)
-  unfolding published-iterate published-pick iterate step row
+  unfolding published-iterate published-pick iterate step with-shares row
   same-later t s =
-      let i = argmin (scores (direction rs u (suc t) (iterate rs u c (suc t))) rs) in
-      let qs = iterate rs u c (suc t) .shares in
-      let z = published-iterate rs u (suc t) in
+      let k = share (p .schedule) (suc t) in
+      let n = length (p .vertices) in
+      let i = pick p (direction p (suc t) (iterate p (suc t))) in
+      let qs = iterate p (suc t) .shares in
+      let z = published-iterate p (suc t) in
+      let g : Is-ratio (step-size (p .schedule) (suc t)) (pos k) (weight (p .schedule) (suc t) + k) =
+      rw (weight-suc (p .schedule) (suc t)) at (step-ratio (p .schedule) (suc t) (above-zero (suc t))) in
       record {
         shares =
-            over-by (over-step (suc t) (weight-twice (suc t)) (s .shares) (unitℤ (length rs) i)) (sym (weight-suc (suc t)))
-            (ap (λ v. move (step-size (suc t)) (z .weights) v) (sym (unit-is (length rs) i) ∙ ap (unit-vector (length rs)) (sym (pick-later t s))))
-            (ap (λ n. add (integers qs) (scale (suc (suc t)) (unitℤ n i))) (sym (mixed (suc t) .count)) ∙ shares-step (suc (suc t)) qs i);
+            over-by (over-step k g (s .shares) (unitℤ n i)) (sym (weight-suc (p .schedule) (suc t)))
+            (ap (λ v. move (step-size (p .schedule) (suc t)) (z .weights) v) (sym (unit-is n i) ∙ ap (unit-vector n) (sym (pick-later t s))))
+            (ap (λ l. add (integers qs) (scale k (unitℤ l i))) (sym (mixed (suc t) .count)) ∙ shares-step k qs i);
         point =
-            over-by (over-step (suc t) (weight-twice (suc t)) (s .point) (getD rs i [])) (sym (weight-suc (suc t)))
-            (ap (λ j. move (step-size (suc t)) (z .point) (fractions (getD rs j []))) (sym (pick-later t s)))
+            over-by (over-step k g (s .point) (getD (p .vertices) i [])) (sym (weight-suc (p .schedule) (suc t)))
+            (ap (λ j. move (step-size (p .schedule) (suc t)) (z .point) (fractions (getD (p .vertices) j []))) (sym (pick-later t s)))
             refl;
       }
 
@@ -162,21 +176,21 @@ module _ {c : ℕ} {rs : List (List ℤ)} {u : List ℤ} (p : Problem c rs u) wh
   same zero = same-first
   same (suc t) = same-later t (same t)
 
-  pub same-pick : (k : ℕ) → published-pick rs u k ≡ argmin (scores (direction rs u k (iterate rs u c k)) rs)
+  pub same-pick : (k : ℕ) → published-pick p k ≡ pick p (direction p k (iterate p k))
   same-pick zero = pick-first
   same-pick (suc k) = pick-later k (same k)
 
   -- E / W²
-  distance-value : (t : ℕ) → Is-ratio (published-distance rs u (suc t)) (pos (distance u (suc t) (iterate rs u c (suc t)))) (weight (suc t) * weight (suc t))
+  distance-value : (t : ℕ) → Is-ratio (published-distance p (suc t)) (pos (distance p (suc t) (iterate p (suc t)))) (w t * w t)
   unfolding published-distance distance
-  distance-value t = rw norm-inner (over-inner (above-zero t) (above-zero t) (over-residual t (same t)) (over-residual t (same t)))
+  distance-value t = rw norm-weighted (over-inner (p .factors) (above-zero t) (above-zero t) (over-residual t (same t)) (over-residual t (same t)))
 
   -- G / W²
-  gap-value : (t : ℕ) → Is-ratio (published-gap rs u (suc t)) (pos (gap rs u (suc t) (iterate rs u c (suc t)))) (weight (suc t) * weight (suc t))
+  gap-value : (t : ℕ) → Is-ratio (published-gap p (suc t)) (pos (gap p (suc t) (iterate p (suc t)))) (w t * w t)
   unfolding published-gap signed-gap
   gap-value t =
-      rw (← gap-is p (above-zero t) (mixed (suc t)))
-      (over-greatest (one-le-mul (above-zero t) (above-zero t)) (over-gap-terms (above-zero t) (over-residual t (same t)) (same t .point) rs))
+      rw (← gap-is wf (above-zero t) (mixed (suc t)))
+      (over-greatest (one-le-mul (above-zero t) (above-zero t)) (over-gap-terms (p .factors) (above-zero t) (over-residual t (same t)) (same t .point) (p .vertices)))
 
 -- ---- The verdict
 
@@ -216,22 +230,22 @@ module _ {d g : Fraction} (tolerance w : ℕ) {e f : ℕ} (hd : Is-ratio d (pos 
 -- ---- The theorem
 
 -- after any number of steps from 1 on
-pub is-published : {c : ℕ} {rs : List (List ℤ)} (s : Sheet) → Problem c rs (s .target) → (t : ℕ) → 1 ≤ t → Published-step rs s c t
+pub is-published : {p : Problem} → Well-formed p → (t : ℕ) → 1 ≤ t → Published-step p t
 unfolding answer-at published-floor
-is-published s p zero h = absurd (omega arith)
-is-published s p (suc t) h =
-    let d = distance-value p t in
-    let g = gap-value p t in
+is-published wf zero h = absurd (omega arith)
+is-published {p} wf (suc t) h =
+    let d = distance-value wf t in
+    let g = gap-value wf t in
     record {
-      same-pick = λ k q. same-pick p k;
-      weights = λ i. rw integers-at at (over-at (above-zero p t) (same p t .shares) i);
-      point = over-at (above-zero p t) (same p t .point);
+      same-pick = λ k q. same-pick wf k;
+      weights = λ i. rw integers-at at (over-at (above-zero wf t) (same wf t .shares) i);
+      point = over-at (above-zero wf t) (same wf t .point);
       distance = d;
       gap = g;
-      within = within-value (s .tolerance) (weight (suc t)) d g;
-      beyond = beyond-value (s .tolerance) (weight (suc t)) d g;
-      floor = floor-carried (s .tolerance) (weight (suc t)) d g;
-      shortfall = shortfall-carried (s .tolerance) (weight (suc t)) d g;
+      within = within-value (p .tolerance) (weight (p .schedule) (suc t)) d g;
+      beyond = beyond-value (p .tolerance) (weight (p .schedule) (suc t)) d g;
+      floor = floor-carried (p .tolerance) (weight (p .schedule) (suc t)) d g;
+      shortfall = shortfall-carried (p .tolerance) (weight (p .schedule) (suc t)) d g;
     }
 
 -- a step that does not stop a run has the verdict Spent
@@ -241,35 +255,35 @@ unstopped n t Within e = absurd (let z : _≡_ {A = ℕ} 0 1 = cc in omega arith
 unstopped n t (Beyond floor) e = absurd (let z : _≡_ {A = ℕ} 0 1 = cc in omega arith)
 unstopped n t (Spent shortfall) e = refl
 
-module _ (b s : List ℕ) (ok : files-refusal b s ≡ 0) where
+module _ {p : Problem} (wf : Well-formed p) (some : 1 ≤ p .steps) where
   last : ℕ
-  last = steps-used (rows b) (sheet s) (columns b)
+  last = steps-used p
 
-  stopped-there : Stopped (rows b) (sheet s) (columns b) 0 (sheet s .steps) last
+  stopped-there : Stopped p 0 (p .steps) last
   unfolding last
-  stopped-there = stopped (rows b) (sheet s) (columns b) (files-accepted b s ok .1 .some-steps)
+  stopped-there = stopped p some
 
-  each-step : (k : ℕ) → 1 ≤ k → Published-step (rows b) (sheet s) (columns b) k
-  each-step = is-published (sheet s) (problem b s ok)
+  each-step : (k : ℕ) → 1 ≤ k → Published-step p k
+  each-step = is-published wf
 
-  spent-before : (k : ℕ) → 1 ≤ k → k < last → verdict-number (answer-at (rows b) (sheet s) k (iterate (rows b) (sheet s .target) (columns b) k) .verdict) ≡ 3
+  spent-before : (k : ℕ) → 1 ≤ k → k < last → verdict-number (answer-at p k (iterate p k) .verdict) ≡ 3
   unfolding stops-at
-  spent-before k h q = unstopped (sheet s .steps) k _ (stopped-there .first k h q)
+  spent-before k h q = unstopped (p .steps) k _ (stopped-there .first k h q)
 
-  none-within : (k : ℕ) → 1 ≤ k → k < last → ¬ (published-distance (rows b) (sheet s .target) k ≤ℚ integer (pos (sheet s .tolerance)))
+  none-within : (k : ℕ) → 1 ≤ k → k < last → ¬ (published-distance p k ≤ℚ integer (pos (p .tolerance)))
   unfolding answer-at
   none-within k h q w = omega (arith, each-step k h .within .1 w, spent-before k h q)
 
-  none-beyond : (k : ℕ) → 1 ≤ k → k < last → ¬ (integer (pos (sheet s .tolerance)) <ℚ published-floor (rows b) (sheet s .target) k)
+  none-beyond : (k : ℕ) → 1 ≤ k → k < last → ¬ (integer (pos (p .tolerance)) <ℚ published-floor p k)
   unfolding answer-at
   none-beyond k h q w = omega (arith, each-step k h .beyond .1 (none-within k h q, w), spent-before k h q)
 
-  pub published-run : Published-run b s (run-answer b s) (run-iterate b s .shares)
+  pub published-run : Published-run p (run-answer p) (run-iterate p .shares)
   unfolding run-answer run-iterate answer-at last
   published-run =
       record {
         each-step = each-step;
-        last-step = rw (← mixed-is (accepted-mixed b s ok last)) (each-step last (stopped-there .later));
+        last-step = rw (← mixed-is (iterate-mixed p (wf .some-row) (wf .wide) last)) (each-step last (stopped-there .later));
         none-within = none-within;
         none-beyond = none-beyond;
       }

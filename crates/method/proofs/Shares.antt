@@ -10,10 +10,11 @@ use lib.IntN.{ℤ, pos}
 use lib.ListN.{length, getD, set, replicate, length-replicate, length-set}
 use Rattle.frank_wolfe.specs.Vectors.{add, subtract, scale, sum, combination}
 use Rattle.frank_wolfe.proofs.Vectors.{Wide, length-combination, residual-more, subtract-zero, sum-zero, combination-zero, sum-set, combination-set}
-use Rattle.method.specs.Iterates.{Iterate, weight, start, residual, row, direction, scores, argmin, step, iterate, support}
+use Rattle.method.specs.Problem.{Problem, share, weight}
+use Rattle.method.specs.Iterates.{Iterate, start, residual, row, direction, pick, with-shares, step, iterate, support}
 use Rattle.method.specs.Bounds.{mixture-iterate}
-use Rattle.method.proofs.Weights.{weight-suc}
-use Rattle.method.proofs.Argmin.{argmin-below}
+use Rattle.method.proofs.Weights.{weight-zero, weight-suc}
+use Rattle.method.proofs.Argmin.{pick-below}
 
 -- ---- One share list
 
@@ -40,60 +41,66 @@ support-zero (suc n) = omega (arith, support-zero n)
 
 -- ---- Iterates
 
--- the shares after t steps, one a row, total W, and the point is their combination of the rows of c columns
-pub record Mixed (rs : List (List ℤ)) (c t : ℕ) (x : Iterate) : Type 0 where
-  pub count : length (x .shares) ≡ length rs
-  pub total : sum (x .shares) ≡ weight t
-  pub point : x .point ≡ combination c (x .shares) rs
+-- the shares after t steps, one a vertex, total W, and the point is their combination of the vertices
+pub record Mixed (p : Problem) (t : ℕ) (x : Iterate) : Type 0 where
+  pub count : length (x .shares) ≡ length (p .vertices)
+  pub total : sum (x .shares) ≡ weight (p .schedule) t
+  pub point : x .point ≡ combination (p .columns) (x .shares) (p .vertices)
 
-pub mixed-is : {rs : List (List ℤ)} {c t : ℕ} {x : Iterate} → Mixed rs c t x → x ≡ mixture-iterate c (x .shares) rs
+pub mixed-is : {p : Problem} {t : ℕ} {x : Iterate} → Mixed p t x → x ≡ mixture-iterate p (x .shares)
 mixed-is {x = x} m = ap (λ y. record { shares = x .shares; point = y }) (m .point)
 
--- any shares, one a row, that total W
-pub shares-mixed : (rs : List (List ℤ)) (c t : ℕ) (qs : List ℕ) → length qs ≡ length rs → sum qs ≡ weight t → Mixed rs c t (mixture-iterate c qs rs)
-shares-mixed rs c t qs e h = record { count = e; total = h; point = refl }
+-- any shares, one a vertex, that total W
+pub shares-mixed : (p : Problem) (t : ℕ) (qs : List ℕ) → length qs ≡ length (p .vertices) → sum qs ≡ weight (p .schedule) t → Mixed p t (mixture-iterate p qs)
+shares-mixed p t qs e h = record { count = e; total = h; point = refl }
 
-pub start-mixed : (rs : List (List ℤ)) (c : ℕ) → Wide c rs → Mixed rs c 0 (start rs c)
-unfolding start weight
-start-mixed rs c wide = record { count = length-replicate (length rs) 0; total = sum-zero (length rs); point = sym (combination-zero c rs wide) }
+pub mixed-length : {p : Problem} {t : ℕ} {x : Iterate} → Wide (p .columns) (p .vertices) → Mixed p t x → length (x .point) ≡ p .columns
+mixed-length {p} {x = x} wide m = rw (m .point) (length-combination (p .columns) (x .shares) (p .vertices) wide)
 
-pub step-mixed : {rs : List (List ℤ)} {c t : ℕ} {x : Iterate} (g : List ℤ) → 1 ≤ length rs → Mixed rs c t x → Mixed rs c (suc t) (step rs (suc t) g x)
-unfolding step row
-step-mixed {rs} {c} {t} {x} g some m =
-    let i = argmin (scores g rs) in
-    let h : i < length (x .shares) = rw (m .count) (argmin-below g rs some) in
-    record {
-      count = length-set (x .shares) i (getD (x .shares) i 0 + suc t) ∙ m .count;
-      total = sum-set (x .shares) i (suc t) h ∙ ap (λ w. w + suc t) (m .total) ∙ sym (weight-suc t);
-      point = ap (λ y. add y (scale (suc t) (row rs i))) (m .point) ∙ combination-set c (x .shares) rs i (suc t) (m .count) h;
-    }
-
-pub mixed-length : {rs : List (List ℤ)} {c t : ℕ} {x : Iterate} → Wide c rs → Mixed rs c t x → length (x .point) ≡ c
-mixed-length {rs} {c} {x = x} wide m = rw (m .point) (length-combination c (x .shares) rs wide)
-
-pub mixed-share : {rs : List (List ℤ)} {c t : ℕ} {x : Iterate} → Mixed rs c t x → (i : ℕ) → getD (x .shares) i 0 ≤ weight t
+pub mixed-share : {p : Problem} {t : ℕ} {x : Iterate} → Mixed p t x → (i : ℕ) → getD (x .shares) i 0 ≤ weight (p .schedule) t
 mixed-share {x = x} m i = rw (m .total) at (share-most (x .shares) i)
 
--- r′ = r + k (s - u)
-pub residual-step : (rs : List (List ℤ)) (u : List ℤ) (t : ℕ) (g : List ℤ) (x : Iterate) →
-    residual u (suc t) (step rs (suc t) g x) ≡ add (residual u t x) (scale (suc t) (subtract (row rs (argmin (scores g rs))) u))
-unfolding residual step
-residual-step rs u t g x = rw (weight-suc t) (residual-more (x .point) (row rs (argmin (scores g rs))) u (weight t) (suc t))
+module _ (p : Problem) where
+  pub start-mixed : Wide (p .columns) (p .vertices) → Mixed p 0 (start p)
+  unfolding start
+  start-mixed wide =
+      record {
+        count = length-replicate (length (p .vertices)) 0;
+        total = sum-zero (length (p .vertices)) ∙ sym (weight-zero (p .schedule));
+        point = sym (combination-zero (p .columns) (p .vertices) wide);
+      }
 
-pub residual-start : (rs : List (List ℤ)) (u : List ℤ) (c : ℕ) → length u ≡ c → residual u 0 (start rs c) ≡ replicate c (pos 0)
-unfolding residual start weight
-residual-start rs u c e = subtract-zero c u e
+  pub step-mixed : {t : ℕ} {x : Iterate} (g : List ℤ) → 1 ≤ length (p .vertices) → Mixed p t x → Mixed p (suc t) (step p t g x)
+  unfolding step with-shares row
+  step-mixed {t} {x} g some m =
+      let i = pick p g in
+      let k = share (p .schedule) t in
+      let h : i < length (x .shares) = rw (m .count) (pick-below p g some) in
+      record {
+        count = length-set (x .shares) i (getD (x .shares) i 0 + k) ∙ m .count;
+        total = sum-set (x .shares) i k h ∙ ap (λ w. w + k) (m .total) ∙ sym (weight-suc (p .schedule) t);
+        point = ap (λ y. add y (scale k (row (p .vertices) i))) (m .point) ∙ combination-set (p .columns) (x .shares) (p .vertices) i k (m .count) h;
+      }
 
-module _ (rs : List (List ℤ)) (u : List ℤ) (c : ℕ) where
-  pub iterate-mixed : 1 ≤ length rs → Wide c rs → (t : ℕ) → Mixed rs c t (iterate rs u c t)
+  -- r′ = r + k (s - u)
+  pub residual-step : (t : ℕ) (g : List ℤ) (x : Iterate) →
+      residual p (suc t) (step p t g x) ≡ add (residual p t x) (scale (share (p .schedule) t) (subtract (row (p .vertices) (pick p g)) (p .target)))
+  unfolding residual step with-shares
+  residual-step t g x = rw (weight-suc (p .schedule) t) (residual-more (x .point) (row (p .vertices) (pick p g)) (p .target) (weight (p .schedule) t) (share (p .schedule) t))
+
+  pub residual-start : length (p .target) ≡ p .columns → residual p 0 (start p) ≡ replicate (p .columns) (pos 0)
+  unfolding residual start
+  residual-start e = rw (weight-zero (p .schedule)) (subtract-zero (p .columns) (p .target) e)
+
+  pub iterate-mixed : 1 ≤ length (p .vertices) → Wide (p .columns) (p .vertices) → (t : ℕ) → Mixed p t (iterate p t)
   unfolding iterate
-  iterate-mixed some wide zero = start-mixed rs c wide
-  iterate-mixed some wide (suc t) = step-mixed (direction rs u t (iterate rs u c t)) some (iterate-mixed some wide t)
+  iterate-mixed some wide zero = start-mixed wide
+  iterate-mixed some wide (suc t) = step-mixed (direction p t (iterate p t)) some (iterate-mixed some wide t)
 
-  pub iterate-support : (t : ℕ) → support (iterate rs u c t .shares) ≤ t
-  unfolding iterate start step
-  iterate-support zero = omega (arith, support-zero (length rs))
+  pub iterate-support : (t : ℕ) → support (iterate p t .shares) ≤ t
+  unfolding iterate start step with-shares
+  iterate-support zero = omega (arith, support-zero (length (p .vertices)))
   iterate-support (suc t) =
-      let x = iterate rs u c t in
-      let i = argmin (scores (direction rs u t x) rs) in
-      omega (arith, iterate-support t, support-set (x .shares) i (getD (x .shares) i 0 + suc t))
+      let x = iterate p t in
+      let i = pick p (direction p t x) in
+      omega (arith, iterate-support t, support-set (x .shares) i (getD (x .shares) i 0 + share (p .schedule) t))

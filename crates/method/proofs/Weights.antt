@@ -1,40 +1,61 @@
--- The weight W = t (t + 1) / 2 of t steps: its laws, and that it is the total of the shares 1, 2, .., t.
-use mathlib.Core.Path.{_≡_, refl, sym, ap, _∙_}
+-- The weight W of t steps: its laws, and that it is the total of the shares.
+use mathlib.Core.Path.{_≡_, refl, ap, _∙_}
 use Prim.Native.Nat.{ℕ, zero, suc, _+_, _*_, _≤_, _<_}
 use native.Mathlib.Nat.{mul-le-mul, lt-of-le-of-lt}
 use native.Mathlib.Omega.{arith}
 use lib.Dec.{lit<}
 use Rattle.frank_wolfe.specs.Method.{total}
-use Rattle.method.specs.Iterates.{weight}
+use Rattle.method.specs.Problem.{Schedule, fixed, share, weight}
 
-double-total : (t : ℕ) → 2 * total suc t ≡ t * (t + 1)
-unfolding total
-double-total zero = refl
-double-total (suc t) = let h : 2 * total suc t ≡ t * (t + 1) = double-total t in omega arith
+-- ---- Any schedule
 
-pub weight-total : (t : ℕ) → weight t ≡ total suc t
+pub weight-suc : (a : Schedule) (t : ℕ) → weight a (suc t) ≡ weight a t + share a t
+unfolding weight share
+weight-suc fixed t = omega arith
+
+pub weight-zero : (a : Schedule) → weight a 0 ≡ 0
 unfolding weight
-weight-total t = let h : 2 * total suc t ≡ t * (t + 1) = double-total t in omega arith
+weight-zero fixed = refl
 
-pub weight-twice : (t : ℕ) → 2 * weight t ≡ t * (t + 1)
-weight-twice t = rw (weight-total t) (double-total t)
-
-pub weight-suc : (t : ℕ) → weight (suc t) ≡ weight t + suc t
+pub weight-total : (a : Schedule) (t : ℕ) → weight a t ≡ total (share a) t
 unfolding total
-weight-suc t = weight-total (suc t) ∙ ap (λ w. w + suc t) (sym (weight-total t))
+weight-total a zero = weight-zero a
+weight-total a (suc t) = weight-suc a t ∙ ap (λ w. w + share a t) (weight-total a t)
 
-pub weight-positive : {t : ℕ} → 1 ≤ t → 1 ≤ weight t
-weight-positive {t = zero} h = absurd (omega arith)
-weight-positive {t = suc t} h = omega (arith, weight-suc t)
+-- what the theorem asks of the shares: the first is above 0, and no square is above twice the total that includes it
+pub record Schedule-fits (a : Schedule) : Type 0 where
+  pub some-share : 1 ≤ share a 0
+  pub squares : (k : ℕ) → share a k * share a k ≤ 2 * weight a (suc k)
 
-pub weight-monotone : {s t : ℕ} → s ≤ t → weight s ≤ weight t
+pub weight-positive : {a : Schedule} → Schedule-fits a → {t : ℕ} → 1 ≤ t → 1 ≤ weight a t
+weight-positive f {t = zero} h = absurd (omega arith)
+weight-positive {a} f {t = suc zero} h = rw (weight-suc a 0, weight-zero a) (omega (arith, f .some-share))
+weight-positive {a} f {t = suc (suc t)} h = omega (arith, weight-suc a (suc t), weight-positive {a = a} f {t = suc t} (omega arith))
+
+-- ---- The fixed shares 1, 2, 3, ..
+
+pub weight-twice : (t : ℕ) → 2 * weight fixed t ≡ t * (t + 1)
+unfolding share
+weight-twice zero = rw (weight-zero fixed) refl
+weight-twice (suc t) = let h : 2 * weight fixed t ≡ t * (t + 1) = weight-twice t in rw (weight-suc fixed t) (omega arith)
+
+-- step k takes k shares
+pub weight-more : (t : ℕ) → weight fixed (suc t) ≡ weight fixed t + suc t
+unfolding share
+weight-more t = weight-suc fixed t
+
+pub fixed-fits : Schedule-fits fixed
+unfolding share
+fixed-fits = record { some-share = omega arith; squares = λ k. let h : 2 * weight fixed (suc k) ≡ suc k * (suc k + 1) = weight-twice (suc k) in omega arith }
+
+pub weight-monotone : {s t : ℕ} → s ≤ t → weight fixed s ≤ weight fixed t
 weight-monotone {s} {t} h = let k : s * (s + 1) ≤ t * (t + 1) = mul-le-mul h (omega arith) in omega (arith, weight-twice s, weight-twice t)
 
 -- the weight of the most steps that a sheet may ask
-pub weight-most : {t : ℕ} → t ≤ 360 → weight t ≤ 64980
+pub weight-most : {t : ℕ} → t ≤ 360 → weight fixed t ≤ 64980
 unfolding weight
 weight-most h = weight-monotone h
 
 -- W² times a number that is no more than the greatest tolerance is below 2^62
-pub weight-fits : {t d : ℕ} → t ≤ 360 → d ≤ 1024000000 → d * (weight t * weight t) < 4611686018427387904
-weight-fits h k = lt-of-le-of-lt (mul-le-mul k (mul-le-mul (weight-most h) (weight-most h))) (lit< tt)
+pub weight-fits : {w d : ℕ} → w ≤ 64980 → d ≤ 1024000000 → d * (w * w) < 4611686018427387904
+weight-fits h k = lt-of-le-of-lt (mul-le-mul k (mul-le-mul h h)) (lit< tt)

@@ -5,14 +5,15 @@ use Prim.Native.Nat.{ℕ, zero, suc, _+_, _*_, _-_}
 use lib.Dec.{eqb, ltb, leb}
 use lib.ListN.{length, drop}
 use lib.IntN.{ℤ, pos, _-ℤ_}
-use Rattle.files.specs.Book.{rows, columns, boats}
-use Rattle.files.specs.Sheet.{Sheet, sheet, files-refusal}
+use Rattle.files.specs.Book.{boats}
+use Rattle.files.specs.Sheet.{files-refusal}
 use Rattle.method.specs.declared.Verdict.{Verdict}
 use Rattle.method.specs.declared.Verdict.the-variants.{Within, Beyond, Spent}
 use Rattle.method.specs.declared.Answer.{Answer}
 use Rattle.method.specs.declared.Searched.{Searched}
 use Rattle.method.specs.declared.Searched.the-variants.{Refused, Answered}
-use Rattle.method.specs.Iterates.{Iterate, weight, start, direction, step, iterate, distance, gap}
+use Rattle.method.specs.Problem.{Problem, weight}
+use Rattle.method.specs.Iterates.{Iterate, start, direction, step, iterate, distance, gap}
 
 -- ---- The enums by number
 
@@ -53,28 +54,29 @@ stops n t (Spent shortfall) = eqb t n
 
 -- ---- The answer after t steps, and the run
 
-unfoldable pub answer-at : (rs : List (List ℤ)) → Sheet → (t : ℕ) → Iterate → Answer
-answer-at rs s t x =
-    let e = distance (s .target) t x in
-    let g = gap rs (s .target) t x in
-    record { steps = t; weight = weight t; distance = e; gap = g; verdict = verdict (s .tolerance) (weight t) e g }
+unfoldable pub answer-at : Problem → (t : ℕ) → Iterate → Answer
+answer-at p t x =
+    let w = weight (p .schedule) t in
+    let e = distance p t x in
+    let g = gap p t x in
+    record { steps = t; weight = w; distance = e; gap = g; verdict = verdict (p .tolerance) w e g }
 
 -- the steps that a run takes from an iterate after t steps, with so many steps left: up to the first that stops it
-unfoldable pub steps-from : (left t : ℕ) → (rs : List (List ℤ)) → Sheet → Iterate → ℕ
-steps-from zero t rs s x = t
-steps-from (suc n) t rs s x =
-    let y = step rs (suc t) (direction rs (s .target) t x) x in
-    cond (stops (s .steps) (suc t) (answer-at rs s (suc t) y .verdict)) (suc t) (steps-from n (suc t) rs s y)
+unfoldable pub steps-from : (left t : ℕ) → Problem → Iterate → ℕ
+steps-from zero t p x = t
+steps-from (suc n) t p x =
+    let y = step p t (direction p t x) x in
+    cond (stops (p .steps) (suc t) (answer-at p (suc t) y .verdict)) (suc t) (steps-from n (suc t) p y)
 
-unfoldable pub steps-used : (rs : List (List ℤ)) → Sheet → (columns : ℕ) → ℕ
-steps-used rs s c = steps-from (s .steps) 0 rs s (start rs c)
+unfoldable pub steps-used : Problem → ℕ
+steps-used p = steps-from (p .steps) 0 p (start p)
 
--- the iterate and the answer of a fleet book and a sheet, as bytes
-unfoldable pub run-iterate : (book sheet : List ℕ) → Iterate
-run-iterate b s = iterate (rows b) (sheet s .target) (columns b) (steps-used (rows b) (sheet s) (columns b))
+-- the iterate and the answer of a run
+unfoldable pub run-iterate : Problem → Iterate
+run-iterate p = iterate p (steps-used p)
 
-unfoldable pub run-answer : (book sheet : List ℕ) → Answer
-run-answer b s = answer-at (rows b) (sheet s) (steps-used (rows b) (sheet s) (columns b)) (run-iterate b s)
+unfoldable pub run-answer : Problem → Answer
+run-answer p = answer-at p (steps-used p) (run-iterate p)
 
 -- ---- The search
 

@@ -1,7 +1,8 @@
 -- The definitions of this crate: the method in whole numbers, the published one over fractions, and what is promised of a run.
+pub mod Problem
+pub mod Minimum
 pub mod Iterates
 pub mod Answers
-pub mod Minimum
 pub mod Bounds
 pub mod Fractions
 pub mod Published

@@ -7,16 +7,17 @@ use Rattle.files.specs.Book.{boats}
 use Rattle.method.specs.declared.Answer.{Answer}
 use Rattle.method.specs.declared.Searched.{Searched}
 use Rattle.method.specs.declared.Searched.the-variants.{Refused, Answered}
+use Rattle.method.specs.Problem.{Problem, problem}
 use Rattle.method.specs.Answers.{refusal-number, search-refusal}
 use Rattle.method.specs.Bounds.{Run-bounds}
 use Rattle.method.specs.PublishedRun.{Published-run}
 
--- of the answer and the shares of a fleet book and a sheet
-pub record Run-right (b s : List ℕ) (a : Answer) (shares : List ℕ) : Type 0 where
+-- of the answer and the shares of a problem
+pub record Run-right (p : Problem) (a : Answer) (shares : List ℕ) : Type 0 where
   -- steps, shares and numbers, how near any mixture can come, and what the verdict means
-  pub bounds : Run-bounds b s a shares
+  pub bounds : Run-bounds p a shares
   -- after each step they are those of the published method
-  pub published : Published-run b s a shares
+  pub published : Published-run p a shares
 
 -- of an outcome and the share list that it leaves
 pub record Outcome-right (b s : List ℕ) (r : Searched) (slots : List ℕ) : Type 0 where
@@ -25,4 +26,4 @@ pub record Outcome-right (b s : List ℕ) (r : Searched) (slots : List ℕ) : Ty
   -- a refusal is never the number 0
   pub refused : (n : ℕ) → r ≡ Refused n → 1 ≤ n
   -- the shares of a run are in the first slots, one a boat
-  pub answered : (a : Answer) → r ≡ Answered a → Run-right b s a (take (boats b) slots)
+  pub answered : (a : Answer) → r ≡ Answered a → Run-right (problem b s) a (take (boats b) slots)

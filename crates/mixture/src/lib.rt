@@ -8,7 +8,7 @@ ghost use Rattle.frank_wolfe.specs.Vectors.{subtract, scale, sum, combination};
 ghost use Rattle.files.specs.Book.{boats, columns, rows};
 ghost use Rattle.files.specs.Sheet.{files-refusal};
 ghost use Rattle.files.specs.Sheet as Sheets;
-ghost use Rattle.method.specs.Iterates.{weight};
+ghost use Rattle.method.specs.Problem.{fixed, weight, problem};
 ghost use Rattle.iteration.specs.States.{file-layout};
 ghost use Rattle.method.specs.Bounds.{answer-of};
 use iteration::Layout;
@@ -43,8 +43,8 @@ pub fn answer_of(book: &[u8], sheet: &[u8], layout: Layout, shares: [u16; 256], 
     requires { ⌜ files-refusal (now book) (now sheet) ≡ 0 ⌝ }
     requires { ⌜ layout ≡ file-layout (now book) (now sheet) ⌝ }
     requires { do ⌜ (1 ≤ t) × (t ≤ (← ⟦State::MOST_STEPS⟧)) ⌝ }
-    requires { ⌜ sum (take (boats (now book)) shares) ≡ weight t ⌝ }
-    ensures { λ x. ⌜ x ≡ answer-of (now (book .entry)) (now (sheet .entry)) (take (boats (now (book .entry))) shares) t ⌝ }
+    requires { ⌜ sum (take (boats (now book)) shares) ≡ weight fixed t ⌝ }
+    ensures { λ x. ⌜ x ≡ answer-of (problem (now (book .entry)) (now (sheet .entry))) (take (boats (now (book .entry))) shares) t ⌝ }
 {
     let rows = layout.rows;
     let columns = layout.columns;

@@ -9,13 +9,14 @@ use lib.ListN.{length, getD, set, take, drop, replicate, length-append, length-r
 use lib.Seq.{getD-take, take-at, drop-at, set-append-left, length-front, length-take-le}
 use Rattle.integers.proofs.Filling.{replicate-parts}
 use Rattle.files.specs.Book.{boats, columns, rows}
-use Rattle.files.specs.Sheet.{sheet, files-refusal}
-use Rattle.frank_wolfe.specs.Vectors.{add, scale}
-use Rattle.method.specs.Iterates.{iterate, start, residual, direction, argmin, row, weight}
-use Rattle.method.proofs.Weights.{weight-most, weight-suc}
+use Rattle.files.specs.Sheet.{files-refusal}
+use Rattle.frank_wolfe.specs.Vectors.{add, scale, ones}
+use Rattle.method.specs.Problem.{fixed, problem, weight}
+use Rattle.method.specs.Iterates.{iterate, start, residual, direction, argmin, row}
+use Rattle.method.proofs.Weights.{weight-most, weight-more}
 use Rattle.method.proofs.Argmin.{among-row, score-at, length-scores}
 use Rattle.method.proofs.Mixtures.{score-most}
-use Rattle.method.proofs.Accepted.{problem, in-range, mixed, share-count}
+use Rattle.method.proofs.Accepted.{well-formed, in-range, mixed, share-count}
 use Rattle.method.proofs.Shares.{mixed-share, residual-start}
 use Rattle.sums.specs.Operands.{Rescorable}
 use Rattle.scoring.specs.Scores.{least-of}
@@ -46,11 +47,12 @@ module _ (b s : List ℕ) (ok : files-refusal b s ≡ 0) where
     share-is = sym (getD-take (boats b) qs (x .best) 0 (best-below b s ok H)) ∙ ap (λ (l : List ℕ). getD l (x .best) 0) (ap (take (boats b)) (q .is) ∙ take-at (iterate-of b s t .shares) z (boats b) (count t))
 
     pub share-room : (x .best < length qs) × (getD qs (x .best) 0 + suc t < 65536)
+    unfolding problem
     share-room =
         let n : boats b ≤ length qs = rw (q .is, length-append, count t) (omega arith) in
-        let m : getD (iterate-of b s t .shares) (x .best) 0 ≤ weight t = mixed-share (mixed b s ok t) (x .best) in
-        let w : weight (suc t) ≤ 64980 = weight-most (omega arith) in
-        (omega (arith, best-below b s ok H), rw share-is (omega (arith, weight-suc t)))
+        let m : getD (iterate-of b s t .shares) (x .best) 0 ≤ weight fixed t = mixed-share (mixed b s ok t) (x .best) in
+        let w : weight fixed (suc t) ≤ 64980 = weight-most (omega arith) in
+        (omega (arith, best-below b s ok H), rw share-is (omega (arith, weight-more t)))
 
     pub shares-next : {rs : List ℕ} → rs ≡ set qs (x .best) (getD qs (x .best) 0 + suc t) → Shared b s (suc t) rs z
     shares-next e =
@@ -67,7 +69,7 @@ module _ (b s : List ℕ) (ok : files-refusal b s ≡ 0) where
   shared-long {t} old room q = rw (q .is) (length-front old (iterate-of b s t .shares) (boats b) (count t ∙ sym (length-take-le (boats b) old room)))
 
   none-yet : iterate-of b s 0 .shares ≡ replicate (boats b) 0
-  unfolding iterate start
+  unfolding problem iterate start
   none-yet = rw (book-fits b s ok .row-count)
 
   module _ {l : Layout} (e : l ≡ file-layout b s) (old : List ℕ) (room : boats b ≤ length old) {qs : List ℕ} (q : qs ≡ replicate (l .boats) 0 ++ drop (l .boats) old) where
@@ -89,12 +91,12 @@ module _ (b s : List ℕ) (ok : files-refusal b s ≡ 0) where
   -- ---- Scores
 
   pub scores-start : (n : ℕ) → boats b ≤ n → Scores-at b s 0 (replicate n (pos 0))
-  unfolding iterate
+  unfolding problem iterate
   scores-start n h =
       record {
         room = rw (length-replicate n (pos 0)) h;
         are = take-replicate (boats b) n (pos 0) h
-            ∙ sym (rw (residual-start (rows b) (sheet s .target) (columns b) (sheet-fits b s ok .target-length), scores-zero (columns b) (rows b), book-fits b s ok .row-count));
+            ∙ sym (rw (residual-start (problem b s) (sheet-fits b s ok .target-length), scores-zero (ones (columns b)) (columns b) (rows b), book-fits b s ok .row-count));
       }
 
   -- memory for boats that are at most n
@@ -105,11 +107,12 @@ module _ (b s : List ℕ) (ok : files-refusal b s ≡ 0) where
   module _ {l : Layout} (e : l ≡ file-layout b s) {x : State} (H : Holds b s (x .steps) x) (few : x .steps < 360) {sc : List ℤ} (S : Scores-at b s (x .steps) sc)
       {ps : List ℤ} (P : Products b s (x .best) ps) where
     old-score : (q : ℕ) → q < boats b → natAbs (getD sc q (pos 0)) ≤ 33269760000000
+    unfolding problem
     old-score q h =
         let f = in-range b s ok in
-        let w : weight (suc (x .steps)) ≤ 64980 = weight-most (omega arith) in
-        rw (← getD-take (boats b) sc q (pos 0) h, S .are, score-at (residual (sheet s .target) (x .steps) (iterate-of b s (x .steps))) (rows b) q)
-        (omega (arith, score-most (problem b s ok) f (mixed b s ok (x .steps)) (row (rows b) q) (f .rows-bounded _ (among-row (rows b) q (omega (arith, book-fits b s ok .row-count)))), w, weight-suc (x .steps)))
+        let w : weight fixed (suc (x .steps)) ≤ 64980 = weight-most (omega arith) in
+        rw (← getD-take (boats b) sc q (pos 0) h, S .are, score-at (ones (columns b)) (residual (problem b s) (x .steps) (iterate-of b s (x .steps))) (rows b) q)
+        (omega (arith, score-most (well-formed b s ok) f (mixed b s ok (x .steps)) (row (rows b) q) (f .rows-bounded _ (among-row (rows b) q (omega (arith, book-fits b s ok .row-count)))), w, weight-more (x .steps)))
 
     pub rescorable-here : Rescorable sc (x .steps + 1) ps (l .boats)
     unfolding file-layout
@@ -129,7 +132,7 @@ module _ (b s : List ℕ) (ok : files-refusal b s ≡ 0) where
       scores-whole = f ∙ rw (moved-scores, e, add-one)
 
       n : length (scores-of b s (suc (x .steps))) ≡ boats b
-      n = length-scores _ (rows b) ∙ book-fits b s ok .row-count
+      n = length-scores _ _ (rows b) ∙ book-fits b s ok .row-count
 
       pub scores-behind : drop (boats b) new ≡ drop (boats b) sc
       scores-behind = ap (drop (boats b)) scores-whole ∙ drop-at (scores-of b s (suc (x .steps))) (drop (boats b) sc) (boats b) n

@@ -9,9 +9,10 @@ use borrow.Author.Tests.{ltb-true, ltb-false}
 use lib.Dec.{ltb}
 use lib.ListN.{take, drop}
 use Rattle.files.specs.Bytes.{values}
-use Rattle.files.specs.Book.{columns, rows}
+use Rattle.files.specs.Book.{columns}
 use Rattle.files.specs.Sheet.{sheet, files-refusal}
-use Rattle.method.specs.Iterates.{iterate, weight}
+use Rattle.method.specs.Problem.{fixed, problem, weight}
+use Rattle.method.specs.Iterates.{iterate}
 use Rattle.method.specs.Answers.{answer-at, stops, run-answer, run-iterate}
 use Rattle.method.specs.declared.Answer.{Answer}
 use Rattle.method.specs.declared.Verdict.{Verdict}
@@ -40,7 +41,7 @@ not-last n t v h e = go (ltb t n) refl
 
 module _ (b s : List ℕ) (ok : files-refusal b s ≡ 0) where
   pub going-start : {x : State} → Holds b s 0 x → Going b s x
-  unfolding iterate
+  unfolding problem iterate
   going-start {x} H =
       rw-steps (H .steps-are)
     where
@@ -49,20 +50,21 @@ module _ (b s : List ℕ) (ok : files-refusal b s ≡ 0) where
           record {
             held = subst (λ n. Holds b s n x) (sym e) H;
             left = omega (arith, sheet-fits b s ok .some-steps);
-            undecided = rw e (running-start (rows b) (sheet s) (columns b) .decides);
+            undecided = rw e (running-start (problem b s) .decides);
           }
 
   -- a run that its first step stops
-  pub first-done : {a : Answer} → a ≡ answer-at (rows b) (sheet s) 1 (iterate-of b s 1) → {k : ℕ} → k ≡ sheet s .steps → {d : Bool} → d ≡ stops k 1 (a .verdict) → d ≡ true →
-      (a ≡ run-answer b s) × (iterate-of b s 1 .shares ≡ run-iterate b s .shares)
-  unfolding iterate
+  pub first-done : {a : Answer} → a ≡ answer-at (problem b s) 1 (iterate-of b s 1) → {k : ℕ} → k ≡ sheet s .steps → {d : Bool} → d ≡ stops k 1 (a .verdict) → d ≡ true →
+      (a ≡ run-answer (problem b s)) × (iterate-of b s 1 .shares ≡ run-iterate (problem b s) .shares)
+  unfolding problem iterate
   first-done ea ek ed f =
-      let v : stops (sheet s .steps) 1 (answer-at (rows b) (sheet s) 1 (iterate-of b s 1) .verdict) ≡ true = rw (ek, ea) at (sym ed ∙ f) in
-      let d = running-done (running-start (rows b) (sheet s) (columns b)) (omega (arith, sheet-fits b s ok .some-steps)) v in
-      (ea ∙ finished-answer b s d, ap (λ z. z .shares) (finished-iterate b s d))
+      let v : stops (sheet s .steps) 1 (answer-at (problem b s) 1 (iterate-of b s 1) .verdict) ≡ true = rw (ek, ea) at (sym ed ∙ f) in
+      let d = running-done (running-start (problem b s)) (omega (arith, sheet-fits b s ok .some-steps)) v in
+      (ea ∙ finished-answer d, ap (λ z. z .shares) (finished-iterate d))
 
   module _ {x : State} (g : Going b s x) {y : State} (H : Holds b s (x .steps + 1) y) where
-    running : Running (rows b) (sheet s) (columns b) (x .steps) (iterate-of b s (x .steps))
+    running : Running (problem b s) (x .steps) (iterate-of b s (x .steps))
+    unfolding problem
     running = record { within = omega (arith, g .left); iterated = refl; decides = g .undecided }
 
     next-held : Holds b s (suc (x .steps)) y
@@ -76,16 +78,16 @@ module _ (b s : List ℕ) (ok : files-refusal b s ≡ 0) where
       next-answerable = answerable b s ok next-held next-few e
 
       module _ {a : Answer}
-          (ea : a ≡ measure (y .steps) (weight (y .steps)) (sheet s .tolerance) (take (l .columns) (y .residual)) (values (l .columns) (drop (l .target) s)) (y .least))
+          (ea : a ≡ measure (y .steps) (weight fixed (y .steps)) (sheet s .tolerance) (take (l .columns) (y .residual)) (values (l .columns) (drop (l .target) s)) (y .least))
           {k : ℕ} (ek : k ≡ sheet s .steps) {d : Bool} (ed : d ≡ stops k (y .steps) (a .verdict)) where
-        answer-is : a ≡ answer-at (rows b) (sheet s) (suc (x .steps)) (iterate-of b s (suc (x .steps)))
+        answer-is : a ≡ answer-at (problem b s) (suc (x .steps)) (iterate-of b s (suc (x .steps)))
         answer-is = ea ∙ answer-right b s ok next-held next-few e
 
-        stopped-is : d ≡ stops (sheet s .steps) (suc (x .steps)) (answer-at (rows b) (sheet s) (suc (x .steps)) (iterate-of b s (suc (x .steps))) .verdict)
+        stopped-is : d ≡ stops (sheet s .steps) (suc (x .steps)) (answer-at (problem b s) (suc (x .steps)) (iterate-of b s (suc (x .steps))) .verdict)
         stopped-is = ed ∙ rw (ek, next-held .steps-are, answer-is)
 
         pub going-more : d ≡ false → Going b s y
-        unfolding iterate
+        unfolding problem iterate
         going-more f =
             let p : y .steps ≡ suc (x .steps) = next-held .steps-are in
             record {
@@ -94,8 +96,8 @@ module _ (b s : List ℕ) (ok : files-refusal b s ≡ 0) where
               undecided = rw p (running-more running (g .left) (sym stopped-is ∙ f) .decides);
             }
 
-        pub going-done : d ≡ true → (a ≡ run-answer b s) × ((iterate-of b s (y .steps) .shares ≡ run-iterate b s .shares) × (y .steps ≡ run-answer b s .steps))
-        unfolding iterate answer-at
+        pub going-done : d ≡ true → (a ≡ run-answer (problem b s)) × ((iterate-of b s (y .steps) .shares ≡ run-iterate (problem b s) .shares) × (y .steps ≡ run-answer (problem b s) .steps))
+        unfolding problem iterate answer-at
         going-done f =
             let d = running-done running (g .left) (sym stopped-is ∙ f) in
-            (answer-is ∙ finished-answer b s d, (rw (next-held .steps-are) (ap (λ z. z .shares) (finished-iterate b s d)), next-held .steps-are ∙ ap (λ (z : Answer). z .steps) (finished-answer b s d)))
+            (answer-is ∙ finished-answer d, (rw (next-held .steps-are) (ap (λ z. z .shares) (finished-iterate d)), next-held .steps-are ∙ ap (λ (z : Answer). z .steps) (finished-answer d)))

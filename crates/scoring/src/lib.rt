@@ -6,7 +6,7 @@ ghost use Prim.Native.Nat.{_≤_};
 ghost use lib.ListN.{length, take, drop};
 ghost use lib.IntN.{pos, _+ℤ_, _*ℤ_};
 ghost use Rattle.files.specs.Book.{rows-from};
-ghost use Rattle.frank_wolfe.specs.Vectors.{add, scale};
+ghost use Rattle.frank_wolfe.specs.Vectors.{add, scale, ones};
 ghost use Rattle.method.specs.Iterates.{scores};
 ghost use Rattle.sums.specs.Operands.{Bounded, Grid, Rows-bounded, Score-sized, Rescorable};
 ghost use Rattle.scoring.specs.Scores.{least-of};
@@ -21,7 +21,7 @@ pub struct Least {
 pub fn least_score(r: &[i32], book: &[u8], at: usize, boats: usize, columns: usize) -> Least
     requires { ⌜ Grid (now book) at boats columns ⌝ }
     requires { ⌜ Bounded 260000000 columns (now r) ⌝ }
-    ensures { λ x. ⌜ x ≡ least-of (scores (take columns (now (r .entry))) (rows-from boats columns (drop at (now (book .entry))))) ⌝ }
+    ensures { λ x. ⌜ x ≡ least-of (scores (ones columns) (take columns (now (r .entry))) (rows-from boats columns (drop at (now (book .entry))))) ⌝ }
 {
     let mut boat = 0;
     let mut score = sums::inner_at(r, book, at, columns);
@@ -45,7 +45,7 @@ pub fn products(d: &[i16], book: &[u8], at: usize, boats: usize, columns: usize,
     requires { ⌜ Bounded 4000 columns (now d) ⌝ }
     requires { ⌜ Rows-bounded (rows-from boats columns (drop at (now book))) columns ⌝ }
     requires { ⌜ boats ≤ length (now to) ⌝ }
-    ensures { λ _. ⌜ now (to .exit) ≡ scores (take columns (now (d .entry))) (rows-from boats columns (drop at (now (book .entry)))) ++ drop boats (now (to .entry)) ⌝ }
+    ensures { λ _. ⌜ now (to .exit) ≡ scores (ones columns) (take columns (now (d .entry))) (rows-from boats columns (drop at (now (book .entry)))) ++ drop boats (now (to .entry)) ⌝ }
 {
     let mut row = at;
     let mut i = 0;
@@ -61,7 +61,7 @@ pub fn least_product(d: &[i16], book: &[u8], at: usize, boats: usize, columns: u
     requires { ⌜ Grid (now book) at boats columns ⌝ }
     requires { ⌜ Bounded 4000 columns (now d) ⌝ }
     requires { ⌜ Rows-bounded (rows-from boats columns (drop at (now book))) columns ⌝ }
-    ensures { λ x. ⌜ x ≡ least-of (scores (take columns (now (d .entry))) (rows-from boats columns (drop at (now (book .entry))))) ⌝ }
+    ensures { λ x. ⌜ x ≡ least-of (scores (ones columns) (take columns (now (d .entry))) (rows-from boats columns (drop at (now (book .entry))))) ⌝ }
 {
     let mut boat = 0;
     let mut least = sums::narrow_inner(d, book, at, columns);

@@ -11,6 +11,7 @@ use Rattle.files.specs.Sheet.{files-refusal}
 use Rattle.method.specs.declared.Answer.{Answer}
 use Rattle.method.specs.declared.Searched.{Searched}
 use Rattle.method.specs.declared.Searched.the-variants.{Refused, Answered}
+use Rattle.method.specs.Problem.{problem}
 use Rattle.method.specs.Answers.{outcome, search-refusal, slots-after, run-answer, run-iterate}
 use Rattle.method.specs.Promise.{Outcome-right}
 use Rattle.method.proofs.Accepted.{share-count}
@@ -19,13 +20,13 @@ use Rattle.method.proofs.Promise.{outcome-right}
 module _ (b s slots : List ℕ) where
   -- what a search gives back and leaves in the list, by the refusal number
   abbrev Gives : (refusal : ℕ) → Searched → List ℕ → Type 0
-  Gives n r now = (r ≡ outcome n (run-answer b s)) × (now ≡ slots-after n (run-iterate b s .shares) slots)
+  Gives n r now = (r ≡ outcome n (run-answer (problem b s))) × (now ≡ slots-after n (run-iterate (problem b s) .shares) slots)
 
   -- and what is promised of it
   abbrev pub Promises : Searched → List ℕ → Type 0
   Promises r now =
-      (r ≡ outcome (search-refusal b s (length slots)) (run-answer b s))
-      × ((now ≡ slots-after (search-refusal b s (length slots)) (run-iterate b s .shares) slots) × Outcome-right b s r now)
+      (r ≡ outcome (search-refusal b s (length slots)) (run-answer (problem b s)))
+      × ((now ≡ slots-after (search-refusal b s (length slots)) (run-iterate (problem b s) .shares) slots) × Outcome-right b s r now)
 
   promised : {r : Searched} {now : List ℕ} → Gives (search-refusal b s (length slots)) r now → Promises r now
   promised {r} {now} g = (g .0, (g .1, outcome-right b s slots _ r now refl (g .0) (g .1)))
@@ -45,11 +46,11 @@ module _ (b s slots : List ℕ) where
     unfolding search-refusal outcome slots-after
     refused-short h = let k : ltb (length slots) (boats b) ≡ true = rw (← en) (lt-ltb (length slots) n h) in promised (rw (ok, k) (refl, refl))
 
-    shares-length : length (run-iterate b s .shares) ≡ boats b
+    shares-length : length (run-iterate (problem b s) .shares) ≡ boats b
     unfolding run-iterate
     shares-length = share-count b s ok _
 
-    pub answered : n ≤ length slots → {a : Answer} → a ≡ run-answer b s → {now : List ℕ} → now ≡ run-iterate b s .shares ++ drop (boats b) slots → Promises (Answered a) now
+    pub answered : n ≤ length slots → {a : Answer} → a ≡ run-answer (problem b s) → {now : List ℕ} → now ≡ run-iterate (problem b s) .shares ++ drop (boats b) slots → Promises (Answered a) now
     unfolding search-refusal outcome slots-after
     answered h ea e =
         let k : ltb (length slots) (boats b) ≡ false = rw (← en) (le-ltb (length slots) n h) in

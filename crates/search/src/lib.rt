@@ -5,6 +5,7 @@ ghost use mathlib.Core.Path.{_≡_};
 ghost use mathlib.Core.List.{_++_};
 ghost use Prim.Native.Nat.{_≤_};
 ghost use lib.ListN.{length, drop, replicate};
+ghost use Rattle.method.specs.Problem.{problem};
 ghost use Rattle.method.specs.Answers.{outcome, search-refusal, slots-after, run-answer, run-iterate};
 ghost use Rattle.method.specs.Promise.{Outcome-right};
 ghost use Rattle.files.specs.Book.{boats};
@@ -30,8 +31,8 @@ fn clear(list: &mut [u16], count: usize)
 pub fn run(book: &[u8], sheet: &[u8], shares: &mut [u16]) -> Answer
     requires { ⌜ files-refusal (now book) (now sheet) ≡ 0 ⌝ }
     requires { ⌜ boats (now book) ≤ length (now shares) ⌝ }
-    ensures { λ r. ⌜ r ≡ run-answer (now (book .entry)) (now (sheet .entry)) ⌝ }
-    ensures { λ _. ⌜ now (shares .exit) ≡ run-iterate (now (book .entry)) (now (sheet .entry)) .shares ++ drop (boats (now (book .entry))) (now (shares .entry)) ⌝ }
+    ensures { λ r. ⌜ r ≡ run-answer (problem (now (book .entry)) (now (sheet .entry))) ⌝ }
+    ensures { λ _. ⌜ now (shares .exit) ≡ run-iterate (problem (now (book .entry)) (now (sheet .entry))) .shares ++ drop (boats (now (book .entry))) (now (shares .entry)) ⌝ }
 {
     let layout = iteration::layout_of(book, sheet);
     let boats = layout.boats;
@@ -65,8 +66,8 @@ pub fn run(book: &[u8], sheet: &[u8], shares: &mut [u16]) -> Answer
 // outcome and every slot; the third says what holds of them: the bounds against every mixture (Run-bounds), and that after
 // each step they are those of the published method (Published-run).
 pub fn search(book: &[u8], sheet: &[u8], shares: &mut [u16]) -> Searched
-    ensures { λ r. ⌜ r ≡ outcome (search-refusal (now (book .entry)) (now (sheet .entry)) (length (now (shares .entry)))) (run-answer (now (book .entry)) (now (sheet .entry))) ⌝ }
-    ensures { λ _. ⌜ now (shares .exit) ≡ slots-after (search-refusal (now (book .entry)) (now (sheet .entry)) (length (now (shares .entry)))) (run-iterate (now (book .entry)) (now (sheet .entry)) .shares) (now (shares .entry)) ⌝ }
+    ensures { λ r. ⌜ r ≡ outcome (search-refusal (now (book .entry)) (now (sheet .entry)) (length (now (shares .entry)))) (run-answer (problem (now (book .entry)) (now (sheet .entry)))) ⌝ }
+    ensures { λ _. ⌜ now (shares .exit) ≡ slots-after (search-refusal (now (book .entry)) (now (sheet .entry)) (length (now (shares .entry)))) (run-iterate (problem (now (book .entry)) (now (sheet .entry))) .shares) (now (shares .entry)) ⌝ }
     ensures { λ r. ⌜ Outcome-right (now (book .entry)) (now (sheet .entry)) r (now (shares .exit)) ⌝ }
 {
     let refusal = validation::files_refusal(book, sheet);

@@ -6,6 +6,7 @@ use lib.ListN.{length}
 use Rattle.files.specs.Book.{boats}
 use Rattle.files.specs.Sheet.{files-refusal}
 use Rattle.method.specs.declared.Searched.{Searched}
+use Rattle.method.specs.Problem.{problem}
 use Rattle.method.specs.Answers.{outcome, search-refusal, slots-after, run-answer, run-iterate}
 use Rattle.method.proofs.Accepted.{share-count}
 use Rattle.text.specs.Texts.{Holds}
@@ -14,20 +15,20 @@ use Rattle.listing.specs.Lines.{outcome-listing, Listable}
 use Rattle.listing.proofs.Outcomes.{listable, same-listing, same-refusal}
 use Rattle.search_listing.specs.Searches.{search-listing}
 
-shares-length : (b s : List ℕ) → files-refusal b s ≡ 0 → length (run-iterate b s .shares) ≡ boats b
+shares-length : (b s : List ℕ) → files-refusal b s ≡ 0 → length (run-iterate (problem b s) .shares) ≡ boats b
 unfolding run-iterate
 shares-length b s ok = share-count b s ok _
 
-module _ (b s slots : List ℕ) {r : Searched} (e : r ≡ outcome (search-refusal b s 256) (run-answer b s)) where
-  found : r ≡ outcome (files-refusal b s) (run-answer b s)
-  found = e ∙ ap (λ (n : ℕ). outcome n (run-answer b s)) (same-refusal b s)
+module _ (b s slots : List ℕ) {r : Searched} (e : r ≡ outcome (search-refusal b s 256) (run-answer (problem b s))) where
+  found : r ≡ outcome (files-refusal b s) (run-answer (problem b s))
+  found = e ∙ ap (λ (n : ℕ). outcome n (run-answer (problem b s))) (same-refusal b s)
 
   pub search-listable : Listable b s r
-  search-listable = rw found (listable b s (files-refusal b s) (run-answer b s) (λ h. h))
+  search-listable = rw found (listable b s (files-refusal b s) (run-answer (problem b s)) (λ h. h))
 
-  pub search-listed : {now : List ℕ} {t : Text} → now ≡ slots-after (search-refusal b s 256) (run-iterate b s .shares) slots → Holds (outcome-listing b s r now) t → Holds (search-listing b s) t
+  pub search-listed : {now : List ℕ} {t : Text} → now ≡ slots-after (search-refusal b s 256) (run-iterate (problem b s) .shares) slots → Holds (outcome-listing b s r now) t → Holds (search-listing b s) t
   unfolding search-listing
   search-listed {now} {t} f h =
-      let g : now ≡ slots-after (files-refusal b s) (run-iterate b s .shares) slots = f ∙ ap (λ (n : ℕ). slots-after n (run-iterate b s .shares) slots) (same-refusal b s) in
-      let k : outcome-listing b s r now ≡ search-listing b s = rw (found, g) (same-listing b s slots (run-iterate b s .shares) (run-answer b s) (files-refusal b s) (shares-length b s)) in
+      let g : now ≡ slots-after (files-refusal b s) (run-iterate (problem b s) .shares) slots = f ∙ ap (λ (n : ℕ). slots-after n (run-iterate (problem b s) .shares) slots) (same-refusal b s) in
+      let k : outcome-listing b s r now ≡ search-listing b s = rw (found, g) (same-listing b s slots (run-iterate (problem b s) .shares) (run-answer (problem b s)) (files-refusal b s) (shares-length b s)) in
       rw k at h

@@ -3,7 +3,7 @@
 // Helper for other crates, whose callers prove what it requires: total_after.
 ghost use mathlib.Core.Path.{_≡_};
 ghost use Prim.Native.Nat.{_≤_};
-ghost use Rattle.method.specs.Iterates.{weight};
+ghost use Rattle.method.specs.Problem.{fixed, weight};
 
 const TOTALS: [u32; files::MOST_STEPS as usize + 1] = [
     0,
@@ -372,7 +372,7 @@ const TOTALS: [u32; files::MOST_STEPS as usize + 1] = [
 // W after t steps.
 pub fn total_after(t: u32) -> u32
     requires { do ⌜ t ≤ (← ⟦files::MOST_STEPS⟧) ⌝ }
-    ensures { λ r. ⌜ r ≡ weight t ⌝ }
+    ensures { λ r. ⌜ r ≡ weight fixed t ⌝ }
 {
     TOTALS[t as usize]
 }

@@ -59,7 +59,7 @@ pair-count-requires c κs =
     let at-files-refusal = at-if1 .before in
     let accepted = sym (at-files-refusal .files-refusal .ensures) ∙ at-if1 .if1 .left in
     let start = at-files-refusal .before .before .before .before .before in
-    formed _ _ _ _ (form-zero _ _ _ (now (start .args .shares)) accepted (at-layout-of .layout-of .ensures) (c .before .before .before .if2 .left) refl (c .before .before .steps .ensures) (c .before .form-refusal .ensures) (c .if3 .left)) .long
+    formed _ _ _ _ (form-zero _ _ _ (now (start .args .shares)) accepted (at-layout-of .layout-of .ensures) (c .before .before .before .if2 .left) refl (c .before .before .steps .ensures) (c .before .form-refusal .ensures) (c .if3 .left)) .readable .long
 
 sub-shares-of : tie.Need-sub-shares-of
 sub-shares-of c =
@@ -69,7 +69,7 @@ sub-shares-of c =
     let at-files-refusal = at-if1 .before in
     let accepted = sym (at-files-refusal .files-refusal .ensures) ∙ at-if1 .if1 .left in
     let start = at-files-refusal .before .before .before .before .before in
-    formed _ _ _ _ (form-zero _ _ _ (now (start .args .shares)) accepted (at-layout-of .layout-of .ensures) (at-if2 .if2 .left) refl (c .before .before .before .steps .ensures) (c .before .before .form-refusal .ensures) (c .before .if3 .left)) .long
+    formed _ _ _ _ (form-zero _ _ _ (now (start .args .shares)) accepted (at-layout-of .layout-of .ensures) (at-if2 .if2 .left) refl (c .before .before .before .steps .ensures) (c .before .before .form-refusal .ensures) (c .before .if3 .left)) .readable .long
 
 mul-shares-of : tie.Need-mul-shares-of
 mul-shares-of c = search needs
@@ -105,8 +105,8 @@ judged-requires c κs =
     let at-files-refusal = at-if1 .before in
     let accepted = sym (at-files-refusal .files-refusal .ensures) ∙ at-if1 .if1 .left in
     let start = at-files-refusal .before .before .before .before .before in
-    let well-formed = form-zero _ _ _ (now (start .args .shares)) accepted (at-layout-of .layout-of .ensures) (at-if2 .if2 .left) refl (at-steps .steps .ensures) (at-form-refusal .form-refusal .ensures) (at-if3 .if3 .left) in
-    (accepted, (at-layout-of .layout-of .ensures, (well-formed, (found-are _ _ _ accepted well-formed (c .before .pair-count .ensures .0) (c .shares-of .ensures)))))
+    let right-form = form-zero _ _ _ (now (start .args .shares)) accepted (at-layout-of .layout-of .ensures) (at-if2 .if2 .left) refl (at-steps .steps .ensures) (at-form-refusal .form-refusal .ensures) (at-if3 .if3 .left) in
+    (accepted, (at-layout-of .layout-of .ensures, formed _ _ _ _ right-form .readable))
 
 enum-known-n : tie.Need-enum-known-n
 enum-known-n c = search needs
@@ -134,7 +134,8 @@ returns-4 c =
     let at-files-refusal = at-if1 .before in
     let accepted = sym (at-files-refusal .files-refusal .ensures) ∙ at-if1 .if1 .left in
     let start = at-files-refusal .before .before .before .before .before in
-    promised _ _ _ (now (start .args .shares)) (bytes-of _ (at-files-refusal .before .before .shared-slice-known3 .given)) (refused-by-truth _ _ _ _ accepted (at-layout-of .layout-of .ensures) (at-if2 .if2 .left) refl (at-steps .steps .ensures) (at-form-refusal .form-refusal .ensures) (at-if3 .if3 .left) _ (sym (c .before .n .given .1) ∙ c .before .before .before .judged .ensures))
+    let right-form = form-zero _ _ _ (now (start .args .shares)) accepted (at-layout-of .layout-of .ensures) (at-if2 .if2 .left) refl (at-steps .steps .ensures) (at-form-refusal .form-refusal .ensures) (at-if3 .if3 .left) in
+    promised _ _ _ (now (start .args .shares)) (bytes-of _ (at-files-refusal .before .before .shared-slice-known3 .given)) (refused-by-truth _ _ _ _ accepted (at-layout-of .layout-of .ensures) (at-if2 .if2 .left) refl (at-steps .steps .ensures) (at-form-refusal .form-refusal .ensures) (at-if3 .if3 .left) _ (found-are _ _ _ accepted right-form (c .before .before .before .before .before .pair-count .ensures .0) (c .before .before .before .before .shares-of .ensures)) _ (sym (c .before .n .given .1) ∙ c .before .before .before .judged .ensures))
 
 same-length : tie.Need-same-length
 same-length c = search needs
@@ -155,8 +156,8 @@ returns-5 c =
     let accepted = sym (at-files-refusal .files-refusal .ensures) ∙ at-if1 .if1 .left in
     let at-shared-slice-known3 = at-files-refusal .before .before in
     let start = at-shared-slice-known3 .before .before .before in
-    let well-formed = form-zero _ _ _ (now (start .args .shares)) accepted (at-layout-of .layout-of .ensures) (at-if2 .if2 .left) refl (at-steps .steps .ensures) (at-form-refusal .form-refusal .ensures) (at-if3 .if3 .left) in
-    promised _ _ _ (now (start .args .shares)) (bytes-of _ (at-shared-slice-known3 .shared-slice-known3 .given)) (answered _ _ _ _ accepted (at-layout-of .layout-of .ensures) (at-if2 .if2 .left) refl (at-steps .steps .ensures) (at-form-refusal .form-refusal .ensures) (at-if3 .if3 .left) _ (found-are _ _ _ accepted well-formed (at-pair-count .pair-count .ensures .0) (at-shares-of .shares-of .ensures)) (search (needs, at-shares-of .shares-of .ok)) (c .before .before .fill .ensures) _ (sym (at-answer .answer .given .1) ∙ at-judged .judged .ensures))
+    let right-form = form-zero _ _ _ (now (start .args .shares)) accepted (at-layout-of .layout-of .ensures) (at-if2 .if2 .left) refl (at-steps .steps .ensures) (at-form-refusal .form-refusal .ensures) (at-if3 .if3 .left) in
+    promised _ _ _ (now (start .args .shares)) (bytes-of _ (at-shared-slice-known3 .shared-slice-known3 .given)) (answered _ _ _ _ accepted (at-layout-of .layout-of .ensures) (at-if2 .if2 .left) refl (at-steps .steps .ensures) (at-form-refusal .form-refusal .ensures) (at-if3 .if3 .left) _ (found-are _ _ _ accepted right-form (at-pair-count .pair-count .ensures .0) (at-shares-of .shares-of .ensures)) (search (needs, at-shares-of .shares-of .ok)) (c .before .before .fill .ensures) _ (sym (at-answer .answer .given .1) ∙ at-judged .judged .ensures))
 
 pub check-card-spec : {M : Type 1} → statement M
 check-card-spec =

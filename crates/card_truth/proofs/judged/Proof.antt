@@ -1,7 +1,7 @@
 -- `card_truth::judged` meets its contract.
 use native.Mathlib.Omega.{arith}
 use Rattle.iteration.proofs.States.{sheet-fits}
-use Rattle.card_truth.proofs.Judging.{long, few-boats, few-steps, total-refused, steps-asked, total-asked, numbers-refused, tolerance-refused, judged-true}
+use Rattle.card_truth.proofs.Judging.{few-boats, few-steps, total-refused, steps-asked, total-asked, numbers-refused, tolerance-refused, judged-true}
 use Rattle.card_truth.proofs.judged.Statement.{statement}
 use Rattle.card_truth.proofs.judged.Tie as tie
 use Rattle.card_truth.proofs.judged.Reads as reads
@@ -17,23 +17,23 @@ use Rattle.files.proofs.u32_at.Reads as u32-at-reads
 shares-total-requires : tie.Need-shares-total-requires
 shares-total-requires c κs =
     let start = c .before .before .before in
-    ((long _ _ _ (start .pre .0) (start .pre .1 .0) (start .pre .1 .1 .0) (start .args .shares) (start .pre .1 .1 .1), few-boats _ _ _ (start .pre .0) (start .pre .1 .0) (start .pre .1 .1 .0) (start .args .shares) (start .pre .1 .1 .1)), few-steps _ _ _ (start .pre .0) (start .pre .1 .0) (start .pre .1 .1 .0) (start .args .shares) (start .pre .1 .1 .1))
+    ((start .pre .1 .1 .long, few-boats _ _ _ (start .pre .0) (start .pre .1 .0) (start .pre .1 .1) (start .args .shares)), few-steps _ _ _ (start .pre .0) (start .pre .1 .0) (start .pre .1 .1) (start .args .shares))
 
 returns : tie.Need-returns
 returns c =
     let start = c .before .before .before .before .before in
-    total-refused _ _ _ (start .pre .0) (start .pre .1 .0) (start .pre .1 .1 .0) (start .args .shares) (start .pre .1 .1 .1) _ (c .before .shares-total .ensures) (c .if1 .taken)
+    total-refused _ _ _ (start .pre .0) (start .pre .1 .0) (start .pre .1 .1) (start .args .shares) _ (c .before .shares-total .ensures) (c .if1 .taken)
 
 steps-used-requires : tie.Need-steps-used-requires
 steps-used-requires c κs =
     let start = c .before .before .before .before .before in
-    long _ _ _ (start .pre .0) (start .pre .1 .0) (start .pre .1 .1 .0) (start .args .shares) (start .pre .1 .1 .1)
+    start .pre .1 .1 .long
 
 answer-of-requires : tie.Need-answer-of-requires
 answer-of-requires c κs =
     let at-if1 = c .before in
     let start = at-if1 .before .before .before .before .before in
-    (start .pre .0, (start .pre .1 .0, (steps-asked _ _ _ (start .pre .0) (start .pre .1 .0) (start .pre .1 .1 .0) (start .args .shares) (start .pre .1 .1 .1) _ (at-if1 .before .shares-total .ensures) (at-if1 .if1 .left) (c .steps-used .ensures .0), total-asked _ _ _ (start .pre .0) (start .pre .1 .0) (start .pre .1 .1 .0) (start .args .shares) (start .pre .1 .1 .1) _ (at-if1 .before .shares-total .ensures) (at-if1 .if1 .left) (c .steps-used .ensures .0))))
+    (start .pre .0, (start .pre .1 .0, (steps-asked _ _ _ (start .pre .0) (start .pre .1 .0) (start .pre .1 .1) (start .args .shares) _ (at-if1 .before .shares-total .ensures) (at-if1 .if1 .left) (c .steps-used .ensures .0), total-asked _ _ _ (start .pre .0) (start .pre .1 .0) (start .pre .1 .1) (start .args .shares) _ (at-if1 .before .shares-total .ensures) (at-if1 .if1 .left) (c .steps-used .ensures .0))))
 
 steps-requires : tie.Need-steps-requires
 steps-requires c κs =
@@ -42,24 +42,24 @@ steps-requires c κs =
 numbers-agree-requires : tie.Need-numbers-agree-requires
 numbers-agree-requires c κs =
     let start = c .before .before .before .before .before .before .before .before in
-    long _ _ _ (start .pre .0) (start .pre .1 .0) (start .pre .1 .1 .0) (start .args .shares) (start .pre .1 .1 .1)
+    start .pre .1 .1 .long
 
 returns-2 : tie.Need-returns-2
 returns-2 c =
     let at-answer = c .before .before .before in
     let at-if1 = at-answer .before .before in
     let start = at-if1 .before .before .before .before .before in
-    numbers-refused _ _ _ (start .pre .0) (start .pre .1 .0) (start .pre .1 .1 .0) (start .args .shares) (start .pre .1 .1 .1) _ (at-if1 .before .shares-total .ensures) (at-if1 .if1 .left) (at-answer .before .steps-used .ensures .0) (at-answer .answer-of .ensures) (c .before .before .steps .ensures) _ (c .before .numbers-agree .ensures) (c .if2 .taken)
+    numbers-refused _ _ _ (start .pre .0) (start .pre .1 .0) (start .pre .1 .1) (start .args .shares) _ (at-if1 .before .shares-total .ensures) (at-if1 .if1 .left) (at-answer .before .steps-used .ensures .0) (at-answer .answer-of .ensures) (c .before .before .steps .ensures) _ (c .before .numbers-agree .ensures) (c .if2 .taken)
 
 sub-u32-at : tie.Need-sub-u32-at
 sub-u32-at c =
     let start = c .before .before .before .before .before .before .before .before .before .before in
-    omega (arith, long _ _ _ (start .pre .0) (start .pre .1 .0) (start .pre .1 .1 .0) (start .args .shares) (start .pre .1 .1 .1))
+    omega (arith, start .pre .1 .1 .long)
 
 u32-at-requires : tie.Need-u32-at-requires
 u32-at-requires c κs =
     let start = c .before .before .before .before .before .before .before .before .before .before in
-    omega (arith, long _ _ _ (start .pre .0) (start .pre .1 .0) (start .pre .1 .1 .0) (start .args .shares) (start .pre .1 .1 .1))
+    omega (arith, start .pre .1 .1 .long)
 
 tolerance-requires : tie.Need-tolerance-requires
 tolerance-requires c κs =
@@ -71,7 +71,7 @@ returns-3 c =
     let at-answer = at-if2 .before .before .before in
     let at-if1 = at-answer .before .before in
     let start = at-if1 .before .before .before .before .before in
-    tolerance-refused _ _ _ (start .pre .0) (start .pre .1 .0) (start .pre .1 .1 .0) (start .args .shares) (start .pre .1 .1 .1) _ (at-if1 .before .shares-total .ensures) (at-if1 .if1 .left) (at-answer .before .steps-used .ensures .0) (at-answer .answer-of .ensures) (at-if2 .before .before .steps .ensures) _ (at-if2 .before .numbers-agree .ensures) (at-if2 .if2 .left) (c .before .before .u32-at .ensures) (c .before .tolerance .ensures) (c .if3 .taken)
+    tolerance-refused _ _ _ (start .pre .0) (start .pre .1 .0) (start .pre .1 .1) (start .args .shares) _ (at-if1 .before .shares-total .ensures) (at-if1 .if1 .left) (at-answer .before .steps-used .ensures .0) (at-answer .answer-of .ensures) (at-if2 .before .before .steps .ensures) _ (at-if2 .before .numbers-agree .ensures) (at-if2 .if2 .left) (c .before .before .u32-at .ensures) (c .before .tolerance .ensures) (c .if3 .taken)
 
 returns-4 : tie.Need-returns-4
 returns-4 c =
@@ -79,7 +79,7 @@ returns-4 c =
     let at-answer = at-if2 .before .before .before in
     let at-if1 = at-answer .before .before in
     let start = at-if1 .before .before .before .before .before in
-    judged-true _ _ _ (start .pre .0) (start .pre .1 .0) (start .pre .1 .1 .0) (start .args .shares) (start .pre .1 .1 .1) _ (at-if1 .before .shares-total .ensures) (at-if1 .if1 .left) (at-answer .before .steps-used .ensures .0) (at-answer .answer-of .ensures) (at-if2 .before .before .steps .ensures) _ (at-if2 .before .numbers-agree .ensures) (at-if2 .if2 .left) (c .before .before .u32-at .ensures) (c .before .tolerance .ensures) (c .if3 .left)
+    judged-true _ _ _ (start .pre .0) (start .pre .1 .0) (start .pre .1 .1) (start .args .shares) _ (at-if1 .before .shares-total .ensures) (at-if1 .if1 .left) (at-answer .before .steps-used .ensures .0) (at-answer .answer-of .ensures) (at-if2 .before .before .steps .ensures) _ (at-if2 .before .numbers-agree .ensures) (at-if2 .if2 .left) (c .before .before .u32-at .ensures) (c .before .tolerance .ensures) (c .if3 .left)
 
 pub judged-spec : {M : Type 1} → statement M
 judged-spec =

@@ -5,6 +5,7 @@ use mir.Syntax.{w32}
 use mir.Val.{SFits, toZ}
 use mir.Facts.{toZ-ofZ}
 use lib.ListN.{take}
+use lib.Seq.{length-take-le}
 use Prim.Native.Nat.{_-_}
 use native.Mathlib.Omega.{arith}
 use Rattle.scoring.proofs.Passes.{Passed, first-place, row-span, row-range, passed-start, passed-better, passed-same, passed-end}
@@ -32,7 +33,7 @@ add-p c = omega (arith, row-span (c .before .before .pre .0) (c .before .before 
 loop-holds : tie.Need-loop-holds Inv-loop μ-loop
 loop-holds c =
     let f = toZ-ofZ {w = w32} (sfits-of (c .narrow-inner .ok)) in
-    (passed-start (c .before .before .pre .0) (c .narrow-inner .ensures) f, rw f (sfits-of (c .narrow-inner .ok)))
+    (passed-start (c .before .before .pre .0) (length-take-le _ _ (c .before .before .pre .1 .0 .long)) (c .narrow-inner .ensures) f, rw f (sfits-of (c .narrow-inner .ok)))
 
 narrow-inner-requires-2 : tie.Need-narrow-inner-requires-2 Inv-loop μ-loop
 narrow-inner-requires-2 c κs =

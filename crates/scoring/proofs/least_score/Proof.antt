@@ -5,6 +5,7 @@ use mathlib.Core.Logic.{⊎-elim}
 use mir.Syntax.{w64}
 use mir.Facts.{toZ-ofZ}
 use lib.ListN.{take}
+use lib.Seq.{length-take-le}
 use Prim.Native.Nat.{_-_}
 use native.Mathlib.Omega.{arith}
 use Rattle.scoring.proofs.Passes.{Passed, first-place, row-span, passed-start, passed-better, passed-same, passed-end}
@@ -30,7 +31,7 @@ add-p : tie.Need-add-p Inv-loop μ-loop
 add-p c = omega (arith, row-span (c .before .before .pre .0) (c .before .before .pre .0 .some-boats) (first-place (c .before .before .pre .0)))
 
 loop-holds : tie.Need-loop-holds Inv-loop μ-loop
-loop-holds c = passed-start (c .before .before .pre .0) (c .inner-at .ensures) (toZ-ofZ (sfits-of (c .inner-at .ok)))
+loop-holds c = passed-start (c .before .before .pre .0) (length-take-le _ _ (c .before .before .pre .1 .long)) (c .inner-at .ensures) (toZ-ofZ (sfits-of (c .inner-at .ok)))
 
 inner-at-requires-2 : tie.Need-inner-at-requires-2 Inv-loop μ-loop
 inner-at-requires-2 c κs = (row-span (c .before .before .before .before .pre .0) (c .loop-test .taken) (c .before .loop .inv .place), c .before .before .before .before .pre .1)

@@ -2,6 +2,7 @@
 use borrow.Author.Needs.{needs, sfits-of}
 use Prim.Native.Nat.{_-_}
 use lib.ListN.{take}
+use lib.Seq.{length-take-le}
 use native.Mathlib.Omega.{arith}
 use mir.Facts.{toZ-ofZ}
 use Rattle.scoring.proofs.Passes.{Stored, row-span, row-range, stored-start, stored-more, stored-end, stored-long}
@@ -18,7 +19,7 @@ abbrev μ-loop : tie.MeasureT-loop
 μ-loop d book at boats columns to₀ row₀ i₀ to row i = boats - i
 
 loop-holds : tie.Need-loop-holds Inv-loop μ-loop
-loop-holds c = stored-start (c .before .pre .0)
+loop-holds c = stored-start (c .before .pre .0) (length-take-le _ _ (c .before .pre .1 .0 .long))
 
 narrow-inner-requires : tie.Need-narrow-inner-requires Inv-loop μ-loop
 narrow-inner-requires c κs =

@@ -1,4 +1,5 @@
 -- `search::run` meets its contract.
+use Rattle.method.specs.Problem.{problem}
 use Rattle.method.specs.Answers.{run-iterate}
 use Rattle.iteration.proofs.States.{book-fits, sheet-fits}
 use Rattle.runs.proofs.Memory.{room-for, room-always}
@@ -98,7 +99,7 @@ returns-2 c =
     let at-clear = at-run-from .before .before .before .before .before .before .before .before .before .before .before .before .before in
     let at-layout-of = at-clear .before .before in
     let start = at-layout-of .before .before .before .before in
-    (at-run-from .run-from .ensures .0, behind (run-iterate (start .args .book .now) (start .args .sheet .now) .shares) (at-run-from .run-from .ensures .1 .0) (cleared-rest _ _ (start .pre .0) (at-layout-of .layout-of .ensures) _ (start .pre .1) (at-clear .clear .ensures)))
+    (at-run-from .run-from .ensures .0, behind (run-iterate (problem (start .args .book .now) (start .args .sheet .now)) .shares) (at-run-from .run-from .ensures .1 .0) (cleared-rest _ _ (start .pre .0) (at-layout-of .layout-of .ensures) _ (start .pre .1) (at-clear .clear .ensures)))
 
 slice-aggregate-run-from-3 : tie.Need-slice-aggregate-run-from-3
 slice-aggregate-run-from-3 c = search needs
@@ -127,7 +128,7 @@ returns-3 c =
     let at-clear = at-run-from2 .before .before .before .before .before .before .before .before .before .before .before .before .before .before in
     let at-layout-of = at-clear .before .before in
     let start = at-layout-of .before .before .before .before in
-    (at-run-from2 .run-from2 .ensures .0, behind (run-iterate (start .args .book .now) (start .args .sheet .now) .shares) (at-run-from2 .run-from2 .ensures .1 .0) (cleared-rest _ _ (start .pre .0) (at-layout-of .layout-of .ensures) _ (start .pre .1) (at-clear .clear .ensures)))
+    (at-run-from2 .run-from2 .ensures .0, behind (run-iterate (problem (start .args .book .now) (start .args .sheet .now)) .shares) (at-run-from2 .run-from2 .ensures .1 .0) (cleared-rest _ _ (start .pre .0) (at-layout-of .layout-of .ensures) _ (start .pre .1) (at-clear .clear .ensures)))
 
 slice-aggregate-run-from-5 : tie.Need-slice-aggregate-run-from-5
 slice-aggregate-run-from-5 c = search needs
@@ -155,7 +156,7 @@ returns-4 c =
     let at-clear = at-run-from3 .before .before .before .before .before .before .before .before .before .before .before .before .before .before in
     let at-layout-of = at-clear .before .before in
     let start = at-layout-of .before .before .before .before in
-    (at-run-from3 .run-from3 .ensures .0, behind (run-iterate (start .args .book .now) (start .args .sheet .now) .shares) (at-run-from3 .run-from3 .ensures .1 .0) (cleared-rest _ _ (start .pre .0) (at-layout-of .layout-of .ensures) _ (start .pre .1) (at-clear .clear .ensures)))
+    (at-run-from3 .run-from3 .ensures .0, behind (run-iterate (problem (start .args .book .now) (start .args .sheet .now)) .shares) (at-run-from3 .run-from3 .ensures .1 .0) (cleared-rest _ _ (start .pre .0) (at-layout-of .layout-of .ensures) _ (start .pre .1) (at-clear .clear .ensures)))
 
 pub run-spec : {M : Type 1} → statement M
 run-spec =

@@ -1,6 +1,6 @@
 -- `totals::total_after` meets its contract.
 use native.Mathlib.Omega.{arith}
-use Rattle.method.specs.Iterates.{weight}
+use Rattle.method.specs.Problem.{fixed, weight}
 use Rattle.totals.proofs.Table.{entry}
 use borrow.Author.Needs.{needs}
 use Rattle.totals.proofs.total_after.Statement.{statement}
@@ -16,7 +16,7 @@ array-read-result c = search needs
 
 returns : tie.Need-returns
 unfolding weight
-returns c = entry weight 361 (c .args .t) (omega arith)
+returns c = entry (weight fixed) 361 (c .args .t) (omega arith)
 
 pub total-after-spec : {M : Type 1} → statement M
 total-after-spec = tie.close (tie.spec mul-result array-read-result returns)

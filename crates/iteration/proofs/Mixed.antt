@@ -1,0 +1,101 @@
+-- What the code finds of any mixture of an accepted fleet book's boats, with plain inner products, is what the definitions say
+-- with every factor 1: E, G, how large they are, and the answer. Assumes nothing.
+use mathlib.Core.Path.{_≡_, sym, _∙_}
+use mathlib.Core.List.{List}
+use Prim.Native.Nat.{ℕ, _*_, _≤_, _<_}
+use native.Mathlib.Nat.{le-refl, lt-of-le-of-lt}
+use native.Mathlib.Omega.{arith}
+use lib.ListN.{length}
+use lib.IntN.{ℤ, pos, natAbs}
+use Rattle.integers.proofs.Order.{≤→≤ℤ}
+use Rattle.files.specs.Book.{columns, rows}
+use Rattle.files.specs.Sheet.{sheet, files-refusal}
+use Rattle.frank_wolfe.specs.Vectors.{inner, weighted, weighted-norm, ones, squared-norm}
+use Rattle.frank_wolfe.proofs.Vectors.{weighted-ones, norm-ones}
+use Rattle.method.specs.Problem.{fixed, problem, weight}
+use Rattle.method.specs.Iterates as M
+use Rattle.method.specs.Iterates.{Iterate, residual, distance, gap, natural, argmin, row}
+use Rattle.method.specs.Answers.{answer-at}
+use Rattle.method.specs.Minimum.{minimum}
+use Rattle.method.proofs.Weights.{fixed-fits, weight-positive, weight-most, weight-fits}
+use Rattle.method.proofs.Argmin.{argmin-below, among-row, least-score}
+use Rattle.method.proofs.Shares.{Mixed, mixed-length}
+use Rattle.method.proofs.Mixtures.{length-residual, gap-by-distance, gap-is, score-most, distance-most, gap-most}
+use Rattle.method.proofs.Accepted.{well-formed, in-range}
+use Rattle.sums.specs.Operands.{Gap-sized}
+use Rattle.verdicts.specs.Sizes.{Judgeable}
+use Rattle.iteration.specs.Measures.{gap-by, measure}
+use Rattle.iteration.proofs.States.{sheet-fits}
+
+zero-≤ : (n : ℕ) → 0 ≤ n
+zero-≤ n = omega arith
+
+module _ (b s : List ℕ) (ok : files-refusal b s ≡ 0) {t : ℕ} {x : Iterate} (some : 1 ≤ t) (few : t ≤ 360) (m : Mixed (problem b s) t x) where
+  abbrev u : List ℤ
+  u = sheet s .target
+
+  abbrev r : List ℤ
+  r = residual (problem b s) t x
+
+  abbrev w : ℕ
+  w = weight fixed t
+
+  abbrev scores : List ℤ
+  scores = M.scores (ones (columns b)) (residual (problem b s) t x) (rows b)
+
+  some-weight : 1 ≤ w
+  some-weight = weight-positive fixed-fits some
+
+  long : length (x .point) ≡ columns b
+  unfolding problem
+  long = mixed-length (well-formed b s ok .wide) m
+
+  residual-long : length r ≡ columns b
+  unfolding problem
+  residual-long = length-residual (well-formed b s ok) t x long
+
+  norm-is : weighted-norm (ones (columns b)) r ≡ squared-norm r
+  norm-is = norm-ones (columns b) r residual-long
+
+  target-score : weighted (ones (columns b)) r u ≡ inner r u
+  target-score = weighted-ones (columns b) r u residual-long
+
+  gap-integer : gap-by w r u (minimum scores) ≡ pos (gap (problem b s) t x)
+  unfolding problem distance
+  gap-integer = rw (← norm-is, ← target-score) (sym (gap-by-distance (well-formed b s ok) t x long some-weight) ∙ gap-is (well-formed b s ok) some-weight m)
+
+  pub least-size : natAbs (minimum (M.scores (ones (columns b)) r (rows b))) ≤ 512000000 * w
+  unfolding problem
+  least-size =
+      rw (← least-score (ones (columns b)) r (rows b))
+      (score-most (well-formed b s ok) (in-range b s ok) m (row (rows b) (argmin scores))
+      (in-range b s ok .rows-bounded _ (among-row (rows b) (argmin scores) (argmin-below (ones (columns b)) r (rows b) (well-formed b s ok .some-row)))))
+
+  square : squared-norm r < 4611686018427387904
+  unfolding problem distance
+  square = rw (← norm-is) (lt-of-le-of-lt (distance-most (well-formed b s ok) (in-range b s ok) m) (weight-fits (weight-most few) (le-refl 1024000000)))
+
+  pub mixed-sized : Gap-sized (squared-norm r) w (inner r u) (minimum (M.scores (ones (columns b)) r (rows b)))
+  unfolding problem
+  mixed-sized =
+      record {
+        distance = square;
+        few-shares = weight-most few;
+        first = rw (← target-score) (score-most (well-formed b s ok) (in-range b s ok) m u (in-range b s ok .target-bounded));
+        second = least-size;
+        sign = rw gap-integer (≤→≤ℤ (zero-≤ (gap (problem b s) t x)));
+      }
+
+  pub mixed-judged : Judgeable (sheet s .tolerance) w (squared-norm r) (natural (gap-by w r u (minimum (M.scores (ones (columns b)) r (rows b)))))
+  unfolding problem natural
+  mixed-judged =
+      rw gap-integer
+      (record {
+        limit = weight-fits (weight-most few) (sheet-fits b s ok .most-tolerance);
+        distance = square;
+        gap = lt-of-le-of-lt (gap-most (well-formed b s ok) (in-range b s ok) m some-weight) (weight-fits (weight-most few) (le-refl 1024000000));
+      })
+
+  pub mixed-answer : measure t w (sheet s .tolerance) r u (minimum (M.scores (ones (columns b)) r (rows b))) ≡ answer-at (problem b s) t x
+  unfolding problem measure answer-at distance natural
+  mixed-answer = rw (gap-integer, norm-is)
