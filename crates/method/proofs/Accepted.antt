@@ -1,7 +1,8 @@
--- An accepted fleet book and sheet are a well-formed problem in range; what the code needs of its iterates.
+-- An accepted fleet book and sheet are a well-formed problem, in range and sized; what the code needs of its iterates.
 use mathlib.Core.Path.{_≡_, refl, _∙_}
 use mathlib.Core.List.{List, [], _∷_}
 use Prim.Native.Nat.{ℕ, zero, suc, _*_, _≤_, _<_}
+use native.Mathlib.Nat.{le-trans}
 use native.Mathlib.Omega.{arith}
 use lib.IntN.{ℤ, pos, natAbs}
 use lib.ListN.{length, getD}
@@ -15,7 +16,7 @@ use Rattle.method.specs.Iterates.{residual, iterate}
 use Rattle.method.proofs.Weights.{fixed-fits, weight-most}
 use Rattle.method.proofs.Entries.{Bounded}
 use Rattle.method.proofs.Shares.{Mixed, mixed-length, mixed-share, iterate-mixed}
-use Rattle.method.proofs.Mixtures.{Well-formed, In-range, length-residual, residual-bounded}
+use Rattle.method.proofs.Mixtures.{Well-formed, In-range, Sized, length-residual, residual-bounded}
 
 -- what holds of each row by its index holds of the rows
 among-by : (P : List ℤ → Type 0) (vs : List (List ℤ)) → ((i : ℕ) → i < length vs → P (getD vs i [])) → {v : List ℤ} → Among vs v → P v
@@ -56,6 +57,10 @@ module _ (b s : List ℕ) (ok : files-refusal b s ≡ 0) where
   pub in-range : In-range (problem b s)
   unfolding problem
   in-range = record { few-factors = few-ones; rows-bounded = row-bounded; target-bounded = record { each = g .target-bound } }
+
+  pub sized : Sized (problem b s)
+  unfolding problem
+  sized = record { some-steps = g .some-steps; weights = λ t h. weight-most (le-trans h (g .most-steps)); most-tolerance = g .most-tolerance }
 
   pub mixed : (t : ℕ) → Mixed (problem b s) t (iterate (problem b s) t)
   mixed t = iterate-mixed (problem b s) (well-formed .some-row) (well-formed .wide) t

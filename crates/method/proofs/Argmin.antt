@@ -1,4 +1,4 @@
--- The boat of least score: it is the lowest-numbered, its index is a boat's, its score is the minimum, and no row scores less. The gap by the least score.
+-- The vertex of least score: it is the lowest-numbered, its index is a vertex's, its score is the minimum, and no vertex scores less. The gap by the least score.
 use mathlib.Core.Path.{_≡_, refl, sym, ap, ap₂, _∙_}
 use mathlib.Core.Bool.{Bool, true, false, not, _||_, cond}
 use mathlib.Core.List.{List, [], _∷_}

@@ -15,16 +15,17 @@ use Rattle.method.specs.Answers.{stops, answer-at, steps-used, run-itera
 use Rattle.method.specs.Bounds.{mixture-iterate, answer-of, Answer-bounds, Run-bounds}
 use Rattle.method.proofs.Weights.{weight-positive, weight-fits}
 use Rattle.method.proofs.Shares.{mixed-is, shares-mixed, iterate-mixed, iterate-support}
-use Rattle.method.proofs.Mixtures.{Well-formed, In-range, gap-is, distance-is, gap-bound, beyond-bound, distance-most, gap-most}
+use Rattle.method.proofs.Mixtures.{Well-formed, In-range, Sized, gap-is, distance-is, gap-bound, beyond-bound, distance-most, gap-most}
 use Rattle.method.proofs.Iterates.{step-bound, spent-bound}
 use Rattle.method.proofs.Verdicts.{verdict-means, within-means, beyond-means, spent-means, stops-spent}
 use Rattle.method.proofs.Running.{stops-at, stopped}
 
--- what the machine's numbers need beside: the weights and the tolerance
-pub record Sized (p : Problem) : Type 0 where
-  pub some-steps : 1 ≤ p .steps
-  pub weights : (t : ℕ) → t ≤ p .steps → weight (p .schedule) t ≤ 64980
-  pub most-tolerance : p .tolerance ≤ 1024000000
+-- the answer of a run is that of its shares
+pub run-is : {p : Problem} → Well-formed p → run-answer p ≡ answer-of p (run-iterate p .shares) (run-answer p .steps)
+unfolding run-answer run-iterate answer-at
+run-is {p} h =
+    let t = steps-used p in
+    unfold answer-at in ap (answer-at p t) (mixed-is (iterate-mixed p (h .some-row) (h .wide) t))
 
 module _ {p : Problem} (h : Well-formed p) (f : In-range p) (z : Sized p) where
   -- shares, one a vertex, of the total of t steps
@@ -61,13 +62,6 @@ module _ {p : Problem} (h : Well-formed p) (f : In-range p) (z : Sized p) where
         gap-fits = lt-of-le-of-lt (gap-most h f m hw) (weight-fits few (le-refl 1024000000));
         limit-fits = weight-fits few (z .most-tolerance);
       }
-
-  -- the answer of a run is that of its shares
-  pub run-is : run-answer p ≡ answer-of p (run-iterate p .shares) (run-answer p .steps)
-  unfolding run-answer run-iterate answer-at
-  run-is =
-      let t = steps-used p in
-      unfold answer-at in ap (answer-at p t) (mixed-is (iterate-mixed p (h .some-row) (h .wide) t))
 
   pub run-bounds : Run-bounds p (run-answer p) (run-iterate p .shares)
   unfolding run-answer run-iterate answer-at stops-at

@@ -1,9 +1,10 @@
 -- The iterates are a run of the Frank-Wolfe theorem, and the diameter is that of its vertices: the bound by steps, and what Spent means.
 use mathlib.Core.Path.{_≡_, refl, sym, ap, ap₂, _∙_, subst}
 use mathlib.Core.List.{List, [], _∷_}
-use Prim.Native.Nat.{ℕ, zero, suc, _*_, _≤_}
-use native.Mathlib.Nat.{le-trans, le-max-left, le-max-right}
+use Prim.Native.Nat.{ℕ, zero, suc, _+_, _*_, _≤_}
+use native.Mathlib.Nat.{le-trans, le-refl, add-le-add, mul-le-mul-right, mul-one, le-max-left, le-max-right}
 use native.Mathlib.Omega.{arith}
+use lib.Dec.{lit≤}
 use lib.IntN.{ℤ, pos, _-ℤ_}
 use lib.ListN.{length}
 use lib.Signed.{_≤ℤ_}
@@ -16,8 +17,8 @@ use Rattle.frank_wolfe.specs.Vectors.{subtract, scale, weighted, weighted-norm,
 use Rattle.frank_wolfe.proofs.Vectors.{factored, Wide, wide-rest, plus-is, residual-is, compared-is, norm-weighted, weighted-zero, weighted-subtract, scale-one}
 use Rattle.frank_wolfe.proofs.Theorem.{frank-wolfe}
 use Rattle.method.specs.Problem.{Schedule, fixed, Problem, share, weight}
-use Rattle.method.specs.Iterates.{start, residual, row, direction, pick, with-shares, step, iterate, distance, mixture-distance, farthest, row-diameter}
-use Rattle.method.specs.Bounds.{Step-bound, Spent-bound}
+use Rattle.method.specs.Iterates.{start, residual, row, direction, pick, with-shares, step, iterate, distance, mixture-distance, farthest, row-diameter, diameter}
+use Rattle.method.specs.Bounds.{Step-bound}
 use Rattle.method.proofs.Weights.{weight-total}
 use Rattle.method.proofs.Argmin.{among-row, pick-row}
 use Rattle.method.proofs.Shares.{mixed-length, iterate-mixed}
@@ -109,25 +110,38 @@ module _ {p : Problem} (h : Well-formed p) where
     compared : Compared S (Among (p .vertices)) u (sum qs) (combination (p .columns) qs (p .vertices)) (ρ qs)
     compared = compared-is (p .factors) (p .columns) u qs (p .vertices) (h .target-length) e (h .wide)
 
-    pub step-bound : Step-bound (p .schedule) t (weight (p .schedule) t) (distance p t (iterate p t)) (row-diameter (p .factors) (p .vertices)) (sum qs) (mixture-distance p qs)
-    unfolding distance mixture-distance Step-bound share
+    -- the constant is c, 4 or more
+    fixed-bound : (c : ℕ) → 4 ≤ c → share (p .schedule) ≡ suc →
+        distance p t (iterate p t) * (sum qs * sum qs) * (t + 2)
+        ≤ mixture-distance p qs * (weight (p .schedule) t * weight (p .schedule) t) * (t + 2) + c * diameter p * (weight (p .schedule) t * weight (p .schedule) t) * (sum qs * sum qs)
+    unfolding distance mixture-distance
+    fixed-bound c hc g =
+        le-trans
+        (≤ℤ→≤ (rw (← norm-weighted (p .factors) (residual p t (iterate p t)), ← norm-weighted (p .factors) (ρ qs), ← weight-by g t) at
+        (frank-wolfe S (Among (p .vertices)) u .step-bound (diameter-is (p .factors) (h .wide)) (run-by g t) (residual-by g t) compared)))
+        (add-le-add (le-refl _) (mul-le-mul-right (sum qs * sum qs) (mul-le-mul-right (weight (p .schedule) t * weight (p .schedule) t) (mul-le-mul-right (diameter p) hc))))
+
+    fixed-spent : (c : ℕ) → 4 ≤ c → share (p .schedule) ≡ suc → (τ : ℕ) → 1 ≤ t → τ * (weight (p .schedule) t * weight (p .schedule) t) ≤ distance p t (iterate p t) →
+        τ * (sum qs * sum qs) * (t + 2) ≤ mixture-distance p qs * (t + 2) + c * diameter p * (sum qs * sum qs)
+    unfolding distance mixture-distance
+    fixed-spent c hc g τ ht b =
+        le-trans
+        (≤ℤ→≤ (rw (← norm-weighted (p .factors) (ρ qs)) at
+        (frank-wolfe S (Among (p .vertices)) u .spent (pos τ) (diameter-is (p .factors) (h .wide)) ht (run-by g t) (residual-by g t) compared
+        (rw (← norm-weighted (p .factors) (residual p t (iterate p t)), ← weight-by g t) (≤→≤ℤ b)))))
+        (add-le-add (le-refl _) (mul-le-mul-right (sum qs * sum qs) (mul-le-mul-right (diameter p) hc)))
+
+    pub step-bound : Step-bound (p .schedule) t (diameter p) (distance p t (iterate p t)) (weight (p .schedule) t * weight (p .schedule) t) (sum qs) (mixture-distance p qs)
+    unfolding Step-bound share
     step-bound = by (p .schedule) refl
       where
-        by : (a : Schedule) → p .schedule ≡ a →
-            Step-bound a t (weight (p .schedule) t) (weighted-norm (p .factors) (residual p t (iterate p t))) (row-diameter (p .factors) (p .vertices)) (sum qs) (weighted-norm (p .factors) (ρ qs))
-        by fixed f =
-            let g : share (p .schedule) ≡ suc = ap share f in
-            ≤ℤ→≤ (rw (← norm-weighted (p .factors) (residual p t (iterate p t)), ← norm-weighted (p .factors) (ρ qs), ← weight-by g t) at
-            (frank-wolfe S (Among (p .vertices)) u .step-bound (diameter-is (p .factors) (h .wide)) (run-by g t) (residual-by g t) compared))
+        by : (a : Schedule) → p .schedule ≡ a → Step-bound a t (diameter p) (distance p t (iterate p t)) (weight (p .schedule) t * weight (p .schedule) t) (sum qs) (mixture-distance p qs)
+        by fixed f = fixed-bound _ (lit≤ tt) (ap share f)
 
     pub spent-bound : (τ : ℕ) → 1 ≤ t → τ * (weight (p .schedule) t * weight (p .schedule) t) ≤ distance p t (iterate p t) →
-        Spent-bound (p .schedule) t (weight (p .schedule) t) τ (row-diameter (p .factors) (p .vertices)) (sum qs) (mixture-distance p qs)
-    unfolding distance mixture-distance Spent-bound share
+        Step-bound (p .schedule) t (diameter p) τ 1 (sum qs) (mixture-distance p qs)
+    unfolding Step-bound share
     spent-bound τ ht b = by (p .schedule) refl
       where
-        by : (a : Schedule) → p .schedule ≡ a → Spent-bound a t (weight (p .schedule) t) τ (row-diameter (p .factors) (p .vertices)) (sum qs) (weighted-norm (p .factors) (ρ qs))
-        by fixed f =
-            let g : share (p .schedule) ≡ suc = ap share f in
-            ≤ℤ→≤ (rw (← norm-weighted (p .factors) (ρ qs)) at
-            (frank-wolfe S (Among (p .vertices)) u .spent (pos τ) (diameter-is (p .factors) (h .wide)) ht (run-by g t) (residual-by g t) compared
-            (rw (← norm-weighted (p .factors) (residual p t (iterate p t)), ← weight-by g t) (≤→≤ℤ b))))
+        by : (a : Schedule) → p .schedule ≡ a → Step-bound a t (diameter p) τ 1 (sum qs) (mixture-distance p qs)
+        by fixed f = simp mul-one (fixed-spent _ (lit≤ tt) (ap share f) τ ht b)

@@ -24,7 +24,9 @@ use Rattle.method.proofs.Argmin.{argmin-below, among-row, least-score, 
 use Rattle.method.proofs.Entries.{Bounded, bounded-mono, bounded-subtract, bounded-scale, bounded-combination, weighted-bound, weighted-norm-bound}
 use Rattle.method.proofs.Shares.{Mixed, mixed-length}
 
--- some vertices, and a target, all of p .columns columns, and shares that the theorem takes
+-- ---- What the proofs ask of a problem
+
+-- some vertices, and a target, all of as many columns as it says, and shares that the theorem takes
 pub record Well-formed (p : Problem) : Type 0 where
   pub some-row : 1 ≤ length (p .vertices)
   pub wide : Wide (p .columns) (p .vertices)
@@ -36,6 +38,12 @@ pub record In-range (p : Problem) : Type 0 where
   pub few-factors : sum (p .factors) ≤ 64
   pub rows-bounded : (v : List ℤ) → Among (p .vertices) v → Bounded 2000 v
   pub target-bounded : Bounded 2000 (p .target)
+
+-- some steps, whose weights and the tolerance keep to the machine's numbers
+pub record Sized (p : Problem) : Type 0 where
+  pub some-steps : 1 ≤ p .steps
+  pub weights : (t : ℕ) → t ≤ p .steps → weight (p .schedule) t ≤ 64980
+  pub most-tolerance : p .tolerance ≤ 1024000000
 
 -- ---- Residual and gap of a point y / W
 

@@ -34,11 +34,6 @@ integer-over b {w} h = record { above-zero = h; cross = solve (b ∷ pos w ∷ [
 zero-over : {w : ℕ} → 1 ≤ w → Is-ratio (integer (pos 0)) (pos 0) w
 zero-over {w} h = record { above-zero = h; cross = solve (pos w ∷ []) (O ⊗ x₀) (O ⊗ one) tt }
 
--- shares as integers
-unfoldable pub integers : List ℕ → List ℤ
-integers [] = []
-integers (q ∷ qs) = pos q ∷ integers qs
-
 -- each fraction is the integer at its place over w
 pub data Over (w : ℕ) : List Fraction → List ℤ → Type 0 where
   none : Over w [] []
@@ -92,7 +87,7 @@ unfolding first-minimizer first-minimizerℤ
 over-first-minimizer none = refl
 over-first-minimizer (more e o) = ap₂ (λ t n. cond t (suc n) 0) (over-any-below e o) (over-first-minimizer o)
 
--- the boat picked is that of least score
+-- the vertex picked is that of least score
 pub over-argmin : {w : ℕ} {x : List Fraction} {y : List ℤ} → Over w x y → first-minimizer x ≡ argmin y
 over-argmin {y} o = over-first-minimizer o ∙ sym (argmin-first y)
 

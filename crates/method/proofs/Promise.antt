@@ -10,25 +10,15 @@ use lib.ListN.{length, take, drop, length-append, length-drop}
 use lib.Seq.{take-at}
 use Rattle.files.specs.Book.{boats}
 use Rattle.files.specs.Sheet.{files-refusal}
-use Rattle.files.proofs.Accepted.{files-accepted}
-use native.Mathlib.Nat.{le-trans}
 use Rattle.method.specs.Problem.{problem}
 use Rattle.method.specs.declared.Answer.{Answer}
 use Rattle.method.specs.declared.Searched.{Searched}
 use Rattle.method.specs.declared.Searched.the-variants.{Refused, Answered}
 use Rattle.method.specs.Answers.{refusal-number, outcome, steps-used, run-iterate, run-answer, search-refusal, slots-after}
 use Rattle.method.specs.Promise.{Run-right, Outcome-right}
-use Rattle.method.proofs.Weights.{weight-most}
-use Rattle.method.proofs.Accepted.{well-formed, in-range, share-count}
-use Rattle.method.proofs.Bounds.{Sized, run-bounds}
+use Rattle.method.proofs.Accepted.{well-formed, in-range, sized, share-count}
+use Rattle.method.proofs.Bounds.{run-bounds}
 use Rattle.method.proofs.Published.{published-run}
-
--- accepted files keep to the machine's numbers
-pub sized : (b s : List ℕ) → files-refusal b s ≡ 0 → Sized (problem b s)
-unfolding problem
-sized b s ok =
-    let g = files-accepted b s ok .1 in
-    record { some-steps = g .some-steps; weights = λ t h. weight-most (le-trans h (g .most-steps)); most-tolerance = g .most-tolerance }
 
 pub run-right : (b s : List ℕ) → files-refusal b s ≡ 0 → Run-right (problem b s) (run-answer (problem b s)) (run-iterate (problem b s) .shares)
 run-right b s ok =

@@ -30,9 +30,13 @@ use Rattle.method.proofs.Mixtures.{Well-formed, gap-is}
 use Rattle.method.proofs.Verdicts.{Means, verdict-means, within-exactly, beyond-exactly, beyond-carries, spent-carries}
 use Rattle.method.proofs.Running.{stops-at, Stopped, stopped}
 use Rattle.method.proofs.Fractions.{one, integer-value, subtract-value, multiply-value, lt-value, le-exactly}
-use Rattle.method.proofs.Numerators.{integer-over, Over, over-at, over-fractions, over-difference, over-inner, integers, over-linear-form, over-gap-terms, over-argmin, over-greatest, step-ratio, over-step, over-first}
+use Rattle.method.proofs.Numerators.{integer-over, Over, over-at, over-fractions, over-difference, over-inner, over-linear-form, over-gap-terms, over-argmin, over-greatest, step-ratio, over-step, over-first}
 
 -- ---- Shares as integers
+
+integers : List ℕ → List ℤ
+integers [] = []
+integers (q ∷ qs) = pos q ∷ integers qs
 
 integers-at : (qs : List ℕ) (i : ℕ) → getD (integers qs) i (pos 0) ≡ pos (getD qs i 0)
 unfolding integers

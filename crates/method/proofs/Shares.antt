@@ -1,4 +1,4 @@
--- The shares of the iterates: one a boat, of total W, on at most t boats; the point is their combination of the rows, and the
+-- The shares of the iterates: one a vertex, of total W, on at most t vertices; the point is their combination of the vertices, and the
 -- residual moves by k (s - u) in step k.
 use mathlib.Core.Path.{_≡_, refl, sym, ap, _∙_}
 use mathlib.Core.Bool.{Bool, true, false, cond}

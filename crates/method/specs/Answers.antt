@@ -1,4 +1,4 @@
--- Verdicts and answers of the method, and the run of a sheet. Definitions only. Assumes nothing.
+-- Verdicts and answers of the method, the run of a problem, and what a search refuses and leaves. Definitions only. Assumes nothing.
 use mathlib.Core.Bool.{Bool, true, cond}
 use mathlib.Core.List.{List, _++_}
 use Prim.Native.Nat.{ℕ, zero, suc, _+_, _*_, _-_}

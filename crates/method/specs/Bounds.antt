@@ -1,5 +1,5 @@
 -- What is promised of an answer and its shares: steps and numbers, how near any mixture can come, and what each verdict means.
--- E, G, W, t are the answer's. A mixture is any list of shares, one a boat, of a total N above 0; Q is N² times its squared distance. Definitions only.
+-- E, G, W, t are the answer's. A mixture is any list of shares, one a vertex, of a total N above 0; Q is N² times its squared distance. Definitions only.
 use mathlib.Core.Path.{_≡_}
 use mathlib.Core.Bool.{true, false}
 use mathlib.Core.List.{List}
@@ -14,7 +14,7 @@ use Rattle.method.specs.Problem.{Schedule, fixed, Problem, weight}
 use Rattle.method.specs.Iterates.{Iterate, iterate, signed-gap, mixture-distance, diameter, support}
 use Rattle.method.specs.Answers.{stops, answer-at}
 
--- some shares with their sum of share times row
+-- some shares with their sum of share times vertex
 abbrev pub mixture-iterate : Problem → (shares : List ℕ) → Iterate
 mixture-iterate p qs = record { shares = qs; point = combination (p .columns) qs (p .vertices) }
 
@@ -25,19 +25,19 @@ answer-of p qs t = answer-at p t (mixture-iterate p qs)
 -- of an answer and its shares, a run's or an accepted card's
 pub record Answer-bounds (p : Problem) (a : Answer) (shares : List ℕ) : Type 0 where
   -- ---- Shares and steps
-  -- one share a boat
+  -- one share a vertex
   pub share-count : length shares ≡ length (p .vertices)
-  -- the shares total t (t + 1) / 2
+  -- the shares total what t steps give: t (t + 1) / 2 for the fixed shares
   pub total : sum shares ≡ weight (p .schedule) (a .steps)
   -- and W is that total
   pub weight : a .weight ≡ weight (p .schedule) (a .steps)
-  -- on no more boats than steps
+  -- on no more vertices than steps
   pub few-boats : support shares ≤ a .steps
   -- at least one step
   pub some-step : 1 ≤ a .steps
-  -- no more than the sheet asks
+  -- no more than the problem allows
   pub most-steps : a .steps ≤ p .steps
-  -- the verdict ends a run of the sheet's steps here
+  -- the verdict ends a run of the problem's steps here
   pub stops-here : stops (p .steps) (a .steps) (a .verdict) ≡ true
   -- ---- The numbers of these shares
   -- E is that of these very shares
@@ -62,7 +62,7 @@ pub record Answer-bounds (p : Problem) (a : Answer) (shares : List ℕ) : Type 0
   pub spent-undecided : (shortfall : ℕ) → a .verdict ≡ Spent shortfall → a .distance ≤ p .tolerance * (a .weight * a .weight) + 2 * a .gap
   -- and E is
   pub spent-above : (shortfall : ℕ) → a .verdict ≡ Spent shortfall → p .tolerance * (a .weight * a .weight) < a .distance
-  -- after the sheet's last step only
+  -- after the problem's last step only
   pub spent-last : (shortfall : ℕ) → a .verdict ≡ Spent shortfall → a .steps ≡ p .steps
   -- and carries what E is above tolerance × W²
   pub spent-shortfall : (shortfall : ℕ) → a .verdict ≡ Spent shortfall → shortfall + p .tolerance * (a .weight * a .weight) ≡ a .distance
@@ -74,13 +74,9 @@ pub record Answer-bounds (p : Problem) (a : Answer) (shares : List ℕ) : Type 0
   -- and tolerance × W²
   pub limit-fits : p .tolerance * (a .weight * a .weight) < 4611686018427387904
 
--- E / W² - Q / N² is at most 4 D² / (t + 2), multiplied out
-unfoldable pub Step-bound : Schedule → (t w e d n q : ℕ) → Type 0
-Step-bound fixed t w e d n q = e * (n * n) * (t + 2) ≤ q * (w * w) * (t + 2) + 4 * d * (w * w) * (n * n)
-
--- τ - Q / N² is at most as much
-unfoldable pub Spent-bound : Schedule → (t w τ d n q : ℕ) → Type 0
-Spent-bound fixed t w τ d n q = τ * (n * n) * (t + 2) ≤ q * (t + 2) + 4 * d * (n * n)
+-- a / b - Q / N² is at most the bound of t steps, multiplied out; d is D². With the fixed shares the bound is 4 D² / (t + 2)
+unfoldable pub Step-bound : Schedule → (t d a b n q : ℕ) → Type 0
+Step-bound fixed t d a b n q = a * (n * n) * (t + 2) ≤ q * b * (t + 2) + 4 * d * b * (n * n)
 
 -- of a run's answer and shares, in addition
 pub record Run-bounds (p : Problem) (a : Answer) (shares : List ℕ) : Type 0 where
@@ -90,8 +86,9 @@ pub record Run-bounds (p : Problem) (a : Answer) (shares : List ℕ) : Type 0 wh
       stops (p .steps) t (answer-at p t (iterate p t) .verdict) ≡ false
   -- no gap on the way is below 0
   pub every-gap : (t : ℕ) → 1 ≤ t → pos 0 ≤ℤ signed-gap p t (iterate p t)
-  -- every squared distance is at least the run's less the bound by steps
-  pub step-bound : (qs : List ℕ) → length qs ≡ length (p .vertices) → 1 ≤ sum qs → Step-bound (p .schedule) (a .steps) (a .weight) (a .distance) (diameter p) (sum qs) (mixture-distance p qs)
-  -- Spent: every mixture's squared distance is at least the tolerance less that bound
+  -- every squared distance is at least the run's, E / W², less the bound of its steps
+  pub step-bound : (qs : List ℕ) → length qs ≡ length (p .vertices) → 1 ≤ sum qs →
+      Step-bound (p .schedule) (a .steps) (diameter p) (a .distance) (a .weight * a .weight) (sum qs) (mixture-distance p qs)
+  -- Spent: every mixture's squared distance is at least the tolerance, τ / 1, less that bound
   pub spent : (shortfall : ℕ) → a .verdict ≡ Spent shortfall → (qs : List ℕ) → length qs ≡ length (p .vertices) → 1 ≤ sum qs →
-      Spent-bound (p .schedule) (a .steps) (a .weight) (p .tolerance) (diameter p) (sum qs) (mixture-distance p qs)
+      Step-bound (p .schedule) (a .steps) (diameter p) (p .tolerance) 1 (sum qs) (mixture-distance p qs)

@@ -1,5 +1,6 @@
 -- The Frank-Wolfe method in whole numbers: iterates, scores, E and G. Definitions only. Assumes nothing.
--- After t steps the shares total W; the sum over the vertices of share times row is y, and the iterate is the point y / W.
+-- Inner products <x, y> and squared lengths have the problem's factors; u is its target. After t steps the shares total W; the sum over
+-- the vertices of share times vertex is y, and the iterate is the point y / W.
 use mathlib.Core.Bool.{cond}
 use mathlib.Core.List.{List, [], _∷_}
 use Prim.Native.Nat.{ℕ, zero, suc, _+_, max}
@@ -18,11 +19,11 @@ pub record Iterate : Type 0 where
 unfoldable pub start : Problem → Iterate
 start p = record { shares = replicate (length (p .vertices)) 0; point = replicate (p .columns) (pos 0) }
 
--- r = y - W u, which is W times the gradient at y / W, but for the factors
+-- r = y - W u, which is W times the gradient of ½ |x - u|² at y / W
 unfoldable pub residual : Problem → (t : ℕ) → Iterate → List ℤ
 residual p t x = subtract (x .point) (scale (weight (p .schedule) t) (p .target))
 
-unfoldable pub row : List (List ℤ) → (boat : ℕ) → List ℤ
+unfoldable pub row : List (List ℤ) → (i : ℕ) → List ℤ
 row rs i = getD rs i []
 
 -- what the step after t steps is scored with: the first vertex less u before the first step, then the residual
@@ -30,7 +31,7 @@ unfoldable pub direction : Problem → (t : ℕ) → Iterate → List ℤ
 direction p zero x = subtract (row (p .vertices) 0) (p .target)
 direction p (suc t) x = residual p (suc t) x
 
--- the score of each vertex: the linear form <g, ·> at it, with the factors of the columns
+-- the score of each vertex: the linear form <g, ·> at it
 unfoldable pub scores : (factors : List ℕ) → (g : List ℤ) → (rs : List (List ℤ)) → List ℤ
 scores fs g [] = []
 scores fs g (v ∷ vs) = weighted fs g v ∷ scores fs g vs
@@ -104,16 +105,16 @@ unfoldable pub farthest : (factors : List ℕ) → (v : List ℤ) → (rs : List
 farthest fs v [] = 0
 farthest fs v (w ∷ ws) = max (weighted-norm fs (subtract v w)) (farthest fs v ws)
 
--- the greatest squared distance between two rows
+-- between two rows
 unfoldable pub row-diameter : (factors : List ℕ) → (rs : List (List ℤ)) → ℕ
 row-diameter fs [] = 0
 row-diameter fs (v ∷ vs) = max (farthest fs v vs) (row-diameter fs vs)
 
--- D²
+-- D²: the greatest squared distance between two vertices
 abbrev pub diameter : Problem → ℕ
 diameter p = row-diameter (p .factors) (p .vertices)
 
--- how many boats hold shares
+-- how many vertices hold shares
 unfoldable pub support : (shares : List ℕ) → ℕ
 support [] = 0
 support (q ∷ qs) = cond (eqb q 0) 0 1 + support qs

@@ -7,8 +7,9 @@ use Rattle.frank_wolfe.specs.Vectors.{ones}
 use Rattle.files.specs.Book.{rows, columns}
 use Rattle.files.specs.Sheet.{sheet}
 
--- the shares of the steps: 1, 2, 3, ..
+-- how many shares each step gives
 pub data Schedule : Type 0 where
+  -- 1, 2, 3, ..
   fixed : Schedule
 
 -- the share of step k + 1
@@ -19,17 +20,22 @@ share fixed k = suc k
 unfoldable pub weight : Schedule → (t : ℕ) → ℕ
 weight fixed t = t * (t + 1) / 2
 
--- the vertices are the rows of the boats, one each, all of so many columns
+-- a mixture of the vertices is looked for whose squared distance to the target is at most the tolerance
 pub record Problem : Type 0 where
+  -- how many entries each vertex and the target have
   pub columns : ℕ
+  -- the rows of the boats that are mixed, one each
   pub vertices : List (List ℤ)
+  -- u
   pub target : List ℤ
+  -- one a column: inner products and squared distances take a column as many times as its factor says
   pub factors : List ℕ
   pub schedule : Schedule
   pub tolerance : ℕ
+  -- how many steps a run may take
   pub steps : ℕ
 
--- of a fleet book and a sheet, as bytes: a vertex for every boat, every factor 1
+-- the problem of a fleet book and a sheet, as bytes: a vertex for every boat, every factor 1, and step k gives k shares
 unfoldable pub problem : (book sheet : List ℕ) → Problem
 problem b s =
     record {

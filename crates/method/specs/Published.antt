@@ -1,6 +1,6 @@
 -- The Frank-Wolfe method over exact fractions, as published: M. Jaggi, Revisiting Frank-Wolfe: Projection-Free Sparse Convex
--- Optimization, Algorithm 1, for f(x) = ½ |x - u|² over the convex hull of some vertices, from the first of them on. The inner product
--- has a factor for each column; the step size is 2 / (k + 2).
+-- Optimization, Algorithm 1, for f(x) = ½ |x - u|² over the convex hull of the vertices, from the first of them on. The inner product
+-- is the problem's, with a factor for each column, and so are the length |x| and the gradient.
 -- Definitions only; nothing of the method in whole numbers is used. Assumes nothing.
 use mathlib.Core.Bool.{Bool, false, _||_, cond}
 use mathlib.Core.List.{List, [], _∷_}
@@ -10,13 +10,13 @@ use lib.IntN.{ℤ, pos}
 use Rattle.method.specs.Problem.{Schedule, fixed, Problem}
 use Rattle.method.specs.Fractions.{Fraction, ratio, integer, _+ℚ_, _-ℚ_, _*ℚ_, ltQ, fractions, difference, inner-product}
 
--- a point as a convex combination of the rows: the weight of each boat, and the point x
+-- a point as a convex combination of the vertices: the weight of each, and the point x
 pub record Convex-combination : Type 0 where
   pub weights : List Fraction
   pub point : List Fraction
 
--- of so many weights, 1 at boat i and 0 elsewhere
-unfoldable pub unit-vector : (boats i : ℕ) → List Fraction
+-- of so many weights, 1 at vertex i and 0 elsewhere
+unfoldable pub unit-vector : (count i : ℕ) → List Fraction
 unit-vector zero i = []
 unit-vector (suc n) zero = integer (pos 1) ∷ replicate n (integer (pos 0))
 unit-vector (suc n) (suc i) = integer (pos 0) ∷ unit-vector n i
@@ -25,7 +25,7 @@ unit-vector (suc n) (suc i) = integer (pos 0) ∷ unit-vector n i
 unfoldable pub gradient : (u : List ℤ) → (x : List Fraction) → List Fraction
 gradient u x = difference x (fractions u)
 
--- the linear form <g, ·> at each boat's row
+-- the linear form <g, ·> at each vertex
 unfoldable pub linear-form : (factors : List ℕ) → (g : List Fraction) → (rs : List (List ℤ)) → List Fraction
 linear-form fs g [] = []
 linear-form fs g (v ∷ vs) = inner-product fs g (fractions v) ∷ linear-form fs g vs
