@@ -20,9 +20,8 @@ use Rattle.method.specs.Problem.{fixed, problem}
 use Rattle.method.specs.Iterates.{support, distance, gap}
 use Rattle.method.specs.Answers.{verdict-number, stops}
 use Rattle.method.specs.Bounds.{answer-of, Answer-bounds}
-use Rattle.method.proofs.Accepted.{well-formed, in-range}
+use Rattle.method.proofs.Accepted.{well-formed, in-range, sized}
 use Rattle.method.proofs.Bounds.{answer-bounds}
-use Rattle.method.proofs.Promise.{sized}
 use Rattle.method.proofs.Weights.{fixed-fits, weight-most, weight-positive}
 use Rattle.method.proofs.Shares.{share-most}
 use Rattle.card_format.specs.Format.{Fields, WCD1, pairs, trailer-bytes, fields, card-fields, card-body, pair-count, card-shares, card-answer}
@@ -154,7 +153,7 @@ module _ (b s w : List ℕ) (all : all-bytes w ≡ true) (p : Passed b s w) wher
   numbers-are = and-true (eqb (card-fields w .distance) (card-answer b s w .distance) && eqb (card-fields w .gap) (card-answer b s w .gap)) _ (p .numbers)
 
   passed-true : Card-true b s w
-  unfolding card-answer shares-total
+  unfolding problem card-answer shares-total
   passed-true =
       let counts = and-true (eqb (card-fields w .boats) (boats b)) _ (p .counts) in
       let n : card-fields w .boats ≡ boats b = eqb-true _ _ (counts .0) in
@@ -173,15 +172,17 @@ module _ (b s w : List ℕ) (all : all-bytes w ≡ true) (p : Passed b s w) wher
         boats = n;
         columns = eqb-true _ _ (counts .1);
         share-count = ap length shares-are ∙ parsed .share-count ∙ sym n;
-        total = eqb-true _ _ (totals .1);
-        few-boats = rw (shares-are, parsed .boats) (leb-true (pair-count w) (card-fields w .steps) (totals .0));
-        some-step = steps .0;
-        most-steps = steps .1;
-        distance = eqb-true _ _ (eg .0);
-        gap = eqb-true _ _ (eg .1);
-        verdict = eqb-true _ _ (vs .0);
-        stops-here = vs .1;
-        tolerance = eqb-true _ _ (p .tolerance);
+        truth = record {
+          total = eqb-true _ _ (totals .1);
+          few-boats = rw (shares-are, parsed .boats) (leb-true (pair-count w) (card-fields w .steps) (totals .0));
+          some-step = steps .0;
+          most-steps = steps .1;
+          distance = eqb-true _ _ (eg .0);
+          gap = eqb-true _ _ (eg .1);
+          verdict = eqb-true _ _ (vs .0);
+          stops-here = vs .1;
+          tolerance = eqb-true _ _ (p .tolerance);
+        };
       }
 
 pub accepted-true : (b s w : List ℕ) → all-bytes w ≡ true → card-refusal b s w ≡ 0 → Card-true b s w
@@ -213,31 +214,34 @@ support-some (suc q ∷ qs) h = rw (ne-eqb (suc q) 0 (λ e. omega arith)) (omega
 
 module _ (b s w : List ℕ) (ok : files-refusal b s ≡ 0) (c : Card-true b s w) where
   few-steps : c .own .steps ≤ 360
-  few-steps = omega (arith, c .most-steps, files-accepted b s ok .1 .most-steps)
+  unfolding problem
+  few-steps = omega (arith, c .truth .most-steps, files-accepted b s ok .1 .most-steps)
 
   count : length (c .shares) ≡ boats b
   count = c .share-count ∙ c .boats
 
   share-fits : (j : ℕ) → getD (c .shares) j 0 < 65536
-  share-fits j = omega (arith, share-most (c .shares) j, c .total, weight-most few-steps)
+  unfolding problem
+  share-fits j = omega (arith, share-most (c .shares) j, c .truth .total, weight-most few-steps)
 
   reading : Readable 0 (boats b) (support (c .shares)) (pairs 0 (c .shares)) (c .shares)
   reading = readable (c .shares) 0 (boats b) (omega (arith, count)) (omega (arith, files-accepted b s ok .0 .most-boats)) share-fits
 
   pub own-bounds : Answer-bounds (problem b s) (answer-of (problem b s) (c .shares) (c .own .steps)) (c .shares)
   unfolding problem
-  own-bounds = answer-bounds (well-formed b s ok) (in-range b s ok) (sized b s ok) (c .shares) (c .own .steps) (count ∙ sym (files-accepted b s ok .0 .row-count)) (c .total) (c .few-boats) (c .some-step) (c .most-steps) (c .stops-here)
+  own-bounds = answer-bounds (well-formed b s ok) (in-range b s ok) (sized b s ok) (c .shares) (c .own .steps) (count ∙ sym (files-accepted b s ok .0 .row-count)) (c .truth .total) (c .truth .few-boats) (c .truth .some-step) (c .truth .most-steps) (c .truth .stops-here)
 
   own-fits : Fields-fit (c .own)
+  unfolding problem
   own-fits =
       let book = files-accepted b s ok .0 in
       record {
         back = omega (arith, c .back, reading .sized, support-most (c .shares), count, book .most-boats);
-        verdict = omega (arith, c .verdict, verdict-between (answer-of (problem b s) (c .shares) (c .own .steps) .verdict) .1);
+        verdict = omega (arith, c .truth .verdict, verdict-between (answer-of (problem b s) (c .shares) (c .own .steps) .verdict) .1);
         steps = omega (arith, few-steps);
-        tolerance = omega (arith, c .tolerance, files-accepted b s ok .1 .most-tolerance);
-        distance = omega (arith, c .distance, own-bounds .distance-fits);
-        gap = omega (arith, c .gap, own-bounds .gap-fits);
+        tolerance = omega (arith, c .truth .tolerance, files-accepted b s ok .1 .most-tolerance);
+        distance = omega (arith, c .truth .distance, own-bounds .distance-fits);
+        gap = omega (arith, c .truth .gap, own-bounds .gap-fits);
         boats = omega (arith, c .boats, book .most-boats);
         columns = omega (arith, c .columns, book .most-columns);
       }
@@ -274,28 +278,28 @@ module _ (b s w : List ℕ) (ok : files-refusal b s ≡ 0) (c : Card-true b s w)
   file-size = ap length (c .layout) ∙ file-length (c .front) (pairs 0 (c .shares)) (trailer-bytes (c .own)) (length-trailer (c .own))
 
   numbers-said : numbers-agree (sheet s .steps) w (card-answer b s w) ≡ true
-  unfolding numbers-agree
-  numbers-said = rw (answer-is, fields-are) (simp (eq-eqb _ _ (c .distance), eq-eqb _ _ (c .gap), eq-eqb _ _ (c .verdict), c .stops-here))
+  unfolding problem numbers-agree
+  numbers-said = rw (answer-is, fields-are) (simp (eq-eqb _ _ (c .truth .distance), eq-eqb _ _ (c .truth .gap), eq-eqb _ _ (c .truth .verdict), c .truth .stops-here))
 
   true-passed : Passed b s w
-  unfolding length-in-range shares-total
+  unfolding problem length-in-range shares-total
   true-passed =
       let v = verdict-between (answer-of (problem b s) (c .shares) (c .own .steps) .verdict) in
       record {
         sized = between-said (omega (arith, file-size)) (c .most-bytes);
         letters = rw (trailer-is, letters-written) (unfold same in refl);
         counts = rw fields-are (simp (eq-eqb _ _ (c .boats), eq-eqb _ _ (c .columns)));
-        ranges = rw fields-are (simp (between-said {least = 1} {most = 3} {n = c .own .verdict} (rw (c .verdict) (v .0)) (rw (c .verdict) (v .1)), between-said (c .some-step) (c .most-steps)));
+        ranges = rw fields-are (simp (between-said {least = 1} {most = 3} {n = c .own .verdict} (rw (c .truth .verdict) (v .0)) (rw (c .truth .verdict) (v .1)), between-said (c .truth .some-step) (c .truth .most-steps)));
         back = back-said (rw back-is (record {
-          some = omega (arith, reading .sized, support-some (c .shares) (rw (c .total) (weight-positive fixed-fits (c .some-step))));
+          some = omega (arith, reading .sized, support-some (c .shares) (rw (c .truth .total) (weight-positive fixed-fits (c .truth .some-step))));
           fours = omega (arith, reading .sized);
           few = omega (arith, reading .sized, support-most (c .shares), count);
           inside = omega (arith, file-size);
         }));
         ordered = rw (count-is, body-is) (reading .ordered);
-        totals = rw (count-is, shares-back, fields-are) (simp (le-leb _ _ (c .few-boats), eq-eqb _ _ (c .total)));
+        totals = rw (count-is, shares-back, fields-are) (simp (le-leb _ _ (c .truth .few-boats), eq-eqb _ _ (c .truth .total)));
         numbers = numbers-said;
-        tolerance = rw fields-are (eq-eqb _ _ (c .tolerance));
+        tolerance = rw fields-are (eq-eqb _ _ (c .truth .tolerance));
       }
 
   pub true-accepted : card-refusal b s w ≡ 0

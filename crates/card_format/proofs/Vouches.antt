@@ -17,17 +17,17 @@ accepted-exactly b s w ok all =
 
 -- a true card vouches
 true-vouches : (b s w : List ℕ) → files-refusal b s ≡ 0 → (c : Card-true b s w) → Card-vouches b s w (answer-of (problem b s) (c .shares) (c .own .steps)) (c .shares)
-unfolding answer-at
+unfolding problem answer-at
 true-vouches b s w ok c =
     let own = fields-are b s w ok c in
     record {
       is-true = c;
       own-shares = refl;
       own-steps = sym (ap (λ f. f .steps) own);
-      own-distance = sym (ap (λ f. f .distance) own ∙ c .distance);
-      own-gap = sym (ap (λ f. f .gap) own ∙ c .gap);
-      own-verdict = sym (ap (λ f. f .verdict) own ∙ c .verdict);
-      own-tolerance = sym (ap (λ f. f .tolerance) own ∙ c .tolerance);
+      own-distance = sym (ap (λ f. f .distance) own ∙ c .truth .distance);
+      own-gap = sym (ap (λ f. f .gap) own ∙ c .truth .gap);
+      own-verdict = sym (ap (λ f. f .verdict) own ∙ c .truth .verdict);
+      own-tolerance = sym (ap (λ f. f .tolerance) own ∙ c .truth .tolerance);
       answer = own-bounds b s w ok c;
     }
 

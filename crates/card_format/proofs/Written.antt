@@ -13,9 +13,8 @@ use Rattle.method.specs.Answers.{verdict-number, run-iterate, run-answer}
 use Rattle.method.specs.Bounds.{Answer-bounds}
 use Rattle.method.proofs.Shares.{share-most}
 use Rattle.method.proofs.Weights.{weight-most}
-use Rattle.method.proofs.Accepted.{well-formed, in-range}
+use Rattle.method.proofs.Accepted.{well-formed, in-range, sized}
 use Rattle.method.proofs.Bounds.{run-is, run-bounds}
-use Rattle.method.proofs.Promise.{sized}
 use Rattle.card_format.specs.Format.{pairs, trailer-bytes, answer-fields, card-bytes, run-card}
 use Rattle.card_format.specs.Truth.{Card-true, Written-accepted, Written-short}
 use Rattle.card_format.proofs.Pairs.{readable}
@@ -61,15 +60,17 @@ module _ (b s : List ℕ) (ok : files-refusal b s ≡ 0) where
         boats = refl;
         columns = refl;
         share-count = run-shares;
-        total = bounds .total;
-        few-boats = bounds .few-boats;
-        some-step = bounds .some-step;
-        most-steps = bounds .most-steps;
-        distance = ap (λ a. a .distance) (run-is (well-formed b s ok) (in-range b s ok) (sized b s ok));
-        gap = ap (λ a. a .gap) (run-is (well-formed b s ok) (in-range b s ok) (sized b s ok));
-        verdict = ap (λ a. verdict-number (a .verdict)) (run-is (well-formed b s ok) (in-range b s ok) (sized b s ok));
-        stops-here = rw (← run-is (well-formed b s ok) (in-range b s ok) (sized b s ok)) (bounds .stops-here);
-        tolerance = refl;
+        truth = record {
+          total = bounds .total;
+          few-boats = bounds .few-boats;
+          some-step = bounds .some-step;
+          most-steps = bounds .most-steps;
+          distance = ap (λ a. a .distance) (run-is (well-formed b s ok));
+          gap = ap (λ a. a .gap) (run-is (well-formed b s ok));
+          verdict = ap (λ a. verdict-number (a .verdict)) (run-is (well-formed b s ok));
+          stops-here = rw (← run-is (well-formed b s ok)) (bounds .stops-here);
+          tolerance = refl;
+        };
       }
 
 pub written-short : Written-short
@@ -81,4 +82,4 @@ unfolding Written-accepted run-card-true
 written-accepted b s front ok h =
     let c = run-card-true b s ok front h in
     let w = front ++ run-card b s in
-    (true-accepted b s w ok c, answer-is b s w ok c ∙ sym (run-is (well-formed b s ok) (in-range b s ok) (sized b s ok)), shares-back b s w ok c)
+    (true-accepted b s w ok c, answer-is b s w ok c ∙ sym (run-is (well-formed b s ok)), shares-back b s w ok c)

@@ -11,12 +11,27 @@ use Rattle.files.specs.Bytes.{all-bytes}
 use Rattle.files.specs.Book.{columns, boats}
 use Rattle.files.specs.Sheet.{sheet, files-refusal}
 use Rattle.method.specs.declared.Answer.{Answer}
-use Rattle.method.specs.Problem.{fixed, Problem, problem, weight}
+use Rattle.method.specs.Problem.{Problem, problem, weight}
 use Rattle.method.specs.Iterates.{gaps, maximum, mixture-distance, support}
 use Rattle.method.specs.Answers.{verdict-number, stops, run-answer, run-iterate}
 use Rattle.method.specs.Bounds.{answer-of, Answer-bounds}
 use Rattle.card_format.specs.Format.{Fields, pairs, trailer-bytes, card-fields, card-shares, card-answer, run-card}
 use Rattle.card_format.specs.Checks.{card-refusal}
+
+-- what a trailer says is true of some shares, one a vertex of a problem
+pub record Fields-true (p : Problem) (shares : List ℕ) (own : Fields) : Type 0 where
+  -- ---- The shares: of the total that so many steps give, on no more vertices than steps
+  pub total : sum shares ≡ weight (p .schedule) (own .steps)
+  pub few-boats : support shares ≤ own .steps
+  pub some-step : 1 ≤ own .steps
+  pub most-steps : own .steps ≤ p .steps
+  -- ---- The numbers: those of the shares
+  pub distance : own .distance ≡ answer-of p shares (own .steps) .distance
+  pub gap : own .gap ≡ answer-of p shares (own .steps) .gap
+  pub verdict : own .verdict ≡ verdict-number (answer-of p shares (own .steps) .verdict)
+  -- Spent only at the problem's steps
+  pub stops-here : stops (p .steps) (own .steps) (answer-of p shares (own .steps) .verdict) ≡ true
+  pub tolerance : own .tolerance ≡ p .tolerance
 
 -- the card w is well formed, and true of its book b and sheet s
 pub record Card-true (b s w : List ℕ) : Type 0 where
@@ -27,21 +42,12 @@ pub record Card-true (b s w : List ℕ) : Type 0 where
   pub layout : w ≡ front ++ (pairs 0 shares ++ trailer-bytes own)
   pub most-bytes : length w ≤ 40000
   pub back : own .back ≡ length (pairs 0 shares)
-  -- ---- The shares: one a boat, of total t (t + 1) / 2, on at most t boats
+  -- ---- Of this book: one share a boat
   pub boats : own .boats ≡ boats b
   pub columns : own .columns ≡ columns b
   pub share-count : length shares ≡ own .boats
-  pub total : sum shares ≡ weight fixed (own .steps)
-  pub few-boats : support shares ≤ own .steps
-  pub some-step : 1 ≤ own .steps
-  pub most-steps : own .steps ≤ sheet s .steps
-  -- ---- The card's own numbers: those of its shares
-  pub distance : own .distance ≡ answer-of (problem b s) shares (own .steps) .distance
-  pub gap : own .gap ≡ answer-of (problem b s) shares (own .steps) .gap
-  pub verdict : own .verdict ≡ verdict-number (answer-of (problem b s) shares (own .steps) .verdict)
-  -- Spent only at the sheet's steps
-  pub stops-here : stops (sheet s .steps) (own .steps) (answer-of (problem b s) shares (own .steps) .verdict) ≡ true
-  pub tolerance : own .tolerance ≡ sheet s .tolerance
+  -- ---- What it says of the shares is true
+  pub truth : Fields-true (problem b s) shares own
 
 -- ---- What an accepted card vouches for: a is the answer given back for it, `shares` its shares. The bound by steps is a run's alone.
 pub record Card-vouches (b s w : List ℕ) (a : Answer) (shares : List ℕ) : Type 0 where
