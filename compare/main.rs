@@ -568,7 +568,7 @@ fn compare_listing(rng: &mut Random) -> Compared {
 
 // ------------------------------------------------------------------ the command
 
-/// The refusals that each call can give, all of which a long comparison must meet.
+/// The refusals that each call can give, all of which the gate's comparison and a long one must meet.
 fn refusals(call: &str) -> Vec<u32> {
     let mut numbers: Vec<u32> = (1..=6).chain(11..=17).collect();
     match call {
@@ -630,8 +630,9 @@ fn main() {
         let refused = refusals(call).into_iter().map(|n| format!("{n}: {}", times(call, &format!("refused {n}"))));
         println!("{call}: {}; refused by {}", answered.join(", "), refused.collect::<Vec<_>>().join(", "));
     }
-    // A long comparison that never meets some outcome has lost its meaning.
-    if count >= 10_000 {
+    // A comparison that never meets some outcome has lost its meaning. The gate's 2,000 cases of seed 1 meet each; those of another
+    // seed need not, so there only a long one is held to it.
+    if count >= 10_000 || (count >= 2_000 && seed == 1) {
         for call in CALLS {
             let refused = refusals(call).into_iter().map(|n| format!("refused {n}"));
             for outcome in refused.chain(answers(call).iter().map(|name| name.to_string())) {
