@@ -21,7 +21,7 @@ fn checked(book: &[u8], sheet: &[u8], filed: &[u8]) {
 fn front(book: &[u8], sheet: &[u8], filed: &[u8], len: usize, size: usize) {
     let mut file = [9u8; 40001];
     printing::line(b"front up to", size as u64);
-    buffers::put_part(&mut file, buffers::less(size, len), filed, 0, len);
+    buffers::put_bytes(&mut file, buffers::less(size, len), between(filed, 0, len));
     checked(book, sheet, between(&file, 0, size));
 }
 

@@ -41,8 +41,8 @@ fn long(length: usize) {
 // A file whose path has 4,095 bytes, so that no longer one can name another file beside it. Several slashes count as one.
 fn long_path() {
     let mut path = [47u8; 4095];
-    buffers::put_part(&mut path, 0, b"folder", 0, 6);
-    buffers::put_part(&mut path, 4089, b"inside", 0, 6);
+    buffers::put_bytes(&mut path, 0, b"folder");
+    buffers::put_bytes(&mut path, 4089, b"inside");
     printing::title(b"4,095 bytes of path");
     replace(&path, b"not written");
 }

@@ -39,7 +39,7 @@ fn put_long(name: &[u8], length: usize) {
     let mut short = [0u8; 256];
     let mut file = [0u8; 40001];
     let n = file_io::read_file(name, &mut short);
-    buffers::put_part(&mut file, buffers::less(40000, n), &short, 0, n);
+    buffers::put_bytes(&mut file, buffers::less(40000, n), &short[..n]);
     let path = paths::path_in(b"long", name);
     let bytes = path.bytes;
     let len = path.len;

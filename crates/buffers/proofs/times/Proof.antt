@@ -1,4 +1,5 @@
 -- `buffers::times` meets its contract: a product of two numbers below 2^16 is below 2^32.
+use mathlib.Core.Path.{refl}
 use Prim.Native.Nat.{ℕ, _*_, _%_, _<_}
 use native.Mathlib.Nat.{mul-le-mul-left}
 use native.Mathlib.Omega.{arith}
@@ -12,7 +13,7 @@ mul-result : tie.Need-mul-result
 mul-result c = omega (arith, below (c .args .a) (c .args .b))
 
 returns : tie.Need-returns
-returns c = below (c .args .a) (c .args .b)
+returns c = (refl, below (c .args .a) (c .args .b))
 
 pub times-spec : {M : Type 1} → statement M
 times-spec =
