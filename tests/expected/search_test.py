@@ -5,7 +5,7 @@ import sys
 
 sys.path.insert(0, os.path.join(os.path.dirname(os.path.abspath(__file__)), ".."))
 import exact  # noqa: E402
-from printing import outcome_lines, slots_line  # noqa: E402
+from printing import checksum, outcome_lines, slots_line  # noqa: E402
 from make_data import FILES  # noqa: E402
 
 # Book, sheet and length of the share list, in the program's order.
@@ -25,10 +25,10 @@ LISTS = [
 
 
 def searched(book, sheet, length):
-    """The outcome, and the first 12 of 260 slots, of which the first `length` were lent."""
+    """The outcome, the first 12 of 260 slots, of which the first `length` were lent, and a sum over all of them."""
     refusal, answer, lent = exact.search(book, sheet, [7] * length)
     slots = lent + [7] * (260 - length)
-    return outcome_lines(refusal, answer) + slots_line(slots[:12])
+    return outcome_lines(refusal, answer) + slots_line(slots[:12]) + "sum %d\n" % checksum(slots)
 
 
 def files(cases):

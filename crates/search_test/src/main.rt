@@ -1,5 +1,8 @@
 // The marked sheets and the limits of the files, through the search itself: the answer or the refusal, and the share list.
 // The files of data/ are made by tests/make_data.py, the expected output by tests/expected/search_test.py.
+ghost use mathlib.Core.Path.{_≡_};
+ghost use Prim.Native.Nat.{_<_};
+ghost use Rattle.buffers.specs.Buffers.{checksum};
 use buffers::between;
 
 // Searches with the first `length` slots of a list.
@@ -11,11 +14,33 @@ fn search_in(book: &[u8], sheet: &[u8], slots: &mut [u16], length: usize) {
     printing::outcome(search::search(book, sheet, &mut slots[start..length]));
 }
 
-// Searches with a list of `length` slots that hold 7, and prints its first 12 slots.
+// A slot in a wider type.
+fn wide(x: u16) -> u64
+    ensures { λ r. ⌜ r ≡ x ⌝ }
+    ensures { λ r. ⌜ r < 65536 ⌝ }
+{
+    x as u64
+}
+
+// A number that depends on every slot and its place.
+fn checksum(slots: &[u16]) -> u64
+    ensures { λ r. ⌜ r ≡ checksum (now (slots .entry)) ⌝ }
+{
+    let mut sum = 0;
+    let mut i = 0;
+    while i < slots.len() {
+        sum = (257 * sum + wide(slots[i])) % 1000003;
+        i += 1;
+    }
+    sum
+}
+
+// Searches with a list of `length` slots that hold 7, of 260, and prints its first 12 slots and a sum over all of them.
 fn searched(book: &[u8], sheet: &[u8], length: usize) {
     let mut slots = [7u16; 260];
     search_in(book, sheet, &mut slots, length);
     printing::slots(&slots, 12);
+    printing::line(b"sum", checksum(&slots));
 }
 
 // The same of two files of the current folder, which are the name of the case. L is the length of the list, 12 where it is left out.
@@ -43,7 +68,7 @@ fn each(table: &[u8]) {
 // The file in a buffer's first `n` bytes behind zeros, `size` bytes in all.
 fn long_file(bytes: &[u8], n: usize, size: usize) -> [u8; 40001] {
     let mut file = [0u8; 40001];
-    buffers::put_part(&mut file, buffers::less(size, n), bytes, 0, n);
+    buffers::put_bytes(&mut file, buffers::less(size, n), between(bytes, 0, n));
     file
 }
 
