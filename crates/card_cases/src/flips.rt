@@ -1,4 +1,5 @@
 // A card with each of its bits flipped.
+ghost use mathlib.Core.Path.{_≡_};
 use buffers::between;
 use method::Searched;
 
@@ -14,7 +15,9 @@ fn refusal(found: Searched) -> u64 {
 const BITS: [u8; 8] = [1, 2, 4, 8, 16, 32, 64, 128];
 
 // Checks the card in a buffer's first `len` bytes with one byte changed, and puts the byte back.
-fn flip(book: &[u8], sheet: &[u8], filed: &mut [u8], len: usize, at: usize, mask: u8) {
+fn flip(book: &[u8], sheet: &[u8], filed: &mut [u8], len: usize, at: usize, mask: u8)
+    ensures { λ _. ⌜ now (filed .exit) ≡ now (filed .entry) ⌝ }
+{
     if at < filed.len() {
         let x = filed[at];
         filed[at] = x ^ mask;
@@ -26,7 +29,9 @@ fn flip(book: &[u8], sheet: &[u8], filed: &mut [u8], len: usize, at: usize, mask
 }
 
 // The 8 bits of one byte, a line.
-fn flip_byte(book: &[u8], sheet: &[u8], filed: &mut [u8], len: usize, at: usize) {
+fn flip_byte(book: &[u8], sheet: &[u8], filed: &mut [u8], len: usize, at: usize)
+    ensures { λ _. ⌜ now (filed .exit) ≡ now (filed .entry) ⌝ }
+{
     printing::word(b"flip");
     let mut i = 0;
     while i < 8 {
@@ -37,7 +42,9 @@ fn flip_byte(book: &[u8], sheet: &[u8], filed: &mut [u8], len: usize, at: usize)
 }
 
 // Every byte of the card.
-pub fn flips(book: &[u8], sheet: &[u8], filed: &mut [u8], len: usize) {
+pub fn flips(book: &[u8], sheet: &[u8], filed: &mut [u8], len: usize)
+    ensures { λ _. ⌜ now (filed .exit) ≡ now (filed .entry) ⌝ }
+{
     let mut at = 0;
     while at < len {
         flip_byte(book, sheet, filed, len, at);
