@@ -1,29 +1,25 @@
 -- The tests of a card's form, as the code has them, are those of the definitions.
 use mathlib.Core.Path.{_≡_, refl, sym, ap, _∙_}
 use mathlib.Core.Bool.{Bool, true, false, not}
-use mathlib.Core.List.{List, [], _∷_, _++_, append-nil}
-use Prim.Native.Nat.{ℕ, zero, suc, _+_, _*_, _-_, _/_, _%_, _≤_, _<_}
+use mathlib.Core.List.{List}
+use Prim.Native.Nat.{ℕ, zero, suc, _*_, _-_, _/_, _%_, _≤_, _<_}
 use native.Mathlib.Omega.{arith}
 use borrow.Author.Tests.{eq-eqb, ne-eqb, le-leb, lt-leb, lt-ltb, le-ltb, not-true, not-false}
 use lib.Dec.{eqb, leb, ltb}
-use lib.ListN.{length, getD, take, drop, drop-of-length-le}
+use lib.ListN.{length, getD, take, drop}
 use mir.Syntax.{w8}
 use mir.Val.{Fits}
-use Rattle.files.specs.Bytes.{number-bytes, all-bytes, little-endian, number, same, between, length-in-range, trailer, body, reaches}
-use Rattle.files.proofs.Numbers.{number-in-trailer, drop-trailer}
+use Rattle.files.specs.Bytes.{all-bytes, number, same, between, length-in-range, trailer, body, reaches}
+use Rattle.files.proofs.Numbers.{all-bytes-known, number-in-trailer, drop-trailer}
 use Rattle.card_format.specs.Format.{WCD1, fields, card-fields, card-body, pair-count, shares-into}
 use Rattle.card_format.specs.Checks.{back-fits, pairs-in-order}
-use Rattle.card_format.proofs.Bytes.{field}
-use Rattle.card_format.proofs.Trailer.{same-eq}
 use Rattle.card_format.proofs.Truth.{Back-fits, back-means}
 use Rattle.card_pairs.proofs.Pairs.{order-take, into-take}
 use Rattle.card_input.specs.Forms.{counts-agree, steps-fit, form-refusal}
 
 -- a slice of u8 holds bytes
 pub bytes-of : (w : List ℕ) → ((i : ℕ) → Fits w8 (getD w i 0)) → all-bytes w ≡ true
-unfolding all-bytes
-bytes-of [] f = refl
-bytes-of (x ∷ xs) f = simp (lt-ltb x 256 (f 0 .fits), bytes-of xs (λ i. f (suc i)))
+bytes-of w f = all-bytes-known w f
 
 -- ---- Fields
 
@@ -60,27 +56,8 @@ module _ (w : List ℕ) (h : 36 ≤ length w) where
   unfolding card-fields fields
   columns-at = number-in-trailer 36 30 2 (length w - 6) w (omega arith)
 
-  -- the letters, by their number
-  letters-are : all-bytes w ≡ true → number-bytes 4 (number (length w - 4) 4 w) ≡ drop (length w - 4) w
-  letters-are all =
-      let a = length w - 4 in
-      sym (append-nil (number-bytes 4 (number a 4 w))) ∙ ap (λ l. number-bytes 4 (number a 4 w) ++ l) (sym (drop-of-length-le w {i = a + 4} (omega arith)))
-      ∙ field a 4 w all (omega arith)
-
-  letters-same : all-bytes w ≡ true → number (length w - 4) 4 w ≡ 826557271 → same (drop (length w - 4) w) WCD1 ≡ true
-  letters-same all q = rw (← letters-are all, q) (unfold same number-bytes in refl)
-
-  letters-number : drop (length w - 4) w ≡ WCD1 → number (length w - 4) 4 w ≡ 826557271
-  unfolding number little-endian
-  letters-number e = ap (λ l. little-endian (take 4 l)) e
-
-  pub lettered : all-bytes w ≡ true → (n : ℕ) → n ≡ number (length w - 4) 4 w → eqb n 826557271 ≡ same (drop 32 (trailer 36 w)) WCD1
-  lettered all n e =
-      rw (drop-trailer 36 32 (length w - 4) w (omega arith), e) (by (same (drop (length w - 4) w) WCD1) refl)
-    where
-      by : (t : Bool) → same (drop (length w - 4) w) WCD1 ≡ t → eqb (number (length w - 4) 4 w) 826557271 ≡ t
-      by true t = eq-eqb (number (length w - 4) 4 w) 826557271 (letters-number (same-eq _ _ t))
-      by false t = ne-eqb _ _ (λ q. let z : true ≡ false = sym (letters-same all q) ∙ t in let y : _≡_ {A = ℕ} 0 1 = cc in omega arith)
+  pub letters-at : drop 32 (trailer 36 w) ≡ drop (length w - 4) w
+  letters-at = drop-trailer 36 32 (length w - 4) w (omega arith)
 
 -- ---- Tests
 

@@ -9,15 +9,12 @@ ghost use Rattle.card_format.specs.Format.{WCD1, card-fields, pair-count};
 ghost use Rattle.card_format.specs.Checks.{back-fits};
 ghost use Rattle.card_input.specs.Forms.{counts-agree, steps-fit, form-refusal};
 
-// The letters WCD1 as a number.
-const LETTERS: u32 = 826557271;
-
 // Whether a card ends with its letters.
 fn is_lettered(card: &[u8]) -> bool
     requires { ⌜ 36 ≤ length (now card) ⌝ }
     ensures { λ r. ⌜ r ≡ same (drop 32 (trailer 36 (now (card .entry)))) WCD1 ⌝ }
 {
-    files::u32_at(card, card.len() - 4) == LETTERS
+    file_parts::ends_with(card, b"WCD1")
 }
 
 // Whether a card names so many boats and columns.

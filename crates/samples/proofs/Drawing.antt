@@ -1,9 +1,9 @@
 -- The loops that put drawn bytes and rows into a buffer, turn by turn. Assumes nothing.
-use mathlib.Core.Path.{_≡_, refl, sym, ap, _∙_}
-use mathlib.Core.List.{List, [], _∷_, _++_}
+use mathlib.Core.Path.{_≡_}
+use mathlib.Core.List.{List, [], _∷_}
 use Prim.Native.Nat.{ℕ, suc, _+_, _*_, _-_, _/_, _%_, _≤_, _<_}
 use native.Mathlib.Omega.{arith}
-use lib.ListN.{length, getD}
+use lib.ListN.{getD}
 use Rattle.files.specs.Bytes.{number-bytes}
 use Rattle.buffers.specs.Buffers.{Puts}
 use Rattle.buffers.proofs.Putting.{Putting, putting-more, putting-end}

@@ -7,7 +7,7 @@ use lib.ListN.{length, getD}
 use lib.Seq.{sets}
 use Rattle.files.specs.Bytes.{number-bytes}
 use Rattle.buffers.specs.Buffers.{after, book-trailer, sheet-trailer}
-use Rattle.samples.specs.Draws.{advance, advances, drawn, any-bytes}
+use Rattle.samples.specs.Draws.{advances, drawn, any-bytes}
 use Rattle.samples.specs.Rows.{row, rows, after-rows, middle}
 use Rattle.samples.specs.declared.Plan.{Plan}
 use Rattle.samples.specs.declared.Part.{Part}
