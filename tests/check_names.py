@@ -1,8 +1,8 @@
 #!/usr/bin/env python3
-"""Fails where a page in docs/ names a lemma that no longer stands in the file named beside it.
+"""Fails where a page in docs/ names a lemma, a function or a test case that does not stand in the file named behind it.
 
-A table row of a page counts if its last cell is a path `crates/..` in backquotes; every other
-backquoted word of the row is a name that the file must declare.
+In a table row of a page, the backquoted words before a path `crates/..` in backquotes are names that this file must declare. A row may
+have several such paths; what stands behind the last is free.
 """
 
 import os
@@ -10,16 +10,26 @@ import re
 import sys
 
 ROOT = os.path.dirname(os.path.dirname(os.path.abspath(__file__)))
-# A declaration: a signature `name :`, possibly marked, or a record or data type.
-DECLARES = r"^\s*(?:(?:unfoldable|abbrev|pub|data|record) )*%s(?: .*)? :"
+# What declares a name, by the kind of file: a signature `name :`, possibly marked, or a record or data type; a function, type or
+# constant of the code; the line of a case in what a test program writes.
+DECLARES = {
+    ".antt": r"^\s*(?:(?:unfoldable|abbrev|pub|data|record) )*%s(?: .*)? :",
+    ".rt": r'^\s*(?:pub )?(?:extern "C" )?(?:fn|struct|enum|const) %s\b',
+    "": r"^%s(?:: .*)?$",
+}
 
 
 def rows(page):
+    """The table rows of a page that name a file: the line's number, the names and the path."""
     with open(page, encoding="utf-8") as file:
         for number, line in enumerate(file, 1):
-            quoted = re.findall(r"`([^`]+)`", line)
-            if line.startswith("|") and quoted and quoted[-1].startswith("crates/"):
-                yield number, quoted[:-1], quoted[-1]
+            names = []
+            for quoted in re.findall(r"`([^`]+)`", line) if line.startswith("|") else []:
+                if quoted.startswith("crates/"):
+                    yield number, names, quoted
+                    names = []
+                else:
+                    names.append(quoted)
 
 
 def main():
@@ -39,7 +49,7 @@ def main():
                 text = file.read()
             for name in wanted:
                 names += 1
-                if not re.search(DECLARES % re.escape(name), text, re.M):
+                if not re.search(DECLARES[os.path.splitext(path)[1]] % re.escape(name), text, re.M):
                     print("%s: %s does not declare %s" % (where, path, name))
                     faults += 1
     if names == 0:
