@@ -10,7 +10,8 @@
  *   - What a function writes to does not overlap anything else that is passed in the same call. Files that are only
  *     read may overlap one another.
  *   - Nothing else writes to what was passed while the call runs.
- *   - The prototypes here are those of the library that is linked. Nothing compares the two.
+ *   - The prototypes here are those of the library that is linked. The gate compares this file with the library's code
+ *     (tests/check_header.py); nothing compares it with the library that is linked.
  *
  * The functions keep no pointer and no state between calls, and allocate nothing. */
 #ifndef DOFITRANO_H
