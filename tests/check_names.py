@@ -1,8 +1,10 @@
 #!/usr/bin/env python3
-"""Fails where a page in docs/ names a lemma, a function or a test case that does not stand in the file named behind it.
+"""Fails where a page in docs/ names a lemma, a function or a test case that does not stand in the file named behind it, or a page a
+file that is not there.
 
 In a table row of a page, the backquoted words before a path `crates/..` in backquotes are names that this file must declare. A row may
-have several such paths; what stands behind the last is free.
+have several such paths; what stands behind the last is free. Links and backquoted paths of README, CONTRIBUTING and docs/ must be
+there; docs/changes.md may name what was.
 """
 
 import os
@@ -32,8 +34,22 @@ def rows(page):
                     names.append(quoted)
 
 
+def missing(page):
+    """The paths that a page names and that are not there, but for those with a word for any name."""
+    with open(os.path.join(ROOT, page), encoding="utf-8") as file:
+        text = file.read()
+    paths = re.findall(r"`((?:crates|tests|docs|tools|examples|include|compare|bench)/[^`\s]*)`", text)
+    paths += [os.path.join(os.path.dirname(page), link) for link in re.findall(r"\]\(([^)#:\s]+)(?:#[^)]*)?\)", text)]
+    return [path for path in paths if not re.search(r"\b(?:NAME|LABEL|F)\b", path) and not os.path.exists(os.path.join(ROOT, path))]
+
+
 def main():
     names = faults = 0
+    pages = ["README.md", "CONTRIBUTING.md"] + ["docs/" + f for f in sorted(os.listdir(os.path.join(ROOT, "docs"))) if f.endswith(".md")]
+    for page in pages:
+        for path in missing(page) if page != "docs/changes.md" else []:
+            print("%s: there is no %s" % (page, path))
+            faults += 1
     docs = os.path.join(ROOT, "docs")
     for entry in sorted(os.listdir(docs)):
         if not entry.endswith(".md"):
