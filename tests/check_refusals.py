@@ -11,8 +11,6 @@ import re
 import sys
 
 ROOT = os.path.dirname(os.path.dirname(os.path.abspath(__file__)))
-# Numbers that README and the header may have before the index does.
-AHEAD = {41, 42, 43}
 
 
 def read(path):
@@ -31,13 +29,13 @@ def rows(path, heading):
 def part(path, name):
     """The text of a definition, up to an empty line, or of a function, up to its closing brace."""
     found = re.search(r"^(?:(?:unfoldable|abbrev|pub) )*%s :.*\n(?:.+\n)*" % re.escape(name) if path.endswith(".antt") else
-                      r"^pub fn %s\((?:.*\n)*?\}\n" % re.escape(name), read(path), re.M)
+                      r"^(?:pub )?fn %s\((?:.*\n)*?\}\n" % re.escape(name), read(path), re.M)
     return re.sub(r"(?://|--).*", "", found[0]) if found else ""
 
 
 def refused(path, case, number):
     """Whether what a test program writes has this case with this number, in its line or in the next."""
-    return re.search(r"^%s(?:: |\nrefused )%d$" % (re.escape(case), number), read(path), re.M)
+    return re.search(r"^%s(?:: |\nrefused |\nvalues )%d\b" % (re.escape(case), number), read(path), re.M)
 
 
 def main():
@@ -49,7 +47,7 @@ def main():
     if set(readme) != set(header):
         faults.append("README.md and include/dofitrano.h: only one of them has %s" % sorted(set(readme) ^ set(header)))
     faults += ["include/dofitrano.h: %d has no comment" % number for number in header if not header[number]]
-    differ = set(index) ^ (set(readme) - (AHEAD - set(index)))
+    differ = set(index) ^ set(readme)
     if differ:
         faults.append("docs/refusals.md and README.md: only one of them has %s" % sorted(differ))
     for number, cells in sorted(index.items()):
