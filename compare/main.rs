@@ -630,9 +630,9 @@ fn main() {
         let refused = refusals(call).into_iter().map(|n| format!("{n}: {}", times(call, &format!("refused {n}"))));
         println!("{call}: {}; refused by {}", answered.join(", "), refused.collect::<Vec<_>>().join(", "));
     }
-    // A comparison that never meets some outcome has lost its meaning. The gate's 2,000 cases of seed 1 meet each; those of another
+    // A comparison that never meets some outcome has lost its meaning. The gate's 3,000 cases of seed 1 meet each; those of another
     // seed need not, so there only a long one is held to it.
-    if count >= 10_000 || (count >= 2_000 && seed == 1) {
+    if count >= 10_000 || (count >= 3_000 && seed == 1) {
         for call in CALLS {
             let refused = refusals(call).into_iter().map(|n| format!("refused {n}"));
             for outcome in refused.chain(answers(call).iter().map(|name| name.to_string())) {
