@@ -1,18 +1,21 @@
 -- The Frank-Wolfe theorem: `frank-wolfe` proves every statement of specs/Theorem.antt. Assumes nothing.
 use mathlib.Core.Path.{_≡_, refl, sym, ap, ap₂, _∙_}
+use mathlib.Core.Bool.{Bool, true, false}
+use mathlib.Core.Logic.{_⊎_, inl, inr}
 use mathlib.Core.List.{[], _∷_}
-use Prim.Native.Nat.{ℕ, zero, suc, _+_, _*_, _≤_, _<_}
+use Prim.Native.Nat.{ℕ, zero, suc, _+_, _*_, _-_, _/_, _≤_, _<_}
 use native.Mathlib.Omega.{arith}
 use native.Mathlib.Numerals.{add-one}
-use native.Mathlib.Nat.{zero-add, le-trans, mul-le-mul-right}
+use native.Mathlib.Nat.{zero-add, le-trans, mul-le-mul-right, one-le-mul}
 use lib.IntN.{ℤ, pos, negsuc, _+ℤ_, _-ℤ_, _*ℤ_}
-use lib.Dec.{T, eqb, eqb→eq, lit≤, lit<}
-use lib.Signed.{_≤ℤ_, _<ℤ_}
+use lib.Dec.{T, eqb, eqb→eq, leb, lit≤, lit<}
+use borrow.Author.Tests.{leb-true, leb-false}
+use lib.Signed.{_≤ℤ_, _<ℤ_, ltZ, ltZ-yes, ltZ-no}
 use Rattle.integers.proofs.Solver.{Expr, con, _⊕_, _⊗_, ⊖_, _⊝_, x₀, x₁, x₂, x₃, x₄, x₅, x₆, x₇, x₈, x₉, x₁₀, solve}
 use Rattle.integers.proofs.Order.{≤→≤ℤ, <→<ℤ}
-use Rattle.integers.proofs.Facts.{_≼_, known, nat, square, equation, _⊞_, _⊡_, derive, derive-times}
-use Rattle.frank_wolfe.specs.Method.{Space, squared-distance, Zero, Plus, Residual, Mixture, none, more, Diameter, Argmin, Gap, total, at-start, at-iterate, Run, start, step}
-use Rattle.frank_wolfe.specs.Theorem.{Compared, Frank-Wolfe}
+use Rattle.integers.proofs.Facts.{_≼_, _≺_, known, nat, square, equation, _⊞_, _⊡_, derive, derive-times}
+use Rattle.frank_wolfe.specs.Method.{Space, squared-distance, Zero, Plus, Residual, Mixture, none, more, Diameter, Argmin, Gap, total, at-start, at-iterate, Run, start, step, Sequence}
+use Rattle.frank_wolfe.specs.Theorem.{Compared, Small-gap, Frank-Wolfe}
 use Rattle.frank_wolfe.proofs.Scalar as scalar
 use Rattle.frank_wolfe.proofs.Mixtures.{nonneg, second-moment, sums, least-below, spread, between, diameter-nonneg, gap-over-mixture}
 
@@ -171,6 +174,161 @@ module _ (S : Space) (Vertex : S .Vec → Type 0) (u : S .Vec) where
       (<→<ℤ (total-positive suc t (omega arith))) (diameter-nonneg S Vertex D (l .vertex)) (nonneg (suc t)) (own-total (suc t))
       (rw (← add-one (suc t)) at (one-step D (total-positive suc t (omega arith)) (run-mixture run) R₀ l p R Z)) (own D run R₀ Z))
 
+  -- ---- How small the gap gets
+
+  pub descent : {w k : ℕ} {d : ℤ} {y r s y′ r′ : S .Vec} →
+      Diameter S Vertex d → 1 ≤ w → Mixture S Vertex w y → Residual S y (pos w) u r → Vertex s → Plus S y (pos k) s y′ → Residual S y′ (pos (w + k)) u r′ →
+      (pos (w * w) *ℤ S .inner r′ r′ +ℤ pos (2 * k * (w + k)) *ℤ (S .inner r y -ℤ pos w *ℤ S .inner r s))
+      ≤ℤ (pos ((w + k) * (w + k)) *ℤ S .inner r r +ℤ pos (k * k * (w * w)) *ℤ d)
+  descent {w} {k} {d} {y} {r} {s} {y′} {r′} D hw M R hs p R′ =
+      rw (stepped R p R′)
+      (derive (pos w ∷ pos k ∷ d ∷ S .inner r r ∷ S .inner r y ∷ S .inner r s ∷ S .inner r u ∷ squared-distance S s u ∷ [])
+      (x₀ ⊗ x₀ ⊗ (x₃ ⊕ two ⊗ x₁ ⊗ (x₅ ⊝ x₆) ⊕ x₁ ⊗ x₁ ⊗ x₇) ⊕ two ⊗ x₁ ⊗ (x₀ ⊕ x₁) ⊗ (x₄ ⊝ x₀ ⊗ x₅) ≼ (x₀ ⊕ x₁) ⊗ (x₀ ⊕ x₁) ⊗ x₃ ⊕ x₁ ⊗ x₁ ⊗ (x₀ ⊗ x₀) ⊗ x₂)
+      (known (x₀ ⊗ x₀ ⊗ (x₃ ⊕ two ⊗ x₁ ⊗ (x₅ ⊝ x₆) ⊕ x₁ ⊗ x₁ ⊗ x₇) ⊕ two ⊗ x₁ ⊗ (x₀ ⊕ x₁) ⊗ (x₃ ⊝ x₀ ⊗ (x₅ ⊝ x₆)) ≼ (x₀ ⊕ x₁) ⊗ (x₀ ⊕ x₁) ⊗ x₃ ⊕ x₁ ⊗ x₁ ⊗ (x₀ ⊗ x₀) ⊗ x₂)
+      (scalar.descent (pos w) (pos k) d (S .inner r r) (S .inner r s -ℤ S .inner r u) (squared-distance S s u)
+      (pos w *ℤ pos w *ℤ S .inner s s -ℤ pos 2 *ℤ pos w *ℤ S .inner s y +ℤ S .inner y y)
+      (spread S Vertex s hw M (λ v hv. D .apart s v hs hv)) (parts s R))
+      ⊞ equation (two ⊗ x₁ ⊗ (x₀ ⊕ x₁)) x₃ (x₄ ⊝ x₀ ⊗ x₆) (R .along r)) tt)
+
+  module _ {d : ℤ} {y r s : ℕ → S .Vec} (D : Diameter S Vertex d) (q : Sequence S Vertex u suc y r s) where
+    abbrev e : ℕ → ℤ
+    e t = S .inner (r t) (r t)
+
+    abbrev w : ℕ → ℤ
+    w t = pos (total suc t)
+
+    abbrev gap-at : ℕ → ℤ
+    gap-at t = S .inner (r t) (y t) -ℤ pos (total suc t) *ℤ S .inner (r t) (s t)
+
+    d-nonneg : pos 0 ≤ℤ d
+    d-nonneg = diameter-nonneg S Vertex D (q .argmin 0 .vertex)
+
+    positive : (t : ℕ) → 1 ≤ total suc (suc t)
+    positive t = total-positive suc t (omega arith)
+
+    -- one step, after t + 1
+    down : (t : ℕ) → (w (suc t) *ℤ w (suc t) *ℤ e (suc (suc t)) +ℤ pos 2 *ℤ pos (suc (suc t)) *ℤ w (suc (suc t)) *ℤ gap-at (suc t))
+        ≤ℤ (w (suc (suc t)) *ℤ w (suc (suc t)) *ℤ e (suc t) +ℤ pos (suc (suc t)) *ℤ pos (suc (suc t)) *ℤ (w (suc t) *ℤ w (suc t)) *ℤ d)
+    unfolding total
+    down t = descent D (positive t) (run-mixture (q .run (suc t))) (q .residual (suc t)) (q .argmin t .vertex) (q .move t) (q .residual (suc (suc t)))
+
+    -- the gap after t steps is above 27 D² / (4 m)
+    abbrev Large : (m t : ℕ) → Type 0
+    Large m t = (pos 27 *ℤ d *ℤ (w t *ℤ w t)) <ℤ (pos 4 *ℤ pos m *ℤ gap-at t)
+
+    -- m: K + 2, l: the first step that counts, and 2 more
+    module _ (m l : ℕ) (hl : 1 ≤ l) where
+      abbrev c : ℤ
+      c = d *ℤ (pos 27 *ℤ pos l *ℤ pos l -ℤ pos 4 *ℤ pos m *ℤ pos m)
+
+      abbrev b : ℤ
+      b = pos m *ℤ pos m *ℤ pos l *ℤ pos l
+
+      falls : (t : ℕ) → l ≤ t + 3 → t + 3 ≤ m → Large m (suc t) →
+          (c *ℤ (w (suc t) *ℤ w (suc t)) *ℤ (w (suc (suc t)) *ℤ w (suc (suc t))) +ℤ b *ℤ e (suc (suc t)) *ℤ (w (suc t) *ℤ w (suc t)))
+          <ℤ (b *ℤ e (suc t) *ℤ (w (suc (suc t)) *ℤ w (suc (suc t))))
+      falls t h k g =
+          scalar.fall (w (suc t)) (pos (suc (suc t))) (w (suc (suc t))) d (e (suc t)) (e (suc (suc t))) (gap-at (suc t)) (pos (t + 3)) (pos m) (pos l)
+          d-nonneg (nonneg (t + 3)) (nonneg m) (nonneg l) (≤→≤ℤ h) (≤→≤ℤ k)
+          (≤→≤ℤ (one-le-mul (one-le-mul (one-le-mul (one-le-mul (one-le-mul hm hl) hl) hn) (positive (suc t))) (positive (suc t))))
+          product g (down t)
+        where
+          hm : 1 ≤ m
+          hm = omega arith
+
+          hn : 1 ≤ t + 3
+          hn = omega arith
+
+          product : pos (t + 3) *ℤ pos (suc (suc t)) ≡ pos 2 *ℤ w (suc (suc t))
+          product =
+              let f : suc (suc t) + 1 ≡ t + 3 = omega arith in
+              sym (own-total (suc (suc t)) ∙ solve (pos (suc (suc t)) ∷ pos (suc (suc t) + 1) ∷ []) (x₀ ⊗ x₁) (x₁ ⊗ x₀) tt ∙ ap (λ n. pos n *ℤ pos (suc (suc t))) f)
+
+      -- j + 1 steps, the first after a + 1
+      fallen : (a j : ℕ) → l ≤ a + 3 → a + j + 3 ≤ m → ((i : ℕ) → i ≤ j → Large m (suc (a + i))) →
+          (c *ℤ pos (suc j) *ℤ (w (suc a) *ℤ w (suc a)) *ℤ (w (suc (suc (a + j))) *ℤ w (suc (suc (a + j)))) +ℤ b *ℤ e (suc (suc (a + j))) *ℤ (w (suc a) *ℤ w (suc a)))
+          <ℤ (b *ℤ e (suc a) *ℤ (w (suc (suc (a + j))) *ℤ w (suc (suc (a + j)))))
+      fallen a zero h k g =
+          let z : a + 0 ≡ a = omega arith in
+          rw z
+          (derive (c ∷ w (suc a) ∷ w (suc (suc a)) ∷ b ∷ e (suc a) ∷ e (suc (suc a)) ∷ [])
+          (x₀ ⊗ con (pos 1) ⊗ (x₁ ⊗ x₁) ⊗ (x₂ ⊗ x₂) ⊕ x₃ ⊗ x₅ ⊗ (x₁ ⊗ x₁) ≺ x₃ ⊗ x₄ ⊗ (x₂ ⊗ x₂))
+          (known (x₀ ⊗ (x₁ ⊗ x₁) ⊗ (x₂ ⊗ x₂) ⊕ x₃ ⊗ x₅ ⊗ (x₁ ⊗ x₁) ≺ x₃ ⊗ x₄ ⊗ (x₂ ⊗ x₂)) (falls a h (omega arith) (rw z at (g 0 (omega arith))))) tt)
+      fallen a (suc j) h k g =
+          let z : a + suc j ≡ suc (a + j) = omega arith in
+          rw (z, ← add-one (suc j))
+          (scalar.fall-more (w (suc a)) (w (suc (suc (a + j)))) (w (suc (suc (suc (a + j))))) (e (suc a)) (e (suc (suc (a + j)))) (e (suc (suc (suc (a + j))))) b c (pos (suc j))
+          (<→<ℤ (positive (suc (suc (a + j)))))
+          (fallen a j h (omega arith) (λ i hi. g i (omega arith)))
+          (falls (suc (a + j)) (omega arith) (omega arith) (rw z at (g (suc j) (omega arith)))))
+
+    module _ (k : ℕ) where
+      judged : (t : ℕ) → 1 ≤ t → t ≤ k → Large (k + 2) t ⊎ Small-gap S d y r s k
+      judged t h1 h2 = by (ltZ (pos 27 *ℤ d *ℤ (w t *ℤ w t)) (pos 4 *ℤ pos (k + 2) *ℤ gap-at t)) refl
+        where
+          by : (x : Bool) → ltZ (pos 27 *ℤ d *ℤ (w t *ℤ w t)) (pos 4 *ℤ pos (k + 2) *ℤ gap-at t) ≡ x → Large (k + 2) t ⊎ Small-gap S d y r s k
+          by true f = inl (ltZ-yes (rw f tt))
+          by false f = inr (record { at = t; some-step = h1; most-steps = h2; bound = ltZ-no (rw f tt) })
+
+      -- one of the steps a + 1 to a + j + 1 has a small gap, or none has
+      scan : (a j : ℕ) → a + j + 1 ≤ k → ((i : ℕ) → i ≤ j → Large (k + 2) (suc (a + i))) ⊎ Small-gap S d y r s k
+      scan a zero h = by (judged (suc (a + 0)) (omega arith) (omega arith))
+        where
+          by : Large (k + 2) (suc (a + 0)) ⊎ Small-gap S d y r s k → ((i : ℕ) → i ≤ 0 → Large (k + 2) (suc (a + i))) ⊎ Small-gap S d y r s k
+          by (inl g) = inl (λ i hi. let z : i ≡ 0 = omega arith in rw z g)
+          by (inr f) = inr f
+      scan a (suc j) h = by (scan a j (omega arith)) (judged (suc (a + suc j)) (omega arith) (omega arith))
+        where
+          by : ((i : ℕ) → i ≤ j → Large (k + 2) (suc (a + i))) ⊎ Small-gap S d y r s k → Large (k + 2) (suc (a + suc j)) ⊎ Small-gap S d y r s k →
+              ((i : ℕ) → i ≤ suc j → Large (k + 2) (suc (a + i))) ⊎ Small-gap S d y r s k
+          by (inr f) g = inr f
+          by (inl f) (inr g) = inr g
+          by (inl f) (inl g) = inl (λ i hi. at i hi (leb i j) refl)
+            where
+              at : (i : ℕ) → i ≤ suc j → (x : Bool) → leb i j ≡ x → Large (k + 2) (suc (a + i))
+              at i hi true p = f i (leb-true i j p)
+              at i hi false p = let z : i ≡ suc j = omega (arith, leb-false i j p) in rw z g
+
+      -- the first step that counts is l - 2, the last k
+      pub small-gap : 2 ≤ k → Small-gap S d y r s k
+      small-gap h = by (scan a j (omega arith))
+        where
+          l : ℕ
+          l = (2 * (k + 2) + 2) / 3
+
+          a : ℕ
+          a = l - 3
+
+          j : ℕ
+          j = k + 2 - l
+
+          by : ((i : ℕ) → i ≤ j → Large (k + 2) (suc (a + i))) ⊎ Small-gap S d y r s k → Small-gap S d y r s k
+          by (inr f) = f
+          by (inl g) = absurd (never .le)
+            where
+              three : 3 ≤ l
+              three = omega arith
+
+              near : suc a + 2 ≡ l
+              near = omega arith
+
+              count : l + suc j ≡ k + 2 + 1
+              count = omega arith
+
+              enough : (pos 4 *ℤ pos (k + 2) *ℤ pos (k + 2) *ℤ (pos l +ℤ pos (suc j))) ≤ℤ (pos 27 *ℤ pos (suc j) *ℤ pos l *ℤ pos l)
+              enough =
+                  derive (pos (k + 2) ∷ pos l ∷ pos (suc j) ∷ []) (con (pos 4) ⊗ x₀ ⊗ x₀ ⊗ (x₁ ⊕ x₂) ≼ con (pos 27) ⊗ x₂ ⊗ x₁ ⊗ x₁)
+                  (known (con (pos 4) ⊗ x₀ ⊗ x₀ ⊗ (x₀ ⊕ con (pos 1)) ≼ con (pos 27) ⊗ (x₀ ⊕ con (pos 1) ⊝ x₁) ⊗ x₁ ⊗ x₁)
+                  (scalar.steps-enough (pos (k + 2)) (pos l) (nonneg (k + 2)) (≤→≤ℤ (omega arith)) (≤→≤ℤ (omega arith)))
+                  ⊞ equation (con (pos 27) ⊗ x₁ ⊗ x₁ ⊝ con (pos 4) ⊗ x₀ ⊗ x₀) (x₁ ⊕ x₂) (x₀ ⊕ con (pos 1)) (ap pos count)) tt
+
+              never : pos 1 ≤ℤ pos 0
+              never =
+                  scalar.fall-too-far (w (suc a)) (w (suc (suc (a + j)))) d (e (suc a)) (e (suc (suc (a + j)))) (pos (k + 2)) (pos l) (pos (suc j)) d-nonneg (nonneg l) enough
+                  (rw near at
+                  (own D (q .run (suc a)) (q .residual (suc a)) (record { mixture = run-mixture (q .run (suc (suc (a + j)))); residual = q .residual (suc (suc (a + j))) })))
+                  (fallen (k + 2) l (omega arith) a j (omega arith) (omega arith) g)
+
   -- D² t is not below 0: there is a vertex, or t is 0
   spare : {t : ℕ} {d : ℤ} {y : S .Vec} {a : ℕ → ℕ} → Diameter S Vertex d → Run S Vertex u a t y → pos 0 ≤ℤ (d *ℤ pos t)
   spare {d = d} D (start h) = derive (d ∷ []) (O ≼ x₀ ⊗ O) (nat 0) tt
@@ -253,4 +411,6 @@ module _ (S : Space) (Vertex : S .Vec → Type 0) (u : S .Vec) where
             (λ v hv. derive (pos w ∷ γ ∷ S .inner r y ∷ S .inner r v ∷ S .inner v v ∷ []) (O ≼ x₁ ⊝ x₂ ⊕ x₀ ⊗ x₃ ⊕ O ⊗ x₄) (known (x₂ ⊝ x₀ ⊗ x₃ ≼ x₁) (G .over v hv)) tt))) tt;
         residual-bound = λ hw M near R. residual-bound hw M near R;
         score-bound = λ v hw M near near-v R. score-bound v hw M near near-v R;
+        descent = λ D hw M R hs p R′. descent D hw M R hs p R′;
+        small-gap = λ k h D q. small-gap D q k h;
       }

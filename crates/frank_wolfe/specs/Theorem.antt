@@ -3,12 +3,20 @@
 use Prim.Native.Nat.{ℕ, suc, _+_, _*_, _≤_, _<_}
 use lib.IntN.{ℤ, pos, _+ℤ_, _-ℤ_, _*ℤ_}
 use lib.Signed.{_≤ℤ_, _<ℤ_}
-use Rattle.frank_wolfe.specs.Method.{Space, squared-distance, Plus, Residual, Zero, Mixture, Diameter, Argmin, Gap, total, Run}
+use Rattle.frank_wolfe.specs.Method.{Space, squared-distance, Plus, Residual, Zero, Mixture, Diameter, Argmin, Gap, total, Run, Sequence}
 
 -- a mixture of n shares that a run is compared with: z is its sum, ρ = z - n u
 pub record Compared (S : Space) (Vertex : S .Vec → Type 0) (u : S .Vec) (n : ℕ) (z ρ : S .Vec) : Type 0 where
   pub mixture : Mixture S Vertex n z
   pub residual : Residual S z (pos n) u ρ
+
+-- among the steps 1 to k of a run with shares 1, 2, 3, .. one whose G = <r, y - W s> has 4 (k + 2) G ≤ 27 D² W²
+pub record Small-gap (S : Space) (d : ℤ) (y r s : ℕ → S .Vec) (k : ℕ) : Type 0 where
+  pub at : ℕ
+  pub some-step : 1 ≤ at
+  pub most-steps : at ≤ k
+  pub bound :
+      (pos 4 *ℤ pos (k + 2) *ℤ (S .inner (r at) (y at) -ℤ pos (total suc at) *ℤ S .inner (r at) (s at))) ≤ℤ (pos 27 *ℤ d *ℤ pos (total suc at * total suc at))
 
 pub record Frank-Wolfe (S : Space) (Vertex : S .Vec → Type 0) (u : S .Vec) : Type 0 where
   -- ONE STEP with share k, from a mixture of w shares, w above 0: N² w E′ ≤ N² (w + k) E + w (w + k) k Q + k² w D² N²
@@ -61,3 +69,10 @@ pub record Frank-Wolfe (S : Space) (Vertex : S .Vec → Type 0) (u : S .Vec) : T
   pub score-bound : {w : ℕ} {d : ℤ} {y r : S .Vec} (v : S .Vec) →
       1 ≤ w → Mixture S Vertex w y → ((x : S .Vec) → Vertex x → squared-distance S u x ≤ℤ d) → ((x : S .Vec) → Vertex x → squared-distance S v x ≤ℤ d) →
       Residual S y (pos w) u r → (S .inner r y -ℤ pos w *ℤ S .inner r v) ≤ℤ (pos (w * w) *ℤ d)
+  -- THE DESCENT of a step with share k towards a vertex s, from a mixture of w shares: w² E′ + 2 k (w + k) <r, y - w s> ≤ (w + k)² E + k² w² D²
+  pub descent : {w k : ℕ} {d : ℤ} {y r s y′ r′ : S .Vec} →
+      Diameter S Vertex d → 1 ≤ w → Mixture S Vertex w y → Residual S y (pos w) u r → Vertex s → Plus S y (pos k) s y′ → Residual S y′ (pos (w + k)) u r′ →
+      (pos (w * w) *ℤ S .inner r′ r′ +ℤ pos (2 * k * (w + k)) *ℤ (S .inner r y -ℤ pos w *ℤ S .inner r s))
+      ≤ℤ (pos ((w + k) * (w + k)) *ℤ S .inner r r +ℤ pos (k * k * (w * w)) *ℤ d)
+  -- HOW SMALL THE GAP GETS within k steps, k at least 2, of the shares 1, 2, 3, ..
+  pub small-gap : {d : ℤ} {y r s : ℕ → S .Vec} (k : ℕ) → 2 ≤ k → Diameter S Vertex d → Sequence S Vertex u suc y r s → Small-gap S d y r s k
