@@ -64,10 +64,10 @@ module _ {p : Problem} (h : Well-formed p) where
   abbrev V′ : List ℤ → Type 0
   V′ = Among (p .vertices)
 
-  long : (t : ℕ) → length (iterate p t .point) ≡ p .columns
+  pub long : (t : ℕ) → length (iterate p t .point) ≡ p .columns
   long t = mixed-length (h .wide) (iterate-mixed p (h .some-row) (h .wide) t)
 
-  residual-total : (t : ℕ) → Residual (factored (p .factors)) (iterate p t .point) (pos (total (share (p .schedule)) t)) (p .target) (residual p t (iterate p t))
+  pub residual-total : (t : ℕ) → Residual (factored (p .factors)) (iterate p t .point) (pos (total (share (p .schedule)) t)) (p .target) (residual p t (iterate p t))
   residual-total t = rw (weight-total (p .schedule) t) at (residual-of h t (iterate p t) (long t))
 
   scored : (t : ℕ) → Scored (factored (p .factors)) V′ (p .target) (share (p .schedule)) t (iterate p t .point) (direction p t (iterate p t))
@@ -103,7 +103,7 @@ module _ {p : Problem} (h : Well-formed p) where
   residual-by : {a : ℕ → ℕ} → share (p .schedule) ≡ a → (t : ℕ) → Residual S (iterate p t .point) (pos (total a t)) u (residual p t (iterate p t))
   residual-by e t = subst (λ a. Residual S (iterate p t .point) (pos (total a t)) u (residual p t (iterate p t))) e (residual-total h t)
 
-  weight-by : {a : ℕ → ℕ} → share (p .schedule) ≡ a → (t : ℕ) → weight (p .schedule) t ≡ total a t
+  pub weight-by : {a : ℕ → ℕ} → share (p .schedule) ≡ a → (t : ℕ) → weight (p .schedule) t ≡ total a t
   weight-by e t = weight-total (p .schedule) t ∙ ap (λ a. total a t) e
 
   module _ (t : ℕ) (qs : List ℕ) (e : length qs ≡ length (p .vertices)) where

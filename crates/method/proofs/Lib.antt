@@ -12,4 +12,5 @@ pub mod Bounds
 pub mod Fractions
 pub mod Numerators
 pub mod Published
+pub mod SmallGap
 pub mod Promise

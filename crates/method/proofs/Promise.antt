@@ -19,10 +19,15 @@ use Rattle.method.specs.Promise.{Run-right, Outcome-right}
 use Rattle.method.proofs.Accepted.{well-formed, in-range, sized, share-count}
 use Rattle.method.proofs.Bounds.{run-bounds}
 use Rattle.method.proofs.Published.{published-run}
+use Rattle.method.proofs.SmallGap.{small-gap}
 
 pub run-right : (b s : List ℕ) → files-refusal b s ≡ 0 → Run-right (problem b s) (run-answer (problem b s)) (run-iterate (problem b s) .shares)
 run-right b s ok =
-    record { bounds = run-bounds (well-formed b s ok) (in-range b s ok) (sized b s ok); published = published-run (well-formed b s ok) (sized b s ok .some-steps) }
+    record {
+      bounds = run-bounds (well-formed b s ok) (in-range b s ok) (sized b s ok);
+      published = published-run (well-formed b s ok) (sized b s ok .some-steps);
+      small-gap = small-gap (well-formed b s ok);
+    }
 
 run-share-count : (b s : List ℕ) → files-refusal b s ≡ 0 → length (run-iterate (problem b s) .shares) ≡ boats b
 unfolding run-iterate

@@ -7,4 +7,5 @@ pub mod Bounds
 pub mod Fractions
 pub mod Published
 pub mod PublishedRun
+pub mod SmallGap
 pub mod Promise

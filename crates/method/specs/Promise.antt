@@ -7,10 +7,11 @@ use Rattle.files.specs.Book.{boats}
 use Rattle.method.specs.declared.Answer.{Answer}
 use Rattle.method.specs.declared.Searched.{Searched}
 use Rattle.method.specs.declared.Searched.the-variants.{Refused, Answered}
-use Rattle.method.specs.Problem.{Problem, problem}
+use Rattle.method.specs.Problem.{fixed, Problem, problem}
 use Rattle.method.specs.Answers.{refusal-number, search-refusal}
 use Rattle.method.specs.Bounds.{Run-bounds}
 use Rattle.method.specs.PublishedRun.{Published-run}
+use Rattle.method.specs.SmallGap.{Small-gap}
 
 -- of the answer and the shares of a problem
 pub record Run-right (p : Problem) (a : Answer) (shares : List ℕ) : Type 0 where
@@ -18,6 +19,8 @@ pub record Run-right (p : Problem) (a : Answer) (shares : List ℕ) : Type 0 whe
   pub bounds : Run-bounds p a shares
   -- after each step they are those of the published method
   pub published : Published-run p a shares
+  -- how small the gap gets within any number k of steps, with the shares 1, 2, 3, ..
+  pub small-gap : p .schedule ≡ fixed → (k : ℕ) → 2 ≤ k → Small-gap p k
 
 -- of an outcome and the share list that it leaves
 pub record Outcome-right (b s : List ℕ) (r : Searched) (slots : List ℕ) : Type 0 where
