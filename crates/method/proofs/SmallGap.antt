@@ -1,22 +1,21 @@
 -- The promise of specs/SmallGap.antt holds of every well-formed problem with the shares 1, 2, 3, ..
 use mathlib.Core.Path.{_≡_, ap, sym, _∙_, subst}
 use mathlib.Core.List.{List, [], _∷_}
-use Prim.Native.Nat.{ℕ, zero, suc, _+_, _*_, _≤_}
+use Prim.Native.Nat.{ℕ, suc, _+_, _*_, _≤_}
 use native.Mathlib.Nat.{le-trans, mul-le-mul-right, one-le-mul}
 use native.Mathlib.Omega.{arith}
 use lib.Dec.{lit≤}
-use lib.IntN.{ℤ, pos, _*ℤ_}
-use Rattle.integers.proofs.Solver.{con, _⊕_, _⊗_, x₀, x₁, x₂, solve}
+use lib.IntN.{ℤ, pos}
+use Rattle.integers.proofs.Solver.{_⊗_, x₀, x₁, x₂, solve}
 use Rattle.integers.proofs.Order.{≤ℤ→≤}
 use Rattle.frank_wolfe.specs.Method.{Space, Sequence}
 use Rattle.frank_wolfe.specs.Vectors.{Among}
 use Rattle.frank_wolfe.proofs.Vectors.{factored, plus-is}
 use Rattle.frank_wolfe.proofs.Theorem.{frank-wolfe}
 use Rattle.method.specs.Problem.{Problem, fixed, share, weight}
-use Rattle.method.specs.Iterates.{residual, row, direction, pick, with-shares, step, iterate, gap, row-diameter, diameter}
+use Rattle.method.specs.Iterates.{residual, row, direction, pick, with-shares, step, iterate, gap, diameter}
 use Rattle.method.specs.Answers.{answer-at}
 use Rattle.method.specs.Fractions.{Fraction, Is-ratio, ratio, _≤ℚ_}
-use Rattle.method.specs.Published.{published-gap}
 use Rattle.method.specs.SmallGap.{Small-gap}
 use Rattle.method.proofs.Weights.{weight-positive}
 use Rattle.method.proofs.Argmin.{pick-row, pick-score}
