@@ -267,6 +267,29 @@ def frank_wolfe(rows, target, steps, tolerance):
             return k, weights, point, squared_distance, duality_gap, verdict
 
 
+def squared_diameter(rows):
+    """D^2, the greatest squared distance between two rows."""
+    return max(sum((x - y) ** 2 for x, y in zip(one, other)) for one in rows for other in rows)
+
+
+def gaps_of(rows, target, steps):
+    """The duality gaps after 1, 2, ..., `steps` steps, with no regard to verdicts."""
+    point = [Fraction(value) for value in rows[0]]
+    gaps = []
+    for k in range(steps):
+        _, _, vertex = measure(point, rows, target)
+        gamma = Fraction(2, k + 2)
+        point = [(1 - gamma) * x + gamma * s for x, s in zip(point, rows[vertex])]
+        gaps.append(measure(point, rows, target)[1])
+    return gaps
+
+
+def gap_ratios(rows, target, steps):
+    """4 (K + 2) times each of these gaps, over D^2; K is `steps`, and the rows are not all equal."""
+    diameter = squared_diameter(rows)
+    return [4 * (steps + 2) * gap / diameter for gap in gaps_of(rows, target, steps)]
+
+
 def whole(value):
     """The whole number a fraction is equal to; an error if there is none."""
     if value.denominator != 1:

@@ -630,10 +630,24 @@ def subtractions():
         agree("%r - %r" % (x, y), net, Fraction(x - y) if math.isfinite(x - y) else None)
 
 
+def gap_bounds():
+    """The gaps of a run that no verdict stops, against D^2; worked by hand."""
+    rows, target = [[-3, -1], [0, -1], [-1, -3]], [-1, -2]
+    agree("squared diameter", exact.squared_diameter(rows), 9)
+    # Step 1 goes to (0, -1), step 2 to (-2, -1); the least of <x - u, v> is at the first row, then at the last.
+    agree("two gaps", exact.gaps_of(rows, target, 2), [3, 3])
+    agree("two ratios", min(exact.gap_ratios(rows, target, 2)), Fraction(16, 3))
+    rows, target = [[0], [1000]], [1]
+    ratios = exact.gap_ratios(rows, target, 5)
+    agree("the first step is far", (ratios[0], ratios[0] > 27), (Fraction(27972, 1000), True))
+    agree("a later step is near", min(ratios) <= 27, True)
+    agree("equal rows", (exact.squared_diameter([[5], [5]]), exact.gaps_of([[5], [5]], [7], 3)), (0, [0, 0, 0]))
+
+
 def main():
     for part in (marked_sheets, readers, book_and_sheet_refusals, lent_lists, card_refusals,
                  two_faults, ties_and_start, random_books, full_size, damaged_files,
-                 from_a_shell, whole_numbers, scale_cells, subtractions):
+                 from_a_shell, whole_numbers, scale_cells, subtractions, gap_bounds):
         part()
     if differences:
         print("exact.py: %d of %d checks differ" % (differences, checks))
