@@ -19,6 +19,11 @@ W = t (t + 1) / 2, the whole numbers of an answer are
     E               = squared distance * W^2   (squared distance |x_t - u|^2)
     G               = duality gap * W^2        (greatest <x_t - u, x_t - v>)
 
+With d the squared distance and g the duality gap, the verdict after a step is
+Within where d is at most the tolerance, else Beyond where d > g and
+(d - g)^2 > tolerance * d, else Spent at the last step.  Cards of the edition
+WCD1 were judged by the former test of Beyond, d - 2 g > tolerance.
+
 The three files.  All numbers are little-endian; a value is a signed 16-bit
 number, every other field is unsigned.  Each file is front text (never read),
 then the body, then the trailer.  "back" is the size of the body in bytes.
@@ -31,7 +36,8 @@ then the body, then the trailer.  "back" is the size of the body in bytes.
     card        body: boat 2, share 2 for each boat with a share above zero,
                 boats ascending
                 trailer, 36 bytes: back 4, verdict 2, steps used 2,
-                tolerance 4, E 8, G 8, boats 2, columns 2, "WCD1"
+                tolerance 4, E 8, G 8, boats 2, columns 2, "WCD2";
+                the edition before ends in "WCD1"
 
 Scale cells, which give the values of a sheet: a cell is (kind, first, second,
 unit), the kind 1 for a net and 2 for a gross and a tare, any other for a cell
@@ -59,13 +65,13 @@ cells has 41 to 43, cell by cell, right after 6 and before 14 and 15.
     21  share list shorter than the number of boats
     22  card buffer shorter than the card
     31  card shorter than 36 or longer than 40,000 bytes
-    32  letters not WCD1
+    32  letters not WCD1 or WCD2
     33  boats or columns not those of the book
     34  verdict outside 1 to 3, or steps used 0 or above the sheet's
     35  back 0, no multiple of 4, above 4 * boats, or before the first byte
     36  boats not strictly ascending, a boat not in the book, or a share of 0
     37  more boats than steps used, or shares not totalling t (t + 1) / 2
-    38  E, G or the verdict not true of the shares
+    38  E, G or the verdict not true of the shares, by the test of the letters
     39  tolerance not that of the sheet
     41  cell not weighed
     42  a reading not finite, or a net beyond 1,048,576 kilograms either way
@@ -231,18 +237,33 @@ def measure(point, rows, target):
     return squared_distance, duality_gap, vertex
 
 
-def judge(squared_distance, duality_gap, tolerance, step, steps):
+def former_test(squared_distance, duality_gap, tolerance):
+    """The former test of Beyond."""
+    return squared_distance - 2 * duality_gap > tolerance
+
+
+def sharper_test(squared_distance, duality_gap, tolerance):
+    """The sharper test of Beyond."""
+    return (squared_distance > duality_gap
+            and (squared_distance - duality_gap) ** 2 > tolerance * squared_distance)
+
+
+# What says Beyond, by the letters of a card.
+TESTS = {b"WCD1": former_test, b"WCD2": sharper_test}
+
+
+def judge(squared_distance, duality_gap, tolerance, step, steps, test=sharper_test):
     """The verdict after a step, 0 if the search goes on."""
     if squared_distance <= tolerance:
         return WITHIN
-    if squared_distance - 2 * duality_gap > tolerance:
+    if test(squared_distance, duality_gap, tolerance):
         return BEYOND
     if step == steps:
         return SPENT
     return 0
 
 
-def frank_wolfe(rows, target, steps, tolerance):
+def frank_wolfe(rows, target, steps, tolerance, test=sharper_test):
     """The published iteration, judged after each step.
 
     Gives back steps taken, weights, point, squared distance, duality gap
@@ -262,7 +283,7 @@ def frank_wolfe(rows, target, steps, tolerance):
         weights[vertex] += gamma
         k += 1
         squared_distance, duality_gap, vertex = measure(point, rows, target)
-        verdict = judge(squared_distance, duality_gap, tolerance, k, steps)
+        verdict = judge(squared_distance, duality_gap, tolerance, k, steps, test)
         if verdict:
             return k, weights, point, squared_distance, duality_gap, verdict
 
@@ -315,10 +336,10 @@ def answer_of(t, squared_distance, duality_gap, verdict, tolerance):
     return Answer(t, w, distance, gap, verdict, carried)
 
 
-def run(rows, target, steps, tolerance):
+def run(rows, target, steps, tolerance, test=sharper_test):
     """Answer and shares of one search."""
     t, weights, _, squared_distance, duality_gap, verdict = frank_wolfe(
-        rows, target, steps, tolerance)
+        rows, target, steps, tolerance, test)
     answer = answer_of(t, squared_distance, duality_gap, verdict, tolerance)
     return answer, [whole(weight * answer.weight) for weight in weights]
 
@@ -376,7 +397,7 @@ def judge_card(rows, target, steps, tolerance, card):
         return 31, None, None
     fields, before = split(card, CARD_TRAILER)
     back, verdict, t, own_tolerance, distance, gap, boats, columns, letters = fields
-    if letters != b"WCD1":
+    if letters not in TESTS:
         return 32, None, None
     if boats != len(rows) or columns != len(target):
         return 33, None, None
@@ -400,7 +421,7 @@ def judge_card(rows, target, steps, tolerance, card):
         point = [x + weight * value for x, value in zip(point, rows[boat])]
     squared_distance, duality_gap, _ = measure(point, rows, target)
     # 0 where no verdict is due yet; it then differs from every card's verdict.
-    true_verdict = judge(squared_distance, duality_gap, tolerance, t, steps)
+    true_verdict = judge(squared_distance, duality_gap, tolerance, t, steps, TESTS[letters])
     if (squared_distance * w * w != distance or duality_gap * w * w != gap
             or true_verdict != verdict):
         return 38, None, None
@@ -413,11 +434,11 @@ def judge_card(rows, target, steps, tolerance, card):
 
 
 def card_bytes(answer: Answer, shares: list[int], tolerance: int,
-               boats: int, columns: int) -> bytes:
+               boats: int, columns: int, letters: bytes = b"WCD2") -> bytes:
     """The card of an answer, without front text."""
     entries = [(boat, share) for boat, share in enumerate(shares[:boats]) if share]
     return make_card(entries, answer.verdict, answer.steps, tolerance,
-                     answer.distance, answer.gap, boats, columns)
+                     answer.distance, answer.gap, boats, columns, letters=letters)
 
 
 # ---------------------------------------------------------- the scale cells
@@ -571,7 +592,7 @@ def make_sheet(target, steps: int, tolerance: int, front: bytes = b"", back=None
 
 def make_card(entries, verdict: int, steps: int, tolerance: int, distance: int,
               gap: int, boats: int, columns: int, front: bytes = b"", back=None,
-              letters: bytes = b"WCD1") -> bytes:
+              letters: bytes = b"WCD2") -> bytes:
     """A card; entries are the pairs (boat, share) of its body."""
     body = b"".join(struct.pack("<HH", boat, share) for boat, share in entries)
     return front + body + CARD_TRAILER.pack(

@@ -42,7 +42,7 @@ MARKED = [
     ("a", P, (1, 1), 1, 9, 1, 3, [3, 1, 2], 8, 56, None),
     ("b", P, (1, 1), 1, 3, 1, 3, [3, 1, 2], 8, 56, None),
     ("c", P, (1, 1), 1, 2, 3, 2, [0, 1, 2], 26, 44, 17),
-    ("d", P, (5, 5), 1, 9, 2, 2, [0, 1, 2], 170, 32, 106),
+    ("d", P, (5, 5), 1, 9, 2, 1, [0, 1, 0], 26, 16, -6),
     ("e", [(0, 0)], (3, 4), 25, 1, 1, 1, [1], 25, 0, None),
     ("f", [(0, 0)], (3, 4), 24, 1, 2, 1, [1], 25, 0, 25),
     ("g", [(0, 0), (0, 0)], (0, 0), 0, 1, 1, 1, [1, 0], 0, 0, None),
@@ -64,7 +64,7 @@ CARD_A = bytes.fromhex(
     "0000 0300  0100 0100  0200 0200"      # boats 0, 1, 2 with shares 3, 1, 2
     "0c000000 0100 0300 01000000"          # back, verdict, steps used, tolerance
     "0800000000000000 3800000000000000"    # E, G
-    "0300 0200 57434431".replace(" ", ""))  # boats, columns, WCD1
+    "0300 0200 57434432".replace(" ", ""))  # boats, columns, WCD2
 
 BOOK_A = make_book(P)
 SHEET_A = make_sheet((1, 1), 9, 1)
@@ -86,7 +86,7 @@ def marked_sheets():
         agree("case %s card" % name, card, make_card(
             [(boat, s) for boat, s in enumerate(shares) if s], verdict, t, tolerance,
             e, g, len(rows), len(target)))
-        for front in (b"", b"front text", b"WCD1" * 20):
+        for front in (b"", b"front text", b"WCD2" * 20):
             agree("case %s check" % name,
                   exact.check_card(book, sheet, front + card, [9] * (len(rows) + 1)),
                   (0, wanted, shares + [9]))
@@ -95,7 +95,7 @@ def marked_sheets():
     agree("case a listing", exact.listing(BOOK_A, SHEET_A), LISTING_A)
     agree("case a card bytes", exact.write_card(BOOK_A, SHEET_A, bytes(48))[3], CARD_A)
     agree("case d listing", exact.listing(make_book(P), make_sheet((5, 5), 9, 1)),
-          b"fleet 3 2\nsheet 1 9\nbeyond 2 3\ndistance 170\ngap 32\nboat 1 1\nboat 2 2\n")
+          b"fleet 3 2\nsheet 1 9\nbeyond 1 1\ndistance 26\ngap 16\nboat 1 1\n")
     agree("case i listing", exact.listing(make_book(LINE), make_sheet((0,), 2, 0)),
           b"fleet 2 1\nsheet 0 2\nspent 2 3\ndistance 4000000\ngap 16000000\n"
           b"boat 0 2\nboat 1 1\n")
@@ -258,7 +258,8 @@ def card_refusals():
         ("36 bytes of zeros", bytes(36), 32),
         ("40,000 bytes", near_card(front=b"f" * full), 0),
         ("40,001 bytes", near_card(front=b"f" * (full + 1)), 31),
-        ("letters", near_card(letters=b"WCD2"), 32),
+        ("letters", near_card(letters=b"WCD3"), 32),
+        ("letters before the first edition", near_card(letters=b"WCD0"), 32),
         ("one boat more", near_card(boats=4), 33),
         ("one boat less", near_card(boats=2), 33),
         ("one column more", near_card(columns=3), 33),
@@ -328,12 +329,14 @@ def card_refusals():
     # E = 8 and W^2 = 36, so Within is true from a tolerance of 1 upwards.
     agree("Within at a higher tolerance of the sheet",
           exact.check_card(BOOK_A, make_sheet((1, 1), 9, 2), CARD_A, [0] * 3)[0], 39)
-    beyond = make_card([(1, 1), (2, 2)], 2, 2, 1, 170, 32, 3, 2)
-    # The floor is 106 and W^2 is 9: beyond 11 * 9 = 99, not beyond 12 * 9 = 108.
-    for tolerance, wanted in ((1, 0), (11, 39), (12, 38)):
-        agree("Beyond at tolerance %d" % tolerance,
-              exact.check_card(BOOK_A, make_sheet((5, 5), 9, tolerance), beyond, [0] * 3)[0],
-              wanted)
+    # E = 170, G = 32, W^2 = 9. The former test: the floor is 106, beyond 11 * 9 = 99, not beyond 12 * 9 = 108.
+    # The sharper: (170 - 32)^2 = 19044, above 12 * 9 * 170 = 18360, not above 13 * 9 * 170 = 19890.
+    for letters, cases in ((b"WCD1", ((1, 0), (11, 39), (12, 38))), (b"WCD2", ((1, 0), (11, 39), (12, 39), (13, 38)))):
+        beyond = make_card([(1, 1), (2, 2)], 2, 2, 1, 170, 32, 3, 2, letters=letters)
+        for tolerance, wanted in cases:
+            agree("%s Beyond at tolerance %d" % (letters, tolerance),
+                  exact.check_card(BOOK_A, make_sheet((5, 5), 9, tolerance), beyond, [0] * 3)[0],
+                  wanted)
     # Beyond comes before Spent at the last step.
     agree("Spent where Beyond is due",
           exact.check_card(BOOK_A, make_sheet((5, 5), 2, 1),
@@ -344,10 +347,60 @@ def card_refusals():
         agree("one boat at tolerance %d" % tolerance,
               exact.search(one, make_sheet(point, 5, tolerance), [0])[1].verdict, verdict)
     # Step 1 picks (4, 0); r = (-5, -9), E = 106, G = 16 and the floor is 74.
-    for tolerance, verdict, carried in ((73, 2, 74), (74, 3, 32)):
+    # (106 - 16)^2 = 8100, above 76 * 106 = 8056, not above 77 * 106 = 8162.
+    for tolerance, verdict, carried in ((73, 2, 74), (74, 2, 74), (76, 2, 74), (77, 3, 29)):
         agree("floor 74 at tolerance %d" % tolerance,
               exact.search(BOOK_A, make_sheet((9, 9), 1, tolerance), [0] * 3),
               (0, exact.Answer(1, 1, 106, 16, verdict, carried), [0, 1, 0]))
+
+
+def two_tests():
+    """The two tests of Beyond, at their borders and against each other."""
+    # d, g, tolerance, former, sharper
+    for d, g, tolerance, former, sharper in (
+            (25, 0, 24, True, True), (25, 0, 25, False, False),
+            (26, 16, 1, False, True), (26, 16, 3, False, True), (26, 16, 4, False, False),
+            # (4 - 2)^2 is 1 * 4; one more on either side.
+            (4, 2, 1, False, False), (5, 2, 1, False, True), (4, 2, 0, False, True), (4, 3, 0, False, True),
+            (4, 4, 0, False, False), (4, 5, 0, False, False), (4, 9, 0, False, False),
+            (9, 4, 1, False, True), (10, 4, 1, True, True),
+            # (d - g)^2 is 2^70, which is 1024 d: the low 64 bits of both are 0.
+            (2 ** 60, 2 ** 60 - 2 ** 35, 1024, False, False), (2 ** 60, 2 ** 60 - 2 ** 35, 1023, False, True),
+            (Fraction(26, 9), Fraction(16, 9), 0, False, True)):
+        agree("former test %s %s %s" % (d, g, tolerance), exact.former_test(d, g, tolerance), former)
+        agree("sharper test %s %s %s" % (d, g, tolerance), exact.sharper_test(d, g, tolerance), sharper)
+    # The sharper test holds wherever the former does.
+    for d in range(14):
+        for g in range(14):
+            for tolerance in range(14):
+                agree("tests %d %d %d" % (d, g, tolerance),
+                      exact.former_test(d, g, tolerance) <= exact.sharper_test(d, g, tolerance), True)
+
+
+def editions():
+    """A run by the former test, and cards of both editions of both runs."""
+    book, sheet = make_book(P), make_sheet((5, 5), 9, 1)
+    answer, shares = exact.run(P, (5, 5), 9, 1, exact.former_test)
+    agree("former run", (answer, shares), (exact.Answer(2, 3, 170, 32, 2, 106), [0, 1, 2]))
+    # The sharper verdict of the first step is not due by the former test, which goes on; the second step's is by both.
+    for letters, first, second in ((b"WCD1", 38, 0), (b"WCD2", 0, 0)):
+        agree("%s, first step" % letters, exact.check_card(
+            book, sheet, make_card([(1, 1)], 2, 1, 1, 26, 16, 3, 2, letters=letters), [0] * 3)[0], first)
+        agree("%s, second step" % letters, exact.check_card(
+            book, sheet, exact.card_bytes(answer, shares, 1, 3, 2, letters), [0] * 3)[0], second)
+    # At a sheet of one step the former test ends Spent there, and the sharper Beyond.
+    one = make_sheet((5, 5), 1, 1)
+    for letters, verdict, wanted in ((b"WCD1", 3, 0), (b"WCD1", 2, 38), (b"WCD2", 3, 38), (b"WCD2", 2, 0)):
+        agree("%s, verdict %d" % (letters, verdict), exact.check_card(
+            book, one, make_card([(1, 1)], verdict, 1, 1, 26, 16, 3, 2, letters=letters), [0] * 3)[0], wanted)
+    # No run by the sharper test is longer, and it is Beyond wherever the former is.
+    draw = random.Random(27)
+    for number in range(200):
+        rows = [[draw.randint(-9, 9) for _ in range(3)] for _ in range(draw.randint(1, 6))]
+        case = rows, [draw.randint(-15, 15) for _ in range(3)], draw.randint(1, 12), draw.randint(0, 60)
+        sharper, former = exact.run(*case)[0], exact.run(*case, exact.former_test)[0]
+        agree("run %d, steps" % number, sharper.steps <= former.steps, True)
+        agree("run %d, Beyond" % number, former.verdict != exact.BEYOND or sharper.verdict == exact.BEYOND, True)
 
 
 def two_faults():
@@ -646,7 +699,7 @@ def gap_bounds():
 
 def main():
     for part in (marked_sheets, readers, book_and_sheet_refusals, lent_lists, card_refusals,
-                 two_faults, ties_and_start, random_books, full_size, damaged_files,
+                 two_tests, editions, two_faults, ties_and_start, random_books, full_size, damaged_files,
                  from_a_shell, whole_numbers, scale_cells, subtractions, gap_bounds):
         part()
     if differences:

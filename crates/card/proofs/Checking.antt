@@ -1,6 +1,6 @@
 -- The outcomes of `check_card`: refused by the files, a short share list, the card's form or its numbers, or answered.
 use mathlib.Core.Path.{_≡_, refl, sym, ap, _∙_}
-use mathlib.Core.Bool.{Bool, true, false, _&&_, not, cond}
+use mathlib.Core.Bool.{Bool, true, false, _&&_, _||_, not, cond}
 use mathlib.Core.Logic.{_↔_}
 use mathlib.Core.List.{List, _∷_, _++_}
 use Prim.Native.Nat.{ℕ, zero, suc, _+_, _*_, _-_, _≤_, _<_}
@@ -9,10 +9,11 @@ use borrow.Author.Tests.{ltb-true, lt-ltb, le-ltb}
 use lib.Dec.{eqb, ltb, leb, eqb·suc-zero}
 use lib.ListN.{length, take, drop, set, replicate}
 use lib.Seq.{take-set-lt, length-take-le}
-use Rattle.files.specs.Bytes.{all-bytes, number, same, between, length-in-range, trailer}
+use Rattle.files.specs.Bytes.{all-bytes, number, between, length-in-range}
 use Rattle.files.specs.Book.{boats, columns}
 use Rattle.files.specs.Sheet.{sheet, files-refusal}
 use Rattle.files.proofs.Refusal.{and-true}
+use Rattle.method.specs.declared.Test.the-variants.{Former, Sharper}
 use Rattle.method.specs.declared.Answer.{Answer}
 use Rattle.method.specs.declared.Searched.{Searched}
 use Rattle.method.specs.declared.Searched.the-variants.{Refused, Answered}
@@ -23,10 +24,11 @@ use Rattle.method.proofs.Promise.{search-accepted, outcome-number, outcome-refu
 use Rattle.iteration.specs.declared.Layout.{Layout}
 use Rattle.iteration.specs.States.{file-layout}
 use Rattle.iteration.proofs.States.{book-fits}
-use Rattle.card_format.specs.Format.{WCD1, card-fields, card-body, pair-count, shares-into, card-shares, card-answer}
+use Rattle.card_format.specs.Format.{card-fields, lettered, card-test, card-body, pair-count, shares-into, card-shares, card-answer}
 use Rattle.card_format.specs.Checks.{back-fits, pairs-in-order, truth-refusal, card-refusal, check-refusal}
-use Rattle.card_format.specs.Truth.{Card-true, Card-vouches, Accepted-exactly, Accepted-vouches}
+use Rattle.card_format.specs.Truth.{Card-true, Card-vouches, Accepted-exactly, Filed-before-true, Accepted-vouches}
 use Rattle.card_format.proofs.Vouches.{accepted-exactly, accepted-vouches}
+use Rattle.card_format.proofs.Written.{filed-before-true}
 use Rattle.card_input.specs.Forms.{form-refusal, counts-agree, steps-fit}
 use Rattle.card_pairs.proofs.Pairs.{boat-below, into-more, order-more}
 use Rattle.card_input.proofs.Reading.{order-at, into-at, back-fours}
@@ -51,7 +53,7 @@ card-parts : (b s w : List ℕ) → card-refusal b s w ≡
     cond (eqb (form-refusal (boats b) (columns b) (sheet s .steps) w) 0) (truth-refusal (problem b s) (card-shares (boats b) w) w) (form-refusal (boats b) (columns b) (sheet s .steps) w)
 unfolding card-refusal form-refusal counts-agree steps-fit
 card-parts b s w =
-    chain (length-in-range 36 w) (same (drop 32 (trailer 36 w)) WCD1) (eqb (card-fields w .boats) (boats b) && eqb (card-fields w .columns) (columns b))
+    chain (length-in-range 36 w) (lettered Former w || lettered Sharper w) (eqb (card-fields w .boats) (boats b) && eqb (card-fields w .columns) (columns b))
     (between 1 3 (card-fields w .verdict) && between 1 (sheet s .steps) (card-fields w .steps)) (back-fits (boats b) (card-fields w .back) w)
     (pairs-in-order (pair-count w) 0 (boats b) (card-body w)) (truth-refusal (problem b s) (card-shares (boats b) w) w)
 
@@ -152,11 +154,13 @@ module _ (b s w slots : List ℕ) (all : all-bytes w ≡ true) {n : ℕ} {r : Se
       (λ q. x .0 (sym k ∙ q), λ q. k ∙ x .1 q .0)
 
   pub check-right : Check-right b s w r now
+  unfolding Filed-before-true
   check-right =
       record {
         number = number-is ∙ e ∙ ap (check-refusal b s w) (sym same-length);
         refused = λ m q. outcome-refused n m (card-answer b s w) (sym f ∙ q) .1;
         exactly = exactly;
+        filed-before = λ z c. exactly z .1 (filed-before-true b s w (search-accepted b s (length now) z .0) c);
         answered = λ a q. let h = outcome-answered n (card-answer b s w) a (sym f ∙ q) in rw (← h .1) (vouches (h .0));
       }
 
@@ -216,7 +220,7 @@ module _ (b s w slots : List ℕ) where
           -- a judgement by shares that are the card's
           abbrev Judged : (found : List ℕ) → Searched → Type 0
           Judged found r =
-              r ≡ outcome (truth-refusal (problem b s) (take (boats b) found) w) (answer-of (problem b s) (take (boats b) found) (card-fields w .steps))
+              r ≡ outcome (truth-refusal (problem b s) (take (boats b) found) w) (answer-of (card-test w) (problem b s) (take (boats b) found) (card-fields w .steps))
 
           own : (found : List ℕ) → take (boats b) found ≡ card-shares (boats b) w → {r : Searched} → Judged found r →
               outcome (truth-refusal (problem b s) (card-shares (boats b) w) w) (card-answer b s w) ≡ r

@@ -11,6 +11,7 @@ use lib.ListN.{length, take, drop}
 use lib.Seq.{take-at}
 use Rattle.files.specs.Book.{boats, columns}
 use Rattle.files.specs.Sheet.{sheet, files-refusal}
+use Rattle.method.specs.declared.Test.the-variants.{Sharper}
 use Rattle.method.specs.declared.Answer.{Answer}
 use Rattle.method.specs.Problem.{problem}
 use Rattle.method.specs.Iterates.{support}
@@ -135,15 +136,15 @@ module _ (b s out : List ℕ) where
       pairs-fit = omega (arith, pairs-size)
 
       module _ (now₁ now₂ : List ℕ) (e₁ : now₁ ≡ placed out 0 (pairs 0 (take n qs))) (τ c : ℕ) (eτ : τ ≡ sheet s .tolerance) (ec : c ≡ columns b)
-          (e₂ : now₂ ≡ placed now₁ (4 * k) (trailer-bytes (answer-fields a (4 * k) τ n c))) where
-        card-is : pairs 0 (take n qs) ++ trailer-bytes (answer-fields a (4 * k) τ n c) ≡ run-card b s
+          (e₂ : now₂ ≡ placed now₁ (4 * k) (trailer-bytes Sharper (answer-fields a (4 * k) τ n c))) where
+        card-is : pairs 0 (take n qs) ++ trailer-bytes Sharper (answer-fields a (4 * k) τ n c) ≡ run-card b s
         unfolding run-card card-bytes
         card-is = rw (← pairs-size, eτ, ec, ea, shares-are, en)
 
         buffer-is : now₂ ≡ run-card b s ++ drop (length (run-card b s)) out
         unfolding placed
         buffer-is =
-            (unfold placed in placed-next out 0 (pairs 0 (take n qs)) (trailer-bytes (answer-fields a (4 * k) τ n c)) (4 * k) e₁ e₂ (omega (arith, pairs-size)) (omega (arith, pairs-size)))
+            (unfold placed in placed-next out 0 (pairs 0 (take n qs)) (trailer-bytes Sharper (answer-fields a (4 * k) τ n c)) (4 * k) e₁ e₂ (omega (arith, pairs-size)) (omega (arith, pairs-size)))
             ∙ rw (card-is, zero-add (length (run-card b s)))
 
         pub filed : Promises (Filed a (4 * k + 36)) now₂

@@ -10,7 +10,7 @@ use Rattle.method.specs.declared.Searched.{Searched}
 use Rattle.method.specs.declared.Searched.the-variants.{Refused, Answered}
 use Rattle.method.specs.Answers.{refusal-number, search-refusal}
 use Rattle.card_format.specs.Checks.{check-refusal}
-use Rattle.card_format.specs.Truth.{Card-true, Card-vouches}
+use Rattle.card_format.specs.Truth.{Card-true, Filed-before, Card-vouches}
 
 -- of an outcome and the share list that it leaves
 pub record Check-right (b s w : List ℕ) (r : Searched) (slots : List ℕ) : Type 0 where
@@ -20,5 +20,7 @@ pub record Check-right (b s w : List ℕ) (r : Searched) (slots : List ℕ) : Ty
   pub refused : (n : ℕ) → r ≡ Refused n → 1 ≤ n
   -- where book, sheet and share list serve, the card is accepted exactly when it is true
   pub exactly : search-refusal b s (length slots) ≡ 0 → (refusal-number r ≡ 0) ↔ Card-true b s w
+  -- so a card that was filed before WCD2, by a run that the former test judged, is still accepted
+  pub filed-before : search-refusal b s (length slots) ≡ 0 → Filed-before b s w → refusal-number r ≡ 0
   -- an accepted card vouches for its answer, its shares in the first slots, one a boat
   pub answered : (a : Answer) → r ≡ Answered a → Card-vouches b s w a (take (boats b) slots)

@@ -10,7 +10,9 @@ use lib.ListN.{length, take, drop, length-append, take-append-drop}
 use lib.Seq.{drop-drop, drop-at, take-at}
 use Rattle.files.specs.Bytes.{number-bytes, all-bytes, little-endian, number, same, trailer, body}
 use Rattle.files.proofs.Refusal.{and-true}
-use Rattle.card_format.specs.Format.{Fields, WCD1, trailer-bytes, fields}
+use Rattle.method.specs.declared.Test.{Test}
+use Rattle.method.specs.declared.Test.the-variants.{Former, Sharper}
+use Rattle.card_format.specs.Format.{Fields, letters, trailer-bytes, fields}
 use Rattle.card_format.proofs.Bytes.{read-bytes, field}
 
 -- ---- The same bytes
@@ -37,67 +39,68 @@ pub record Fields-fit (f : Fields) : Type 0 where
   pub boats : f .boats < 65536
   pub columns : f .columns < 65536
 
-pub length-trailer : (f : Fields) → length (trailer-bytes f) ≡ 36
-unfolding trailer-bytes number-bytes
-length-trailer f = refl
+pub length-trailer : (test : Test) (f : Fields) → length (trailer-bytes test f) ≡ 36
+unfolding trailer-bytes number-bytes letters
+length-trailer Former f = refl
+length-trailer Sharper f = refl
 
-pub letters-written : (f : Fields) → drop 32 (trailer-bytes f) ≡ WCD1
+pub letters-written : (test : Test) (f : Fields) → drop 32 (trailer-bytes test f) ≡ letters test
 unfolding trailer-bytes number-bytes
-letters-written f = refl
+letters-written test f = refl
 
 -- the number at each offset is the one written there
-module _ (f : Fields) where
-  back-at : number 0 4 (trailer-bytes f) ≡ little-endian (number-bytes 4 (f .back))
+module _ (test : Test) (f : Fields) where
+  back-at : number 0 4 (trailer-bytes test f) ≡ little-endian (number-bytes 4 (f .back))
   unfolding number trailer-bytes number-bytes
   back-at = refl
 
-  verdict-at : number 4 2 (trailer-bytes f) ≡ little-endian (number-bytes 2 (f .verdict))
+  verdict-at : number 4 2 (trailer-bytes test f) ≡ little-endian (number-bytes 2 (f .verdict))
   unfolding number trailer-bytes number-bytes
   verdict-at = refl
 
-  steps-at : number 6 2 (trailer-bytes f) ≡ little-endian (number-bytes 2 (f .steps))
+  steps-at : number 6 2 (trailer-bytes test f) ≡ little-endian (number-bytes 2 (f .steps))
   unfolding number trailer-bytes number-bytes
   steps-at = refl
 
-  tolerance-at : number 8 4 (trailer-bytes f) ≡ little-endian (number-bytes 4 (f .tolerance))
+  tolerance-at : number 8 4 (trailer-bytes test f) ≡ little-endian (number-bytes 4 (f .tolerance))
   unfolding number trailer-bytes number-bytes
   tolerance-at = refl
 
-  distance-at : number 12 8 (trailer-bytes f) ≡ little-endian (number-bytes 8 (f .distance))
+  distance-at : number 12 8 (trailer-bytes test f) ≡ little-endian (number-bytes 8 (f .distance))
   unfolding number trailer-bytes number-bytes
   distance-at = refl
 
-  gap-at : number 20 8 (trailer-bytes f) ≡ little-endian (number-bytes 8 (f .gap))
+  gap-at : number 20 8 (trailer-bytes test f) ≡ little-endian (number-bytes 8 (f .gap))
   unfolding number trailer-bytes number-bytes
   gap-at = refl
 
-  boats-at : number 28 2 (trailer-bytes f) ≡ little-endian (number-bytes 2 (f .boats))
+  boats-at : number 28 2 (trailer-bytes test f) ≡ little-endian (number-bytes 2 (f .boats))
   unfolding number trailer-bytes number-bytes
   boats-at = refl
 
-  columns-at : number 30 2 (trailer-bytes f) ≡ little-endian (number-bytes 2 (f .columns))
+  columns-at : number 30 2 (trailer-bytes test f) ≡ little-endian (number-bytes 2 (f .columns))
   unfolding number trailer-bytes number-bytes
   columns-at = refl
 
 -- a trailer written reads back
-pub fields-read : (f : Fields) → Fields-fit f → fields (trailer-bytes f) ≡ f
+pub fields-read : (test : Test) (f : Fields) → Fields-fit f → fields (trailer-bytes test f) ≡ f
 unfolding fields
-fields-read f h =
+fields-read test f h =
     rw (
-      back-at f ∙ read-bytes 4 (f .back) (h .back),
-      verdict-at f ∙ read-bytes 2 (f .verdict) (h .verdict),
-      steps-at f ∙ read-bytes 2 (f .steps) (h .steps),
-      tolerance-at f ∙ read-bytes 4 (f .tolerance) (h .tolerance),
-      distance-at f ∙ read-bytes 8 (f .distance) (h .distance),
-      gap-at f ∙ read-bytes 8 (f .gap) (h .gap),
-      boats-at f ∙ read-bytes 2 (f .boats) (h .boats),
-      columns-at f ∙ read-bytes 2 (f .columns) (h .columns),
+      back-at test f ∙ read-bytes 4 (f .back) (h .back),
+      verdict-at test f ∙ read-bytes 2 (f .verdict) (h .verdict),
+      steps-at test f ∙ read-bytes 2 (f .steps) (h .steps),
+      tolerance-at test f ∙ read-bytes 4 (f .tolerance) (h .tolerance),
+      distance-at test f ∙ read-bytes 8 (f .distance) (h .distance),
+      gap-at test f ∙ read-bytes 8 (f .gap) (h .gap),
+      boats-at test f ∙ read-bytes 2 (f .boats) (h .boats),
+      columns-at test f ∙ read-bytes 2 (f .columns) (h .columns),
     )
 
 -- a trailer read is written again
-pub fields-written : (t : List ℕ) → all-bytes t ≡ true → length t ≡ 36 → drop 32 t ≡ WCD1 → trailer-bytes (fields t) ≡ t
+pub fields-written : (test : Test) (t : List ℕ) → all-bytes t ≡ true → length t ≡ 36 → drop 32 t ≡ letters test → trailer-bytes test (fields t) ≡ t
 unfolding trailer-bytes fields
-fields-written t all l e =
+fields-written test t all l e =
     rw (
       ← e,
       field 30 2 t all (omega arith),

@@ -1,6 +1,6 @@
 -- A card is accepted exactly when it is well formed and true.
 use mathlib.Core.Path.{_≡_, refl, sym, ap, _∙_}
-use mathlib.Core.Bool.{Bool, true, false, _&&_, not, cond}
+use mathlib.Core.Bool.{Bool, true, false, _&&_, _||_, not, cond}
 use mathlib.Core.List.{List, [], _∷_}
 use Prim.Native.Nat.{ℕ, zero, suc, _+_, _*_, _-_, _/_, _%_, _≤_, _<_}
 use native.Mathlib.Omega.{arith}
@@ -14,6 +14,8 @@ use Rattle.files.specs.Book.{columns, boats}
 use Rattle.files.specs.Sheet.{sheet, files-refusal}
 use Rattle.files.proofs.Refusal.{and-true, between-true}
 use Rattle.files.proofs.Accepted.{files-accepted}
+use Rattle.method.specs.declared.Test.{Test}
+use Rattle.method.specs.declared.Test.the-variants.{Former, Sharper}
 use Rattle.method.specs.declared.Verdict.{Verdict}
 use Rattle.method.specs.declared.Verdict.the-variants.{Within, Beyond, Spent}
 use Rattle.method.specs.Problem.{fixed, problem}
@@ -24,7 +26,7 @@ use Rattle.method.proofs.Accepted.{well-formed, in-range, sized}
 use Rattle.method.proofs.Bounds.{answer-bounds}
 use Rattle.method.proofs.Weights.{fixed-fits, weight-most, weight-positive}
 use Rattle.method.proofs.Shares.{share-most}
-use Rattle.card_format.specs.Format.{Fields, WCD1, pairs, trailer-bytes, fields, card-fields, card-body, pair-count, card-shares, card-answer}
+use Rattle.card_format.specs.Format.{Fields, letters, pairs, trailer-bytes, fields, card-fields, lettered, card-test, card-body, pair-count, card-shares, card-answer}
 use Rattle.card_format.specs.Checks.{back-fits, pairs-in-order, shares-total, numbers-agree, truth-refusal, card-refusal}
 use Rattle.card_format.specs.Truth.{Card-true}
 use Rattle.card_format.proofs.Bytes.{drop-bytes}
@@ -35,7 +37,7 @@ use Rattle.card_format.proofs.Trailer.{same-eq, Fields-fit, length-trai
 
 pub record Passed (b s w : List ℕ) : Type 0 where
   pub sized : length-in-range 36 w ≡ true
-  pub letters : same (drop 32 (trailer 36 w)) WCD1 ≡ true
+  pub letters : lettered Former w || lettered Sharper w ≡ true
   pub counts : eqb (card-fields w .boats) (boats b) && eqb (card-fields w .columns) (columns b) ≡ true
   pub ranges : between 1 3 (card-fields w .verdict) && between 1 (sheet s .steps) (card-fields w .steps) ≡ true
   pub back : back-fits (boats b) (card-fields w .back) w ≡ true
@@ -56,7 +58,7 @@ pub all-passed : (b s w : List ℕ) → card-refusal b s w ≡ 0 → Passed b s 
 unfolding card-refusal truth-refusal card-answer problem
 all-passed b s w e =
     let p1 = passed (length-in-range 36 w) 30 _ e in
-    let p2 = passed (same _ _) 31 _ (p1 .1) in
+    let p2 = passed (lettered Former w || lettered Sharper w) 31 _ (p1 .1) in
     let p3 = passed (eqb (card-fields w .boats) (boats b) && eqb (card-fields w .columns) (columns b)) 32 _ (p2 .1) in
     let p4 = passed (between 1 3 (card-fields w .verdict) && between 1 (sheet s .steps) (card-fields w .steps)) 33 _ (p3 .1) in
     let p5 = passed (back-fits (boats b) (card-fields w .back) w) 34 _ (p4 .1) in
@@ -107,6 +109,27 @@ take-bytes (suc k) (x ∷ xs) h =
     let p = and-true (ltb x 256) (all-bytes xs) h in
     simp (p .0, take-bytes k xs (p .1))
 
+-- ---- The edition
+
+-- the letters of an accepted card are those of its test
+letters-tested : (w : List ℕ) → lettered Former w || lettered Sharper w ≡ true → drop 32 (trailer 36 w) ≡ letters (card-test w)
+unfolding lettered card-test
+letters-tested w h = by (lettered Sharper w) refl h
+  where
+    by : (q : Bool) → lettered Sharper w ≡ q → lettered Former w || q ≡ true → drop 32 (trailer 36 w) ≡ letters (cond q Sharper Former)
+    by true e k = same-eq _ _ e
+    by false e k = same-eq _ _ (either (lettered Former w) k)
+      where
+        either : (q : Bool) → q || false ≡ true → q ≡ true
+        either true k = refl
+        either false k = k
+
+-- letters tell the test that they are of
+letters-told : (test : Test) (w : List ℕ) → drop 32 (trailer 36 w) ≡ letters test → (lettered Former w || lettered Sharper w ≡ true) × (card-test w ≡ test)
+unfolding lettered card-test letters same
+letters-told Former w e = (rw e refl, rw e refl)
+letters-told Sharper w e = (rw e refl, rw e refl)
+
 -- ---- An accepted card is true
 
 module _ (b s w : List ℕ) (all : all-bytes w ≡ true) (p : Passed b s w) where
@@ -143,9 +166,9 @@ module _ (b s w : List ℕ) (all : all-bytes w ≡ true) (p : Passed b s w) wher
   unfolding trailer
   trailer-length = length-drop (length w - 36) w ∙ (omega (arith, long .0))
 
-  trailer-written : trailer-bytes (card-fields w) ≡ trailer 36 w
+  trailer-written : trailer-bytes (card-test w) (card-fields w) ≡ trailer 36 w
   unfolding card-fields
-  trailer-written = fields-written (trailer 36 w) (unfold trailer in drop-bytes (length w - 36) w all) trailer-length (same-eq _ _ (p .letters))
+  trailer-written = fields-written (card-test w) (trailer 36 w) (unfold trailer in drop-bytes (length w - 36) w all) trailer-length (letters-tested w (p .letters))
 
   numbers-are : (eqb (card-fields w .distance) (card-answer b s w .distance) && eqb (card-fields w .gap) (card-answer b s w .gap) ≡ true)
       × (eqb (card-fields w .verdict) (verdict-number (card-answer b s w .verdict)) && stops (sheet s .steps) (card-fields w .steps) (card-answer b s w .verdict) ≡ true)
@@ -166,6 +189,7 @@ module _ (b s w : List ℕ) (all : all-bytes w ≡ true) (p : Passed b s w) wher
         front = take (length w - 36 - card-fields w .back) w;
         shares = card-shares (boats b) w;
         own = card-fields w;
+        test = card-test w;
         layout = rw (written, trailer-written) (unfold card-body in file-parts w (card-fields w .back) (omega (arith, long .0, fits .inside)));
         most-bytes = long .1;
         back = sym (ap length written ∙ body-length);
@@ -227,9 +251,9 @@ module _ (b s w : List ℕ) (ok : files-refusal b s ≡ 0) (c : Card-true b s w)
   reading : Readable 0 (boats b) (support (c .shares)) (pairs 0 (c .shares)) (c .shares)
   reading = readable (c .shares) 0 (boats b) (omega (arith, count)) (omega (arith, files-accepted b s ok .0 .most-boats)) share-fits
 
-  pub own-bounds : Answer-bounds (problem b s) (answer-of (problem b s) (c .shares) (c .own .steps)) (c .shares)
+  pub own-bounds : Answer-bounds (c .test) (problem b s) (answer-of (c .test) (problem b s) (c .shares) (c .own .steps)) (c .shares)
   unfolding problem
-  own-bounds = answer-bounds (well-formed b s ok) (in-range b s ok) (sized b s ok) (c .shares) (c .own .steps) (count ∙ sym (files-accepted b s ok .0 .row-count)) (c .truth .total) (c .truth .few-boats) (c .truth .some-step) (c .truth .most-steps) (c .truth .stops-here)
+  own-bounds = answer-bounds (well-formed b s ok) (in-range b s ok) (sized b s ok) (c .test) (c .shares) (c .own .steps) (count ∙ sym (files-accepted b s ok .0 .row-count)) (c .truth .total) (c .truth .few-boats) (c .truth .some-step) (c .truth .most-steps) (c .truth .stops-here)
 
   own-fits : Fields-fit (c .own)
   unfolding problem
@@ -237,7 +261,7 @@ module _ (b s w : List ℕ) (ok : files-refusal b s ≡ 0) (c : Card-true b s w)
       let book = files-accepted b s ok .0 in
       record {
         back = omega (arith, c .back, reading .sized, support-most (c .shares), count, book .most-boats);
-        verdict = omega (arith, c .truth .verdict, verdict-between (answer-of (problem b s) (c .shares) (c .own .steps) .verdict) .1);
+        verdict = omega (arith, c .truth .verdict, verdict-between (answer-of (c .test) (problem b s) (c .shares) (c .own .steps) .verdict) .1);
         steps = omega (arith, few-steps);
         tolerance = omega (arith, c .truth .tolerance, files-accepted b s ok .1 .most-tolerance);
         distance = omega (arith, c .truth .distance, own-bounds .distance-fits);
@@ -246,12 +270,12 @@ module _ (b s w : List ℕ) (ok : files-refusal b s ≡ 0) (c : Card-true b s w)
         columns = omega (arith, c .columns, book .most-columns);
       }
 
-  trailer-is : trailer 36 w ≡ trailer-bytes (c .own)
-  trailer-is = ap (trailer 36) (c .layout) ∙ file-trailer (c .front) (pairs 0 (c .shares)) (trailer-bytes (c .own)) (length-trailer (c .own))
+  trailer-is : trailer 36 w ≡ trailer-bytes (c .test) (c .own)
+  trailer-is = ap (trailer 36) (c .layout) ∙ file-trailer (c .front) (pairs 0 (c .shares)) (trailer-bytes (c .test) (c .own)) (length-trailer (c .test) (c .own))
 
   pub fields-are : card-fields w ≡ c .own
   unfolding card-fields
-  fields-are = ap fields trailer-is ∙ fields-read (c .own) own-fits
+  fields-are = ap fields trailer-is ∙ fields-read (c .test) (c .own) own-fits
 
   back-is : card-fields w .back ≡ length (pairs 0 (c .shares))
   back-is = rw fields-are (c .back)
@@ -260,7 +284,7 @@ module _ (b s w : List ℕ) (ok : files-refusal b s ≡ 0) (c : Card-true b s w)
   unfolding card-body
   body-is =
       ap (λ n. body 36 n w) back-is ∙ ap (body 36 (length (pairs 0 (c .shares)))) (c .layout)
-      ∙ file-body (c .front) (pairs 0 (c .shares)) (trailer-bytes (c .own)) (length-trailer (c .own))
+      ∙ file-body (c .front) (pairs 0 (c .shares)) (trailer-bytes (c .test) (c .own)) (length-trailer (c .test) (c .own))
 
   count-is : pair-count w ≡ support (c .shares)
   unfolding pair-count
@@ -270,12 +294,18 @@ module _ (b s w : List ℕ) (ok : files-refusal b s ≡ 0) (c : Card-true b s w)
   unfolding card-shares
   shares-back = rw (count-is, body-is, ← count) (reading .read [] refl)
 
-  pub answer-is : card-answer b s w ≡ answer-of (problem b s) (c .shares) (c .own .steps)
+  told : (lettered Former w || lettered Sharper w ≡ true) × (card-test w ≡ c .test)
+  told = letters-told (c .test) w (ap (drop 32) trailer-is ∙ letters-written (c .test) (c .own))
+
+  pub test-is : card-test w ≡ c .test
+  test-is = told .1
+
+  pub answer-is : card-answer b s w ≡ answer-of (c .test) (problem b s) (c .shares) (c .own .steps)
   unfolding card-answer
-  answer-is = rw (fields-are, shares-back)
+  answer-is = rw (test-is, fields-are, shares-back)
 
   file-size : length w ≡ length (c .front) + (length (pairs 0 (c .shares)) + 36)
-  file-size = ap length (c .layout) ∙ file-length (c .front) (pairs 0 (c .shares)) (trailer-bytes (c .own)) (length-trailer (c .own))
+  file-size = ap length (c .layout) ∙ file-length (c .front) (pairs 0 (c .shares)) (trailer-bytes (c .test) (c .own)) (length-trailer (c .test) (c .own))
 
   numbers-said : numbers-agree (sheet s .steps) w (card-answer b s w) ≡ true
   unfolding problem numbers-agree
@@ -284,10 +314,10 @@ module _ (b s w : List ℕ) (ok : files-refusal b s ≡ 0) (c : Card-true b s w)
   true-passed : Passed b s w
   unfolding problem length-in-range shares-total
   true-passed =
-      let v = verdict-between (answer-of (problem b s) (c .shares) (c .own .steps) .verdict) in
+      let v = verdict-between (answer-of (c .test) (problem b s) (c .shares) (c .own .steps) .verdict) in
       record {
         sized = between-said (omega (arith, file-size)) (c .most-bytes);
-        letters = rw (trailer-is, letters-written) (unfold same in refl);
+        letters = told .0;
         counts = rw fields-are (simp (eq-eqb _ _ (c .boats), eq-eqb _ _ (c .columns)));
         ranges = rw fields-are (simp (between-said {least = 1} {most = 3} {n = c .own .verdict} (rw (c .truth .verdict) (v .0)) (rw (c .truth .verdict) (v .1)), between-said (c .truth .some-step) (c .truth .most-steps)));
         back = back-said (rw back-is (record {

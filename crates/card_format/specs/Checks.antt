@@ -1,18 +1,19 @@
 -- What refuses a card, 31 to 39, and the calls of the card writer and the card check.
-use mathlib.Core.Bool.{Bool, true, _&&_, not, cond}
+use mathlib.Core.Bool.{Bool, true, _&&_, _||_, not, cond}
 use mathlib.Core.List.{List}
 use Prim.Native.Nat.{ℕ, zero, suc, _*_, _%_}
 use lib.Dec.{eqb, ltb, leb}
 use lib.ListN.{length, drop}
 use Rattle.frank_wolfe.specs.Vectors.{sum}
-use Rattle.files.specs.Bytes.{number, same, between, length-in-range, trailer, reaches}
+use Rattle.files.specs.Bytes.{number, between, length-in-range, reaches}
 use Rattle.files.specs.Book.{boats, columns}
 use Rattle.files.specs.Sheet.{sheet, files-refusal}
+use Rattle.method.specs.declared.Test.the-variants.{Former, Sharper}
 use Rattle.method.specs.declared.Answer.{Answer}
 use Rattle.method.specs.Problem.{Schedule, Problem, problem, weight}
 use Rattle.method.specs.Answers.{verdict-number, stops, search-refusal}
 use Rattle.method.specs.Bounds.{answer-of}
-use Rattle.card_format.specs.Format.{WCD1, card-fields, card-body, pair-count, card-shares, run-card}
+use Rattle.card_format.specs.Format.{card-fields, lettered, card-test, card-body, pair-count, card-shares, run-card}
 
 -- whether a back count is above zero, a multiple of 4, at most 4 × boats, and starts inside the file
 unfoldable pub back-fits : (boats back : ℕ) → List ℕ → Bool
@@ -35,12 +36,12 @@ numbers-agree steps w a =
     (eqb (f .distance) (a .distance) && eqb (f .gap) (a .gap))
     && (eqb (f .verdict) (verdict-number (a .verdict)) && stops steps (f .steps) (a .verdict))
 
--- whether what a card says is true of some shares, one a vertex of a problem: 37 to 39; 0 if none applies
+-- whether what a card says, judged by the test of its letters, is true of some shares, one a vertex of a problem: 37 to 39; 0 if none applies
 unfoldable pub truth-refusal : Problem → (shares card : List ℕ) → ℕ
 truth-refusal p qs w =
     let f = card-fields w in
     cond (not (shares-total (p .schedule) (pair-count w) qs (f .steps))) 37
-    (cond (not (numbers-agree (p .steps) w (answer-of p qs (f .steps)))) 38
+    (cond (not (numbers-agree (p .steps) w (answer-of (card-test w) p qs (f .steps)))) 38
     (cond (eqb (f .tolerance) (p .tolerance)) 0 39))
 
 -- the first refusal, 31 to 39, that applies to a card for an accepted book and sheet; 0 if none does
@@ -48,7 +49,7 @@ unfoldable pub card-refusal : (book sheet card : List ℕ) → ℕ
 card-refusal b s w =
     let f = card-fields w in
     cond (not (length-in-range 36 w)) 31
-    (cond (not (same (drop 32 (trailer 36 w)) WCD1)) 32
+    (cond (not (lettered Former w || lettered Sharper w)) 32
     (cond (not (eqb (f .boats) (boats b) && eqb (f .columns) (columns b))) 33
     (cond (not (between 1 3 (f .verdict) && between 1 (sheet s .steps) (f .steps))) 34
     (cond (not (back-fits (boats b) (f .back) w)) 35

@@ -1,14 +1,17 @@
 -- Cards: the shares and the answer of a search, as bytes.
 -- Body: for each boat with a share above zero, boat number (2) and share (2), boats ascending.
--- Trailer, 36 bytes: back count (4), verdict (2), steps used (2), tolerance (4), E (8), G (8), boats (2) and columns (2) of the book, the letters WCD1.
-use mathlib.Core.Bool.{cond}
+-- Trailer, 36 bytes: back count (4), verdict (2), steps used (2), tolerance (4), E (8), G (8), boats (2) and columns (2) of the book, the letters.
+-- WCD2 is what is written, and its verdict is judged by the sharper test; WCD1 is the edition before, judged by the former.
+use mathlib.Core.Bool.{Bool, cond}
 use mathlib.Core.List.{List, [], _∷_, _++_}
 use Prim.Native.Nat.{ℕ, zero, suc, _+_, _/_}
 use lib.Dec.{eqb}
 use lib.ListN.{length, drop, set, replicate}
-use Rattle.files.specs.Bytes.{number-bytes, number, trailer, body}
+use Rattle.files.specs.Bytes.{number-bytes, number, same, trailer, body}
 use Rattle.files.specs.Book.{boats, columns}
 use Rattle.files.specs.Sheet.{sheet}
+use Rattle.method.specs.declared.Test.{Test}
+use Rattle.method.specs.declared.Test.the-variants.{Former, Sharper}
 use Rattle.method.specs.declared.Answer.{Answer}
 use Rattle.method.specs.Problem.{problem}
 use Rattle.method.specs.Answers.{verdict-number, run-iterate, run-answer}
@@ -39,10 +42,18 @@ pub record Fields : Type 0 where
 abbrev pub WCD1 : List ℕ
 WCD1 = 87 ∷ 67 ∷ 68 ∷ 49 ∷ []
 
-unfoldable pub trailer-bytes : Fields → List ℕ
-trailer-bytes f =
+abbrev pub WCD2 : List ℕ
+WCD2 = 87 ∷ 67 ∷ 68 ∷ 50 ∷ []
+
+-- the letters of the edition whose verdicts a test judges
+unfoldable pub letters : Test → List ℕ
+letters Former = WCD1
+letters Sharper = WCD2
+
+unfoldable pub trailer-bytes : Test → Fields → List ℕ
+trailer-bytes test f =
     number-bytes 4 (f .back) ++ (number-bytes 2 (f .verdict) ++ (number-bytes 2 (f .steps) ++ (number-bytes 4 (f .tolerance)
-    ++ (number-bytes 8 (f .distance) ++ (number-bytes 8 (f .gap) ++ (number-bytes 2 (f .boats) ++ (number-bytes 2 (f .columns) ++ WCD1)))))))
+    ++ (number-bytes 8 (f .distance) ++ (number-bytes 8 (f .gap) ++ (number-bytes 2 (f .boats) ++ (number-bytes 2 (f .columns) ++ letters test)))))))
 
 -- an answer's numbers, after a body of so many bytes
 unfoldable pub answer-fields : Answer → (back tolerance boats columns : ℕ) → Fields
@@ -58,12 +69,12 @@ answer-fields a back tolerance n c =
       columns = c;
     }
 
-unfoldable pub card-bytes : Answer → (shares : List ℕ) → (tolerance boats columns : ℕ) → List ℕ
-card-bytes a qs tolerance n c = pairs 0 qs ++ trailer-bytes (answer-fields a (length (pairs 0 qs)) tolerance n c)
+unfoldable pub card-bytes : Test → Answer → (shares : List ℕ) → (tolerance boats columns : ℕ) → List ℕ
+card-bytes test a qs tolerance n c = pairs 0 qs ++ trailer-bytes test (answer-fields a (length (pairs 0 qs)) tolerance n c)
 
--- the card of a run
+-- the card of a run, of the edition WCD2
 unfoldable pub run-card : (book sheet : List ℕ) → List ℕ
-run-card b s = card-bytes (run-answer (problem b s)) (run-iterate (problem b s) .shares) (sheet s .tolerance) (boats b) (columns b)
+run-card b s = card-bytes Sharper (run-answer (problem b s)) (run-iterate (problem b s) .shares) (sheet s .tolerance) (boats b) (columns b)
 
 -- ---- Reading
 
@@ -84,6 +95,14 @@ fields t =
 unfoldable pub card-fields : List ℕ → Fields
 card-fields w = fields (trailer 36 w)
 
+-- whether a card has the letters of the edition that a test judges
+unfoldable pub lettered : Test → List ℕ → Bool
+lettered test w = same (drop 32 (trailer 36 w)) (letters test)
+
+-- the test of a card's letters: the sharper for WCD2, else the former
+unfoldable pub card-test : List ℕ → Test
+card-test w = cond (lettered Sharper w) Sharper Former
+
 -- the pairs, and how many
 unfoldable pub card-body : List ℕ → List ℕ
 card-body w = body 36 (card-fields w .back) w
@@ -100,6 +119,6 @@ shares-into (suc k) bs qs = shares-into k (drop 4 bs) (set qs (number 0 2 bs) (n
 unfoldable pub card-shares : (boats : ℕ) → List ℕ → List ℕ
 card-shares n w = shares-into (pair-count w) (card-body w) (replicate n 0)
 
--- the answer of a card's shares and steps
+-- the answer of a card's shares and steps, judged by the test of its letters
 unfoldable pub card-answer : (book sheet card : List ℕ) → Answer
-card-answer b s w = answer-of (problem b s) (card-shares (boats b) w) (card-fields w .steps)
+card-answer b s w = answer-of (card-test w) (problem b s) (card-shares (boats b) w) (card-fields w .steps)

@@ -10,36 +10,40 @@ use Rattle.frank_wolfe.specs.Vectors.{subtract, scale, sum, combination}
 use Rattle.files.specs.Bytes.{all-bytes}
 use Rattle.files.specs.Book.{columns, boats}
 use Rattle.files.specs.Sheet.{sheet, files-refusal}
+use Rattle.method.specs.declared.Test.{Test}
+use Rattle.method.specs.declared.Test.the-variants.{Former}
 use Rattle.method.specs.declared.Answer.{Answer}
 use Rattle.method.specs.Problem.{Problem, problem, weight}
-use Rattle.method.specs.Iterates.{gaps, maximum, mixture-distance, support}
-use Rattle.method.specs.Answers.{verdict-number, stops, run-answer, run-iterate}
+use Rattle.method.specs.Iterates.{iterate, gaps, maximum, mixture-distance, support}
+use Rattle.method.specs.Answers.{verdict-number, stops, answer-at, run-answer, run-iterate}
 use Rattle.method.specs.Bounds.{answer-of, Answer-bounds}
-use Rattle.card_format.specs.Format.{Fields, pairs, trailer-bytes, card-fields, card-shares, card-answer, run-card}
+use Rattle.card_format.specs.Format.{Fields, pairs, trailer-bytes, card-bytes, card-fields, card-test, card-shares, card-answer, run-card}
 use Rattle.card_format.specs.Checks.{card-refusal}
 
--- what a trailer says is true of some shares, one a vertex of a problem
-pub record Fields-true (p : Problem) (shares : List ℕ) (own : Fields) : Type 0 where
+-- what a trailer says, judged by a test, is true of some shares, one a vertex of a problem
+pub record Fields-true (test : Test) (p : Problem) (shares : List ℕ) (own : Fields) : Type 0 where
   -- ---- The shares: of the total that so many steps give, on no more vertices than steps
   pub total : sum shares ≡ weight (p .schedule) (own .steps)
   pub few-boats : support shares ≤ own .steps
   pub some-step : 1 ≤ own .steps
   pub most-steps : own .steps ≤ p .steps
   -- ---- The numbers: those of the shares
-  pub distance : own .distance ≡ answer-of p shares (own .steps) .distance
-  pub gap : own .gap ≡ answer-of p shares (own .steps) .gap
-  pub verdict : own .verdict ≡ verdict-number (answer-of p shares (own .steps) .verdict)
+  pub distance : own .distance ≡ answer-of test p shares (own .steps) .distance
+  pub gap : own .gap ≡ answer-of test p shares (own .steps) .gap
+  pub verdict : own .verdict ≡ verdict-number (answer-of test p shares (own .steps) .verdict)
   -- Spent only at the problem's steps
-  pub stops-here : stops (p .steps) (own .steps) (answer-of p shares (own .steps) .verdict) ≡ true
+  pub stops-here : stops (p .steps) (own .steps) (answer-of test p shares (own .steps) .verdict) ≡ true
   pub tolerance : own .tolerance ≡ p .tolerance
 
--- the card w is well formed, and true of its book b and sheet s
+-- the card w is well formed, and true of its book b and sheet s by the test of its edition
 pub record Card-true (b s w : List ℕ) : Type 0 where
   -- ---- The file: front text, the pairs of the shares above zero, boats ascending, and the trailer
+  -- with the letters of the edition that the test judges
   pub front : List ℕ
   pub shares : List ℕ
   pub own : Fields
-  pub layout : w ≡ front ++ (pairs 0 shares ++ trailer-bytes own)
+  pub test : Test
+  pub layout : w ≡ front ++ (pairs 0 shares ++ trailer-bytes test own)
   pub most-bytes : length w ≤ 40000
   pub back : own .back ≡ length (pairs 0 shares)
   -- ---- Of this book: one share a boat
@@ -47,21 +51,34 @@ pub record Card-true (b s w : List ℕ) : Type 0 where
   pub columns : own .columns ≡ columns b
   pub share-count : length shares ≡ own .boats
   -- ---- What it says of the shares is true
-  pub truth : Fields-true (problem b s) shares own
+  pub truth : Fields-true test (problem b s) shares own
+
+-- the card w was filed before WCD2: behind front text, the WCD1 card of the answer and the shares after some steps, where the former test
+-- ends a run
+pub record Filed-before (b s w : List ℕ) : Type 0 where
+  pub front : List ℕ
+  pub steps : ℕ
+  pub some-step : 1 ≤ steps
+  pub most-steps : steps ≤ sheet s .steps
+  pub stops-here : stops (sheet s .steps) steps (answer-at Former (problem b s) steps (iterate (problem b s) steps) .verdict) ≡ true
+  pub layout : w ≡ front ++ card-bytes Former (answer-at Former (problem b s) steps (iterate (problem b s) steps)) (iterate (problem b s) steps .shares)
+      (sheet s .tolerance) (boats b) (columns b)
+  pub most-bytes : length w ≤ 40000
 
 -- ---- What an accepted card vouches for: a is the answer given back for it, `shares` its shares. The bound by steps is a run's alone.
 pub record Card-vouches (b s w : List ℕ) (a : Answer) (shares : List ℕ) : Type 0 where
   -- the file is a true card of these shares
   pub is-true : Card-true b s w
   pub own-shares : is-true .shares ≡ shares
+  pub own-test : is-true .test ≡ card-test w
   -- and the answer's numbers are the card's own
   pub own-steps : a .steps ≡ card-fields w .steps
   pub own-distance : a .distance ≡ card-fields w .distance
   pub own-gap : a .gap ≡ card-fields w .gap
   pub own-verdict : verdict-number (a .verdict) ≡ card-fields w .verdict
   pub own-tolerance : sheet s .tolerance ≡ card-fields w .tolerance
-  -- which with the shares keeps what is promised of an answer
-  pub answer : Answer-bounds (problem b s) a shares
+  -- which with the shares keeps what is promised of an answer, judged by the test of the card's letters
+  pub answer : Answer-bounds (card-test w) (problem b s) a shares
 
 -- ---- The statements
 
@@ -71,7 +88,8 @@ Accepted-exactly =
     (b s w : List ℕ) → files-refusal b s ≡ 0 → all-bytes w ≡ true →
     (card-refusal b s w ≡ 0 → Card-true b s w)
     × ((c : Card-true b s w) →
-    (card-refusal b s w ≡ 0) × (card-fields w ≡ c .own) × (card-shares (boats b) w ≡ c .shares) × (card-answer b s w ≡ answer-of (problem b s) (c .shares) (c .own .steps)))
+    (card-refusal b s w ≡ 0) × (card-fields w ≡ c .own) × (card-shares (boats b) w ≡ c .shares) × (card-test w ≡ c .test)
+    × (card-answer b s w ≡ answer-of (c .test) (problem b s) (c .shares) (c .own .steps)))
 
 -- a card that was written is accepted, also behind any front text that keeps it within 40,000 bytes, and reads back as the run's answer and shares
 unfoldable pub Written-accepted : Type 0
@@ -79,6 +97,10 @@ Written-accepted =
     (b s front : List ℕ) → files-refusal b s ≡ 0 → length front + length (run-card b s) ≤ 40000 →
     (card-refusal b s (front ++ run-card b s) ≡ 0)
     × (card-answer b s (front ++ run-card b s) ≡ run-answer (problem b s)) × (card-shares (boats b) (front ++ run-card b s) ≡ run-iterate (problem b s) .shares)
+
+-- a card that was filed before WCD2 is true, and so is still accepted
+unfoldable pub Filed-before-true : Type 0
+Filed-before-true = (b s w : List ℕ) → files-refusal b s ≡ 0 → Filed-before b s w → Card-true b s w
 
 -- a written card has at most 1,060 bytes, so it needs no front text to keep within 40,000
 unfoldable pub Written-short : Type 0

@@ -1,6 +1,6 @@
 -- The tests of a card's form, as the code has them, are those of the definitions.
 use mathlib.Core.Path.{_≡_, refl, sym, ap, _∙_}
-use mathlib.Core.Bool.{Bool, true, false, not}
+use mathlib.Core.Bool.{Bool, true, false, _||_, not}
 use mathlib.Core.List.{List}
 use Prim.Native.Nat.{ℕ, zero, suc, _*_, _-_, _/_, _%_, _≤_, _<_}
 use native.Mathlib.Omega.{arith}
@@ -11,7 +11,8 @@ use mir.Syntax.{w8}
 use mir.Val.{Fits}
 use Rattle.files.specs.Bytes.{all-bytes, number, same, between, length-in-range, trailer, body, reaches}
 use Rattle.files.proofs.Numbers.{all-bytes-known, number-in-trailer, drop-trailer}
-use Rattle.card_format.specs.Format.{WCD1, fields, card-fields, card-body, pair-count, shares-into}
+use Rattle.method.specs.declared.Test.the-variants.{Former, Sharper}
+use Rattle.card_format.specs.Format.{WCD1, WCD2, letters, fields, card-fields, lettered, card-test, card-body, pair-count, shares-into}
 use Rattle.card_format.specs.Checks.{back-fits, pairs-in-order}
 use Rattle.card_format.proofs.Truth.{Back-fits, back-means}
 use Rattle.card_pairs.proofs.Pairs.{order-take, into-take}
@@ -58,6 +59,33 @@ module _ (w : List ℕ) (h : 36 ≤ length w) where
 
   pub letters-at : drop 32 (trailer 36 w) ≡ drop (length w - 4) w
   letters-at = drop-trailer 36 32 (length w - 4) w (omega arith)
+
+-- ---- The letters, as the file's last four bytes
+
+module _ (w : List ℕ) (h : 36 ≤ length w) where
+  former-is : lettered Former w ≡ same (drop (length w - 4) w) WCD1
+  unfolding lettered letters
+  former-is = ap (λ l. same l WCD1) (letters-at w h)
+
+  sharper-is : lettered Sharper w ≡ same (drop (length w - 4) w) WCD2
+  unfolding lettered letters
+  sharper-is = ap (λ l. same l WCD2) (letters-at w h)
+
+  module _ {g : Bool} (e : g ≡ same (drop (length w - 4) w) WCD1) where
+    pub former-lettered : g ≡ true → true ≡ lettered Former w || lettered Sharper w
+    former-lettered t = rw (former-is ∙ sym e ∙ t)
+
+    pub other-lettered : g ≡ false → {k : Bool} → k ≡ same (drop (length w - 4) w) WCD2 → k ≡ lettered Former w || lettered Sharper w
+    other-lettered t f = f ∙ sym sharper-is ∙ rw (former-is ∙ sym e ∙ t)
+
+  module _ {g : Bool} (e : g ≡ same (drop (length w - 4) w) WCD2) where
+    pub tested-sharper : g ≡ true → Sharper ≡ card-test w
+    unfolding card-test
+    tested-sharper t = rw (sharper-is ∙ sym e ∙ t)
+
+    pub tested-former : g ≡ false → Former ≡ card-test w
+    unfolding card-test
+    tested-former t = rw (sharper-is ∙ sym e ∙ t)
 
 -- ---- Tests
 
@@ -132,7 +160,7 @@ module _ (n c steps : ℕ) (w : List ℕ) (g₁ : Bool) (e₁ : g₁ ≡ between
   unfolding form-refusal length-in-range
   length-out t = simp (← e₁, not-true g₁ t)
 
-  module _ (t₁ : not g₁ ≡ false) (g₂ : Bool) (e₂ : g₂ ≡ same (drop 32 (trailer 36 w)) WCD1) where
+  module _ (t₁ : not g₁ ≡ false) (g₂ : Bool) (e₂ : g₂ ≡ lettered Former w || lettered Sharper w) where
     pub letters-differ : not g₂ ≡ true → 32 ≡ form-refusal n c steps w
     unfolding form-refusal length-in-range
     letters-differ t = simp (← e₁, not-false g₁ t₁, ← e₂, not-true g₂ t)

@@ -1,11 +1,11 @@
 -- The part of a card's refusal that reads no book row and no target: 31 to 36. Definitions only.
-use mathlib.Core.Bool.{Bool, _&&_, not, cond}
+use mathlib.Core.Bool.{Bool, _&&_, _||_, not, cond}
 use mathlib.Core.List.{List}
 use Prim.Native.Nat.{ℕ}
 use lib.Dec.{eqb}
-use lib.ListN.{drop}
-use Rattle.files.specs.Bytes.{same, between, length-in-range, trailer}
-use Rattle.card_format.specs.Format.{WCD1, card-fields, card-body, pair-count}
+use Rattle.files.specs.Bytes.{between, length-in-range}
+use Rattle.method.specs.declared.Test.the-variants.{Former, Sharper}
+use Rattle.card_format.specs.Format.{card-fields, lettered, card-body, pair-count}
 use Rattle.card_format.specs.Checks.{back-fits, pairs-in-order}
 
 -- whether a card's boats and columns are these
@@ -20,7 +20,7 @@ steps-fit steps w = between 1 3 (card-fields w .verdict) && between 1 steps (car
 unfoldable pub form-refusal : (boats columns steps : ℕ) → List ℕ → ℕ
 form-refusal n c steps w =
     cond (not (length-in-range 36 w)) 31
-    (cond (not (same (drop 32 (trailer 36 w)) WCD1)) 32
+    (cond (not (lettered Former w || lettered Sharper w)) 32
     (cond (not (counts-agree n c w)) 33
     (cond (not (steps-fit steps w)) 34
     (cond (not (back-fits n (card-fields w .back) w)) 35

@@ -1,20 +1,36 @@
 // A card's form tested: refusals 31 to 36.
 //
-// Helpers for other crates, whose callers prove what they require: steps_used, pair_count, form_refusal.
+// Helpers for other crates, whose callers prove what they require: test_of, steps_used, pair_count, form_refusal.
+ghost use mathlib.Core.Bool.{_||_};
 ghost use mathlib.Core.Path.{_≡_};
 ghost use Prim.Native.Nat.{_*_, _-_, _≤_, _<_};
-ghost use lib.ListN.{length, drop};
-ghost use Rattle.files.specs.Bytes.{same, trailer};
-ghost use Rattle.card_format.specs.Format.{WCD1, card-fields, pair-count};
+ghost use lib.ListN.{length};
+ghost use Rattle.method.specs.declared.Test.the-variants.{Former, Sharper};
+ghost use Rattle.card_format.specs.Format.{card-fields, lettered, card-test, pair-count};
 ghost use Rattle.card_format.specs.Checks.{back-fits};
 ghost use Rattle.card_input.specs.Forms.{counts-agree, steps-fit, form-refusal};
+use method::Test;
 
-// Whether a card ends with its letters.
+// Whether a card ends with the letters of either edition.
 fn is_lettered(card: &[u8]) -> bool
     requires { ⌜ 36 ≤ length (now card) ⌝ }
-    ensures { λ r. ⌜ r ≡ same (drop 32 (trailer 36 (now (card .entry)))) WCD1 ⌝ }
+    ensures { λ r. ⌜ r ≡ lettered Former (now (card .entry)) || lettered Sharper (now (card .entry)) ⌝ }
 {
-    file_parts::ends_with(card, b"WCD1")
+    if file_parts::ends_with(card, b"WCD1") {
+        return true;
+    }
+    file_parts::ends_with(card, b"WCD2")
+}
+
+// The test that judges a card's verdict, by its letters.
+pub fn test_of(card: &[u8]) -> Test
+    requires { ⌜ 36 ≤ length (now card) ⌝ }
+    ensures { λ r. ⌜ r ≡ card-test (now (card .entry)) ⌝ }
+{
+    if file_parts::ends_with(card, b"WCD2") {
+        return Test::Sharper;
+    }
+    Test::Former
 }
 
 // Whether a card names so many boats and columns.

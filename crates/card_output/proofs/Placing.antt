@@ -11,10 +11,11 @@ use lib.Dec.{eqb}
 use lib.ListN.{length, take, drop, set, getD, length-append, length-drop, length-set, take-append-drop, drop-of-length-le}
 use lib.Seq.{drop-drop, drop-append-add, drop-cons, getD-take, take-at, set-split, length-take-le}
 use Rattle.files.specs.Bytes.{number-bytes}
+use Rattle.method.specs.declared.Test.the-variants.{Sharper}
 use Rattle.method.specs.declared.Answer.{Answer}
 use Rattle.method.specs.Answers.{verdict-number}
 use Rattle.method.specs.Iterates.{support}
-use Rattle.card_format.specs.Format.{pair, pairs, WCD1, trailer-bytes, answer-fields}
+use Rattle.card_format.specs.Format.{pair, pairs, WCD2, letters, trailer-bytes, answer-fields}
 use Rattle.card_format.proofs.Bytes.{length-bytes}
 use Rattle.card_format.proofs.Pairs.{pair-some}
 use Rattle.card_output.specs.Output.{placed}
@@ -102,23 +103,23 @@ module _ (out : List ℕ) {o₁ o₂ o₃ o₄ : List ℕ} (at a b c d : ℕ) (h
       placed-next out at ((number-bytes 4 a ++ number-bytes 2 b) ++ number-bytes 2 c) (number-bytes 4 d) (at + 8) p₃ e₄ refl (omega arith)
 
 module _ (out : List ℕ) {o₁ o₂ o₃ o₄ o₅ : List ℕ} (at a b c d : ℕ) (h : at + 24 ≤ length out) (e₁ : o₁ ≡ placed out at (number-bytes 8 a)) (e₂ : o₂ ≡ placed o₁ (at + 8) (number-bytes 8 b))
-    (e₃ : o₃ ≡ placed o₂ (at + 16) (number-bytes 2 c)) (e₄ : o₄ ≡ placed o₃ (at + 18) (number-bytes 2 d)) (e₅ : o₅ ≡ placed o₄ (at + 20) (number-bytes 4 826557271)) where
-  pub rest-placed : o₅ ≡ placed out at (number-bytes 8 a ++ (number-bytes 8 b ++ (number-bytes 2 c ++ (number-bytes 2 d ++ WCD1))))
+    (e₃ : o₃ ≡ placed o₂ (at + 16) (number-bytes 2 c)) (e₄ : o₄ ≡ placed o₃ (at + 18) (number-bytes 2 d)) (e₅ : o₅ ≡ placed o₄ (at + 20) (number-bytes 4 843334487)) where
+  pub rest-placed : o₅ ≡ placed out at (number-bytes 8 a ++ (number-bytes 8 b ++ (number-bytes 2 c ++ (number-bytes 2 d ++ WCD2))))
   unfolding number-bytes
   rest-placed =
       let p₂ = placed-next out at (number-bytes 8 a) (number-bytes 8 b) (at + 8) e₁ e₂ refl (omega arith) in
       let p₃ = placed-next out at (number-bytes 8 a ++ number-bytes 8 b) (number-bytes 2 c) (at + 16) p₂ e₃ refl (omega arith) in
       let p₄ = placed-next out at ((number-bytes 8 a ++ number-bytes 8 b) ++ number-bytes 2 c) (number-bytes 2 d) (at + 18) p₃ e₄ refl (omega arith) in
-      placed-next out at (((number-bytes 8 a ++ number-bytes 8 b) ++ number-bytes 2 c) ++ number-bytes 2 d) (number-bytes 4 826557271) (at + 20) p₄ e₅ refl (omega arith)
+      placed-next out at (((number-bytes 8 a ++ number-bytes 8 b) ++ number-bytes 2 c) ++ number-bytes 2 d) (number-bytes 4 843334487) (at + 20) p₄ e₅ refl (omega arith)
 
 pub trailer-placed : (out : List ℕ) {now new : List ℕ} (at tolerance n c v : ℕ) (a : Answer) → at + 36 ≤ length out → v ≡ verdict-number (a .verdict) →
     now ≡ placed out at (number-bytes 4 at ++ (number-bytes 2 v ++ (number-bytes 2 (a .steps) ++ number-bytes 4 tolerance))) →
-    new ≡ placed now (at + 12) (number-bytes 8 (a .distance) ++ (number-bytes 8 (a .gap) ++ (number-bytes 2 n ++ (number-bytes 2 c ++ WCD1)))) →
-    new ≡ placed out at (trailer-bytes (answer-fields a at tolerance n c))
-unfolding trailer-bytes answer-fields number-bytes
+    new ≡ placed now (at + 12) (number-bytes 8 (a .distance) ++ (number-bytes 8 (a .gap) ++ (number-bytes 2 n ++ (number-bytes 2 c ++ WCD2)))) →
+    new ≡ placed out at (trailer-bytes Sharper (answer-fields a at tolerance n c))
+unfolding trailer-bytes letters answer-fields number-bytes
 trailer-placed out at tolerance n c v a h ev e f =
     placed-next out at (number-bytes 4 at ++ (number-bytes 2 (verdict-number (a .verdict)) ++ (number-bytes 2 (a .steps) ++ number-bytes 4 tolerance)))
-    (number-bytes 8 (a .distance) ++ (number-bytes 8 (a .gap) ++ (number-bytes 2 n ++ (number-bytes 2 c ++ WCD1)))) (at + 12) (rw ev at e) f refl (omega arith)
+    (number-bytes 8 (a .distance) ++ (number-bytes 8 (a .gap) ++ (number-bytes 2 n ++ (number-bytes 2 c ++ WCD2)))) (at + 12) (rw ev at e) f refl (omega arith)
 
 pub pair-none : (boat q : ℕ) → q ≡ 0 → pair boat q ≡ []
 unfolding pair

@@ -4,13 +4,14 @@ ghost use mathlib.Core.List.{[], _∷_, _++_};
 ghost use Prim.Native.Nat.{_+_, _≤_};
 ghost use lib.ListN.{length, take};
 ghost use Rattle.files.specs.Bytes.{number-bytes};
+ghost use Rattle.method.specs.declared.Test.the-variants.{Sharper};
 ghost use Rattle.method.specs.Iterates.{support};
-ghost use Rattle.card_format.specs.Format.{pair, pairs, WCD1, trailer-bytes, answer-fields};
+ghost use Rattle.card_format.specs.Format.{pair, pairs, WCD2, trailer-bytes, answer-fields};
 ghost use Rattle.card_output.specs.Output.{placed};
 use method::Answer;
 
-// The letters WCD1 as a number.
-const LETTERS: u64 = 826557271;
+// The letters WCD2 as a number.
+const LETTERS: u64 = 843334487;
 
 // The `width` bytes of a number from `at` on, the lowest first.
 pub fn put(output: &mut [u8], at: usize, width: usize, number: u64)
@@ -91,7 +92,7 @@ fn put_head(output: &mut [u8], at: usize, back: u64, verdict: u64, steps: u64, t
 // The 24 bytes of a trailer after those.
 fn put_rest(output: &mut [u8], at: usize, distance: u64, gap: u64, boats: u64, columns: u64)
     requires { ⌜ at + 24 ≤ length (now output) ⌝ }
-    ensures { λ _. ⌜ now (output .exit) ≡ placed (now (output .entry)) at (number-bytes 8 distance ++ (number-bytes 8 gap ++ (number-bytes 2 boats ++ (number-bytes 2 columns ++ WCD1)))) ⌝ }
+    ensures { λ _. ⌜ now (output .exit) ≡ placed (now (output .entry)) at (number-bytes 8 distance ++ (number-bytes 8 gap ++ (number-bytes 2 boats ++ (number-bytes 2 columns ++ WCD2)))) ⌝ }
 {
     put(output, at, 8, distance);
     put(output, at + 8, 8, gap);
@@ -110,7 +111,7 @@ pub fn put_trailer(
     columns: usize,
 )
     requires { ⌜ at + 36 ≤ length (now output) ⌝ }
-    ensures { λ _. ⌜ now (output .exit) ≡ placed (now (output .entry)) at (trailer-bytes (answer-fields a at tolerance boats columns)) ⌝ }
+    ensures { λ _. ⌜ now (output .exit) ≡ placed (now (output .entry)) at (trailer-bytes Sharper (answer-fields a at tolerance boats columns)) ⌝ }
 {
     let verdict = a.verdict;
     put_head(

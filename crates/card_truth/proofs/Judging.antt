@@ -1,17 +1,19 @@
 -- What a card of right form is known by, and the outcomes of `judged`: refused by 37, 38 or 39, or answered.
 use mathlib.Core.Path.{_≡_, refl, sym, ap, _∙_}
-use mathlib.Core.Bool.{Bool, true, false, not}
+use mathlib.Core.Bool.{Bool, true, false, _||_, not}
 use mathlib.Core.List.{List}
 use Prim.Native.Nat.{ℕ, _-_, _≤_}
 use native.Mathlib.Omega.{arith}
 use borrow.Author.Tests.{eqb-true, eq-eqb, ne-eqb, not-true, not-false}
 use lib.Dec.{leb}
-use lib.ListN.{length, take, drop}
+use lib.ListN.{length, take}
 use Rattle.frank_wolfe.specs.Vectors.{sum}
-use Rattle.files.specs.Bytes.{number, same, between, length-in-range, trailer}
+use Rattle.files.specs.Bytes.{number, between, length-in-range}
 use Rattle.files.specs.Book.{boats}
 use Rattle.files.specs.Sheet.{sheet, files-refusal}
 use Rattle.files.proofs.Refusal.{and-true, between-true}
+use Rattle.method.specs.declared.Test.{Test}
+use Rattle.method.specs.declared.Test.the-variants.{Former, Sharper}
 use Rattle.method.specs.declared.Answer.{Answer}
 use Rattle.method.specs.declared.Searched.the-variants.{Refused, Answered}
 use Rattle.method.specs.Problem.{fixed, problem, weight}
@@ -19,7 +21,7 @@ use Rattle.method.specs.Answers.{outcome}
 use Rattle.iteration.specs.declared.Layout.{Layout}
 use Rattle.iteration.specs.States.{file-layout}
 use Rattle.iteration.proofs.States.{book-fits, sheet-fits}
-use Rattle.card_format.specs.Format.{WCD1, card-fields, card-body, pair-count}
+use Rattle.card_format.specs.Format.{card-fields, lettered, card-test, card-body, pair-count}
 use Rattle.card_format.specs.Checks.{back-fits, pairs-in-order, shares-total, numbers-agree, truth-refusal}
 use Rattle.method.specs.Bounds.{answer-of}
 use Rattle.card_format.proofs.Truth.{passed, Back-fits, back-means}
@@ -37,7 +39,7 @@ pub formed : (n c steps : ℕ) (w : List ℕ) → form-refusal n c steps w ≡ 0
 unfolding form-refusal length-in-range steps-fit
 formed n c steps w e =
     let p1 = passed (between 36 40000 (length w)) 30 _ e in
-    let p2 = passed (same (drop 32 (trailer 36 w)) WCD1) 31 _ (p1 .1) in
+    let p2 = passed (lettered Former w || lettered Sharper w) 31 _ (p1 .1) in
     let p3 = passed (counts-agree n c w) 32 _ (p2 .1) in
     let p4 = passed (steps-fit steps w) 33 _ (p3 .1) in
     let p5 = passed (back-fits n (card-fields w .back) w) 34 _ (p4 .1) in
@@ -67,7 +69,7 @@ module _ (b s w : List ℕ) (ok : files-refusal b s ≡ 0) {l : Layout} (e : l �
     unfolding file-layout
     total-is = sym (eg ∙ rw e)
 
-    pub total-refused : not g ≡ true → Refused 37 ≡ outcome (truth-refusal (problem b s) qs w) (answer-of (problem b s) qs (card-fields w .steps))
+    pub total-refused : not g ≡ true → Refused 37 ≡ outcome (truth-refusal (problem b s) qs w) (answer-of (card-test w) (problem b s) qs (card-fields w .steps))
     unfolding problem truth-refusal outcome
     total-refused k = rw (total-is, not-true g k) refl
 
@@ -79,20 +81,20 @@ module _ (b s w : List ℕ) (ok : files-refusal b s ≡ 0) {l : Layout} (e : l �
       unfolding shares-total
       total-asked = rw et (eqb-true _ _ (and-true (leb (pair-count w) (card-fields w .steps)) _ (total-is ∙ not-false g g₁) .1))
 
-      module _ {a : Answer} (ea : a ≡ answer-of (problem b s) qs t) where
-        answer-is : a ≡ answer-of (problem b s) qs (card-fields w .steps)
-        answer-is = ea ∙ rw et
+      module _ {test : Test} (eq : test ≡ card-test w) {a : Answer} (ea : a ≡ answer-of test (problem b s) qs t) where
+        answer-is : a ≡ answer-of (card-test w) (problem b s) qs (card-fields w .steps)
+        answer-is = ea ∙ rw (eq, et)
 
         module _ {k : ℕ} (ek : k ≡ sheet s .steps) (h : Bool) (eh : h ≡ numbers-agree k w a) where
-          numbers-are : numbers-agree (sheet s .steps) w (answer-of (problem b s) qs (card-fields w .steps)) ≡ h
+          numbers-are : numbers-agree (sheet s .steps) w (answer-of (card-test w) (problem b s) qs (card-fields w .steps)) ≡ h
           numbers-are = sym (eh ∙ rw (ek, answer-is))
 
-          pub numbers-refused : not h ≡ true → Refused 38 ≡ outcome (truth-refusal (problem b s) qs w) (answer-of (problem b s) qs (card-fields w .steps))
+          pub numbers-refused : not h ≡ true → Refused 38 ≡ outcome (truth-refusal (problem b s) qs w) (answer-of (card-test w) (problem b s) qs (card-fields w .steps))
           unfolding problem truth-refusal outcome
           numbers-refused q = rw (total-is, not-false g g₁, numbers-are, not-true h q) refl
 
           module _ (h₁ : not h ≡ false) {x : ℕ} (ex : x ≡ number (length w - 28) 4 w) {τ : ℕ} (eτ : τ ≡ sheet s .tolerance) where
-            pub tolerance-refused : (x ≡ τ → ⊥) → Refused 39 ≡ outcome (truth-refusal (problem b s) qs w) (answer-of (problem b s) qs (card-fields w .steps))
+            pub tolerance-refused : (x ≡ τ → ⊥) → Refused 39 ≡ outcome (truth-refusal (problem b s) qs w) (answer-of (card-test w) (problem b s) qs (card-fields w .steps))
             unfolding problem truth-refusal outcome
             tolerance-refused q = rw (total-is, not-false g g₁, numbers-are, not-false h h₁, tolerance-at w (f .long), ← ex, ← eτ, ne-eqb x τ q) refl
 
@@ -100,6 +102,6 @@ module _ (b s w : List ℕ) (ok : files-refusal b s ≡ 0) {l : Layout} (e : l �
             unfolding problem truth-refusal
             accepts q = rw (total-is, not-false g g₁, numbers-are, not-false h h₁, tolerance-at w (f .long), ← ex, ← eτ, eq-eqb x τ q) refl
 
-            pub judged-true : x ≡ τ → Answered a ≡ outcome (truth-refusal (problem b s) qs w) (answer-of (problem b s) qs (card-fields w .steps))
+            pub judged-true : x ≡ τ → Answered a ≡ outcome (truth-refusal (problem b s) qs w) (answer-of (card-test w) (problem b s) qs (card-fields w .steps))
             unfolding outcome
             judged-true q = rw (accepts q) (ap Answered answer-is)

@@ -11,7 +11,7 @@ ghost use Rattle.method.specs.Problem.{fixed, problem};
 ghost use Rattle.method.specs.Answers.{outcome};
 ghost use Rattle.method.specs.Bounds.{answer-of};
 ghost use Rattle.iteration.specs.States.{file-layout};
-ghost use Rattle.card_format.specs.Format.{card-fields, pair-count};
+ghost use Rattle.card_format.specs.Format.{card-fields, card-test, pair-count};
 ghost use Rattle.card_format.specs.Checks.{shares-total, numbers-agree, truth-refusal};
 ghost use Rattle.card_truth.specs.Truth.{Card-readable};
 use iteration::Layout;
@@ -50,7 +50,8 @@ fn numbers_agree(card: &[u8], steps: u32, a: Answer) -> bool
     verdicts::stops(steps, card_input::steps_used(card), verdict)
 }
 
-// What a card says judged by the first shares, one a boat: the number, 37 to 39, that refuses it, or its answer.
+// What a card says judged by the first shares, one a boat, and the test of its letters: the number, 37 to 39, that refuses it, or
+// its answer.
 pub fn judged(
     book: &[u8],
     sheet: &[u8],
@@ -61,12 +62,19 @@ pub fn judged(
     requires { ⌜ files-refusal (now book) (now sheet) ≡ 0 ⌝ }
     requires { ⌜ layout ≡ file-layout (now book) (now sheet) ⌝ }
     requires { ⌜ Card-readable (Sheets.sheet (now sheet) .steps) (now card) ⌝ }
-    ensures { λ r. ⌜ r ≡ outcome (truth-refusal (problem (now (book .entry)) (now (sheet .entry))) (take (boats (now (book .entry))) shares) (now (card .entry))) (answer-of (problem (now (book .entry)) (now (sheet .entry))) (take (boats (now (book .entry))) shares) (card-fields (now (card .entry)) .steps)) ⌝ }
+    ensures { λ r. ⌜ r ≡ outcome (truth-refusal (problem (now (book .entry)) (now (sheet .entry))) (take (boats (now (book .entry))) shares) (now (card .entry))) (answer-of (card-test (now (card .entry))) (problem (now (book .entry)) (now (sheet .entry))) (take (boats (now (book .entry))) shares) (card-fields (now (card .entry)) .steps)) ⌝ }
 {
     if !shares_total(card, shares, layout.boats) {
         return Searched::Refused(37);
     }
-    let answer = mixture::answer_of(book, sheet, layout, shares, card_input::steps_used(card));
+    let answer = mixture::answer_of(
+        card_input::test_of(card),
+        book,
+        sheet,
+        layout,
+        shares,
+        card_input::steps_used(card),
+    );
     if !numbers_agree(card, files::steps(sheet), answer) {
         return Searched::Refused(38);
     }

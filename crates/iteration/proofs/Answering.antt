@@ -10,6 +10,7 @@ use Rattle.files.specs.Bytes.{values}
 use Rattle.files.specs.Book.{columns, rows}
 use Rattle.files.specs.Sheet.{sheet, target-offset, files-refusal}
 use Rattle.frank_wolfe.specs.Vectors.{ones}
+use Rattle.method.specs.declared.Test.the-variants.{Sharper}
 use Rattle.method.specs.Problem.{fixed, problem, weight}
 use Rattle.method.specs.Iterates as M
 use Rattle.method.specs.Iterates.{direction, residual}
@@ -61,12 +62,12 @@ module _ (b s : List ℕ) (ok : files-refusal b s ≡ 0) {t : ℕ} {x : State} (
         numbers = rw (H .steps-are) measurable;
       })
 
-  pub answer-measured : measure (suc t) w (sheet s .tolerance) (take (columns b) (x .residual)) (values (columns b) (drop (target-offset s) s)) (x .least)
-      ≡ answer-at (problem b s) (suc t) (iterate-of b s (suc t))
-  answer-measured = rw (front, target-is b s ok, least-is) (mixed-answer b s ok (omega arith) few (mixed b s ok (suc t)))
+  pub answer-measured : measure Sharper (suc t) w (sheet s .tolerance) (take (columns b) (x .residual)) (values (columns b) (drop (target-offset s) s)) (x .least)
+      ≡ answer-at Sharper (problem b s) (suc t) (iterate-of b s (suc t))
+  answer-measured = rw (front, target-is b s ok, least-is) (mixed-answer b s ok (omega arith) few (mixed b s ok (suc t)) Sharper)
 
   pub answer-right : {l : Layout} → l ≡ file-layout b s →
-      measure (x .steps) (weight fixed (x .steps)) (sheet s .tolerance) (take (l .columns) (x .residual)) (values (l .columns) (drop (l .target) s)) (x .least)
-      ≡ answer-at (problem b s) (suc t) (iterate-of b s (suc t))
+      measure Sharper (x .steps) (weight fixed (x .steps)) (sheet s .tolerance) (take (l .columns) (x .residual)) (values (l .columns) (drop (l .target) s)) (x .least)
+      ≡ answer-at Sharper (problem b s) (suc t) (iterate-of b s (suc t))
   unfolding file-layout
   answer-right e = rw (e, H .steps-are) answer-measured

@@ -9,6 +9,7 @@ use Rattle.files.specs.Bytes.{values}
 use Rattle.files.specs.Book.{boats, columns, rows}
 use Rattle.files.specs.Sheet.{sheet, files-refusal}
 use Rattle.frank_wolfe.specs.Vectors.{add, subtract, scale}
+use Rattle.method.specs.declared.Test.the-variants.{Sharper}
 use Rattle.method.specs.declared.Answer.{Answer}
 use Rattle.method.specs.Problem.{problem, weight}
 use Rattle.method.specs.Iterates.{argmin, residual}
@@ -60,6 +61,6 @@ module _ (b s : List ℕ) (ok : files-refusal b s ≡ 0) {i : ℕ} (h : i ≡ ar
       unfolding weight
       first-measurable = answerable b s ok held (omega arith) e .numbers
 
-      pub first-right : {a : Answer} → a ≡ measure 1 1 (sheet s .tolerance) (take (l .columns) r) (values (l .columns) (drop (l .target) s)) z → a ≡ answer-at (problem b s) 1 (iterate-of b s 1)
+      pub first-right : {a : Answer} → a ≡ measure Sharper 1 1 (sheet s .tolerance) (take (l .columns) r) (values (l .columns) (drop (l .target) s)) z → a ≡ answer-at Sharper (problem b s) 1 (iterate-of b s 1)
       unfolding weight
       first-right f = f ∙ answer-right b s ok held (omega arith) e

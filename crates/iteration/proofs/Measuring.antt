@@ -14,6 +14,7 @@ use Rattle.frank_wolfe.specs.Vectors.{inner, squared-norm}
 use Rattle.method.specs.Iterates.{natural}
 use Rattle.method.specs.Answers.{verdict}
 use Rattle.verdicts.specs.Sizes.{Judgeable}
+use Rattle.method.specs.declared.Test.{Test}
 use Rattle.method.specs.declared.Answer.{Answer}
 use Rattle.method.specs.declared.Verdict.{Verdict}
 use Rattle.sums.specs.Operands.{Gap-sized}
@@ -40,8 +41,8 @@ module _ {r : List ℤ} {w : ℕ} {least : ℤ} {s : List ℕ} {l : Layout} (m :
       pub judgeable : Judgeable τ w e g
       judgeable = rw (et, ee, gap-is) (m .judged)
 
-      pub answer-is : (t : ℕ) {v : Verdict} → v ≡ verdict τ w e g →
+      pub answer-is : (test : Test) (t : ℕ) {v : Verdict} → v ≡ verdict test τ w e g →
           _≡_ {A = Answer} (record { steps = t; weight = w; distance = e; gap = g; verdict = v })
-          (measure t w (sheet s .tolerance) (take (l .columns) r) (values (l .columns) (drop (l .target) s)) least)
+          (measure test t w (sheet s .tolerance) (take (l .columns) r) (values (l .columns) (drop (l .target) s)) least)
       unfolding measure
-      answer-is t ev = rw (ev, et, ee, gap-is)
+      answer-is test t ev = rw (ev, et, ee, gap-is)

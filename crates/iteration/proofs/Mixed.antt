@@ -12,6 +12,7 @@ use Rattle.files.specs.Book.{columns, rows}
 use Rattle.files.specs.Sheet.{sheet, files-refusal}
 use Rattle.frank_wolfe.specs.Vectors.{inner, weighted, weighted-norm, ones, squared-norm}
 use Rattle.frank_wolfe.proofs.Vectors.{weighted-ones, norm-ones}
+use Rattle.method.specs.declared.Test.{Test}
 use Rattle.method.specs.Problem.{fixed, problem, weight}
 use Rattle.method.specs.Iterates as M
 use Rattle.method.specs.Iterates.{Iterate, residual, distance, gap, natural, argmin, row}
@@ -96,6 +97,6 @@ module _ (b s : List ℕ) (ok : files-refusal b s ≡ 0) {t : ℕ} {x : Iterate}
         gap = lt-of-le-of-lt (gap-most (well-formed b s ok) (in-range b s ok) m some-weight) (weight-fits (weight-most few) (le-refl 1024000000));
       })
 
-  pub mixed-answer : measure t w (sheet s .tolerance) r u (minimum (M.scores (ones (columns b)) r (rows b))) ≡ answer-at (problem b s) t x
+  pub mixed-answer : (test : Test) → measure test t w (sheet s .tolerance) r u (minimum (M.scores (ones (columns b)) r (rows b))) ≡ answer-at test (problem b s) t x
   unfolding problem measure answer-at distance natural
-  mixed-answer = rw (gap-integer, norm-is)
+  mixed-answer test = rw (gap-integer, norm-is)

@@ -10,6 +10,7 @@ use Rattle.method.specs.Problem.{fixed, weight}
 use Rattle.method.specs.Iterates.{natural}
 use Rattle.method.specs.Answers.{verdict}
 use Rattle.verdicts.specs.Sizes.{Judgeable}
+use Rattle.method.specs.declared.Test.{Test}
 use Rattle.method.specs.declared.Answer.{Answer}
 use Rattle.sums.specs.Operands.{Bounded, Span, Gap-sized}
 use Rattle.iteration.specs.declared.Layout.{Layout}
@@ -22,12 +23,12 @@ tolerance-of s = sheet s .tolerance
 abbrev pub gap-by : (w : ℕ) → (r u : List ℤ) → (least : ℤ) → ℤ
 gap-by w r u least = pos (squared-norm r) +ℤ pos w *ℤ (inner r u -ℤ least)
 
--- the answer after t steps, of residual r and total w, for the target u and the least score
-unfoldable pub measure : (t w tolerance : ℕ) → (r u : List ℤ) → (least : ℤ) → Answer
-measure t w tolerance r u least =
+-- the answer after t steps, of residual r and total w, for the target u and the least score, judged by the test
+unfoldable pub measure : Test → (t w tolerance : ℕ) → (r u : List ℤ) → (least : ℤ) → Answer
+measure test t w tolerance r u least =
     let e = squared-norm r in
     let g = natural (gap-by w r u least) in
-    record { steps = t; weight = w; distance = e; gap = g; verdict = verdict tolerance w e g }
+    record { steps = t; weight = w; distance = e; gap = g; verdict = verdict test tolerance w e g }
 
 -- its numbers keep to the machine's
 pub record Measurable (r : List ℤ) (w : ℕ) (least : ℤ) (s : List ℕ) (l : Layout) : Type 0 where

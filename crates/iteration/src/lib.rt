@@ -9,6 +9,7 @@ ghost use lib.IntN.{pos};
 ghost use Rattle.files.specs.Book.{boats, columns};
 ghost use Rattle.files.specs.Sheet.{files-refusal};
 ghost use Rattle.files.specs.Bytes.{values};
+ghost use Rattle.method.specs.declared.Test.the-variants.{Sharper};
 ghost use Rattle.method.specs.Problem.{fixed, weight, problem};
 ghost use Rattle.method.specs.Iterates.{argmin};
 ghost use Rattle.method.specs.Answers.{answer-at};
@@ -16,6 +17,7 @@ ghost use Rattle.scoring.specs.Scores.{least-of};
 ghost use Rattle.iteration.specs.States.{file-layout, boat-difference, boat-products, iterate-of, scores-of, fresh-state, Holds};
 ghost use Rattle.iteration.specs.Measures.{measure, tolerance-of, Measurable, Answerable};
 use method::Answer;
+use method::Test;
 use scoring::Least;
 
 // Where the rows of a fleet book and the target of a sheet stand in their bytes: the offset of the first row, and of the target.
@@ -133,17 +135,25 @@ impl State {
     }
 }
 
-// The answer of a residual r of total w after so many steps, with the least of the boats' scores.
-pub fn measured(steps: u32, w: u32, r: &[i32], least: i64, sheet: &[u8], layout: Layout) -> Answer
+// The answer of a residual r of total w after so many steps, with the least of the boats' scores, judged by the test.
+pub fn measured(
+    test: Test,
+    steps: u32,
+    w: u32,
+    r: &[i32],
+    least: i64,
+    sheet: &[u8],
+    layout: Layout,
+) -> Answer
     requires { ⌜ Measurable (now r) w least (now sheet) layout ⌝ }
-    ensures { λ x. ⌜ x ≡ measure steps w (tolerance-of (now (sheet .entry))) (take (layout .columns) (now (r .entry))) (values (layout .columns) (drop (layout .target) (now (sheet .entry)))) least ⌝ }
+    ensures { λ x. ⌜ x ≡ measure test steps w (tolerance-of (now (sheet .entry))) (take (layout .columns) (now (r .entry))) (values (layout .columns) (drop (layout .target) (now (sheet .entry)))) least ⌝ }
 {
     let columns = layout.columns;
     let target = layout.target;
     let e = sums::squared_norm(r, columns);
     let target_score = sums::inner_at(r, sheet, target, columns);
     let g = sums::gap_of(e, w, target_score, least);
-    let verdict = verdicts::judge(files::tolerance(sheet), w, e, g);
+    let verdict = verdicts::judge(test, files::tolerance(sheet), w, e, g);
     Answer {
         steps,
         weight: w,
@@ -158,7 +168,7 @@ pub fn first_answer(boat: usize, book: &[u8], sheet: &[u8], layout: Layout) -> A
     requires { ⌜ files-refusal (now book) (now sheet) ≡ 0 ⌝ }
     requires { ⌜ layout ≡ file-layout (now book) (now sheet) ⌝ }
     requires { ⌜ boat ≡ argmin (scores-of (now book) (now sheet) 0) ⌝ }
-    ensures { λ x. ⌜ x ≡ answer-at (problem (now (book .entry)) (now (sheet .entry))) 1 (iterate-of (now (book .entry)) (now (sheet .entry)) 1) ⌝ }
+    ensures { λ x. ⌜ x ≡ answer-at Sharper (problem (now (book .entry)) (now (sheet .entry))) 1 (iterate-of (now (book .entry)) (now (sheet .entry)) 1) ⌝ }
 {
     let rows = layout.rows;
     let target = layout.target;
@@ -166,17 +176,25 @@ pub fn first_answer(boat: usize, book: &[u8], sheet: &[u8], layout: Layout) -> A
     let at = rows + 2 * (boat * columns);
     let pick = least_product_of(boat, book, sheet, layout);
     let r = sums::moved([0i32; 64], book, at, sheet, target, columns, 1);
-    measured(1, 1, &r, pick.score, sheet, layout)
+    measured(Test::Sharper, 1, 1, &r, pick.score, sheet, layout)
 }
 
 impl State {
     // The answer after the steps taken.
     pub fn answer(self, sheet: &[u8], layout: Layout) -> Answer
         requires { ⌜ Answerable self (now sheet) layout ⌝ }
-        ensures { λ x. ⌜ x ≡ measure (self .steps) (weight fixed (self .steps)) (tolerance-of (now (sheet .entry))) (take (layout .columns) (self .residual)) (values (layout .columns) (drop (layout .target) (now (sheet .entry)))) (self .least) ⌝ }
+        ensures { λ x. ⌜ x ≡ measure Sharper (self .steps) (weight fixed (self .steps)) (tolerance-of (now (sheet .entry))) (take (layout .columns) (self .residual)) (values (layout .columns) (drop (layout .target) (now (sheet .entry)))) (self .least) ⌝ }
     {
         let t = self.steps;
         let r = self.residual;
-        measured(t, totals::total_after(t), &r, self.least, sheet, layout)
+        measured(
+            Test::Sharper,
+            t,
+            totals::total_after(t),
+            &r,
+            self.least,
+            sheet,
+            layout,
+        )
     }
 }

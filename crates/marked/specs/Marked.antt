@@ -94,8 +94,8 @@ marked-sheets =
       book = fleet-P;
       sheet = sheet-bytes (pos 5 ∷ pos 5 ∷ []) 1 9;
       slots = lent 3;
-      result = Answered (record { steps = 2; weight = 3; distance = 170; gap = 32; verdict = Beyond (pos 106) });
-      left = 0 ∷ 1 ∷ 2 ∷ 7 ∷ 7 ∷ [];
+      result = Answered (record { steps = 1; weight = 1; distance = 26; gap = 16; verdict = Beyond (negsuc 5) });
+      left = 0 ∷ 1 ∷ 0 ∷ 7 ∷ 7 ∷ [];
     } ∷
     -- e
     record {

@@ -9,6 +9,8 @@ use lib.Dec.{lit≤}
 use lib.ListN.{length}
 use Rattle.frank_wolfe.specs.Vectors.{sum}
 use Rattle.integers.proofs.Order.{≤→≤ℤ}
+use Rattle.method.specs.declared.Test.{Test}
+use Rattle.method.specs.declared.Test.the-variants.{Former, Sharper}
 use Rattle.method.specs.Problem.{Problem, weight}
 use Rattle.method.specs.Iterates.{Iterate, iterate, distance, gap, support}
 use Rattle.method.specs.Answers.{stops, answer-at, steps-used, run-iterate, run-answer}
@@ -17,28 +19,28 @@ use Rattle.method.proofs.Weights.{weight-positive, weight-fits}
 use Rattle.method.proofs.Shares.{mixed-is, shares-mixed, iterate-mixed, iterate-support}
 use Rattle.method.proofs.Mixtures.{Well-formed, In-range, Sized, gap-is, distance-is, gap-bound, beyond-bound, distance-most, gap-most}
 use Rattle.method.proofs.Iterates.{step-bound, spent-bound}
-use Rattle.method.proofs.Verdicts.{verdict-means, within-means, beyond-means, spent-means, stops-spent}
+use Rattle.method.proofs.Verdicts.{verdict-means, within-means, beyond-means, spent-means, beyond-wherever, unstopped-former, stops-spent}
 use Rattle.method.proofs.Running.{stops-at, stopped}
 
 -- the answer of a run is that of its shares
-pub run-is : {p : Problem} → Well-formed p → run-answer p ≡ answer-of p (run-iterate p .shares) (run-answer p .steps)
+pub run-is : {p : Problem} → Well-formed p → run-answer p ≡ answer-of Sharper p (run-iterate p .shares) (run-answer p .steps)
 unfolding run-answer run-iterate answer-at
 run-is {p} h =
     let t = steps-used p in
-    unfold answer-at in ap (answer-at p t) (mixed-is (iterate-mixed p (h .some-row) (h .wide) t))
+    unfold answer-at in ap (answer-at Sharper p t) (mixed-is (iterate-mixed p (h .some-row) (h .wide) t))
 
 module _ {p : Problem} (h : Well-formed p) (f : In-range p) (z : Sized p) where
   -- shares, one a vertex, of the total of t steps
-  pub answer-bounds : (shares : List ℕ) (t : ℕ) →
+  pub answer-bounds : (test : Test) (shares : List ℕ) (t : ℕ) →
       length shares ≡ length (p .vertices) → sum shares ≡ weight (p .schedule) t → support shares ≤ t → 1 ≤ t → t ≤ p .steps →
-      stops (p .steps) t (answer-of p shares t .verdict) ≡ true → Answer-bounds p (answer-of p shares t) shares
+      stops (p .steps) t (answer-of test p shares t .verdict) ≡ true → Answer-bounds test p (answer-of test p shares t) shares
   unfolding answer-at
-  answer-bounds shares t one total boats some most here =
+  answer-bounds test shares t one total boats some most here =
       let x = mixture-iterate p shares in
       let m = shares-mixed p t shares one total in
       let few : weight (p .schedule) t ≤ 64980 = z .weights t most in
       let hw : 1 ≤ weight (p .schedule) t = weight-positive (h .schedule-fits) some in
-      let means = verdict-means (p .tolerance) (weight (p .schedule) t) (distance p t x) (gap p t x) in
+      let means = verdict-means test (p .tolerance) (weight (p .schedule) t) (distance p t x) (gap p t x) in
       record {
         share-count = one;
         total = total;
@@ -51,8 +53,9 @@ module _ {p : Problem} (h : Well-formed p) (f : In-range p) (z : Sized p) where
         own-gap = gap-is h hw m;
         gap-bound = λ qs e hq. gap-bound h hw m _ (lit≤ tt) qs e;
         within = λ v. within-means means v;
-        beyond = λ floor v qs e hq. beyond-bound h hw m (p .tolerance) (beyond-means means floor v .0) qs e hq;
-        beyond-above = λ floor v. beyond-means means floor v .0;
+        beyond = λ floor v qs e hq. beyond-bound h hw m test (p .tolerance) (beyond-means means floor v .0) qs e hq;
+        beyond-tested = λ floor v. beyond-means means floor v .0;
+        beyond-former = beyond-wherever test (p .tolerance) (weight (p .schedule) t) (distance p t x) (gap p t x);
         beyond-floor = λ floor v. beyond-means means floor v .1;
         spent-undecided = λ short v. spent-means means short v .1;
         spent-above = λ short v. spent-means means short v .0;
@@ -70,14 +73,15 @@ module _ {p : Problem} (h : Well-formed p) (f : In-range p) (z : Sized p) where
       let x = iterate p t in
       let m = iterate-mixed p (h .some-row) (h .wide) t in
       let st = stopped p (z .some-steps) in
-      let here : stops (p .steps) t (answer-of p (x .shares) t .verdict) ≡ true =
-      ap (λ (y : Iterate). stops (p .steps) t (answer-at p t y .verdict)) (sym (mixed-is m)) ∙ st .here in
-      let own : Answer-bounds p (answer-at p t x) (x .shares) =
-      subst (λ (y : Iterate). Answer-bounds p (answer-at p t y) (x .shares)) (sym (mixed-is m))
-      (answer-bounds (x .shares) t (m .count) (m .total) (iterate-support p t) (st .later) (omega (arith, st .most)) here) in
+      let here : stops (p .steps) t (answer-of Sharper p (x .shares) t .verdict) ≡ true =
+      ap (λ (y : Iterate). stops (p .steps) t (answer-at Sharper p t y .verdict)) (sym (mixed-is m)) ∙ st .here in
+      let own : Answer-bounds Sharper p (answer-at Sharper p t x) (x .shares) =
+      subst (λ (y : Iterate). Answer-bounds Sharper p (answer-at Sharper p t y) (x .shares)) (sym (mixed-is m))
+      (answer-bounds Sharper (x .shares) t (m .count) (m .total) (iterate-support p t) (st .later) (omega (arith, st .most)) here) in
       record {
         answer = own;
         first = λ j a k. st .first j a k;
+        first-former = λ j a k. unstopped-former (p .steps) j (p .tolerance) (weight (p .schedule) j) (distance p j (iterate p j)) (gap p j (iterate p j)) (st .first j a k);
         every-gap = λ j a. rw (gap-is h (weight-positive (h .schedule-fits) a) (iterate-mixed p (h .some-row) (h .wide) j)) (≤→≤ℤ (omega arith));
         step-bound = λ qs e hq. step-bound h t qs e;
         spent = λ short v qs e hq. spent-bound h t qs e (p .tolerance) (st .later) (le-of-lt (own .spent-above short v));

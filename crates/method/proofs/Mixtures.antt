@@ -1,23 +1,31 @@
 -- What holds of any mixture of the vertices, a run's or a card's: its gap by the least score, that the gap is not negative,
 -- the bounds that the gap gives, and how large the numbers are.
 use mathlib.Core.Path.{_≡_, refl, sym, ap, _∙_}
+use mathlib.Core.Bool.{true}
 use mathlib.Core.List.{List, [], _∷_}
-use Prim.Native.Nat.{ℕ, _+_, _*_, _≤_, _<_}
-use native.Mathlib.Nat.{le-trans, add-le-add, mul-le-mul-right, le-refl}
+use Prim.Native.Nat.{ℕ, _+_, _*_, _-_, _≤_, _<_}
+use native.Mathlib.Nat.{le-trans, le-of-lt, add-le-add, mul-le-mul-right, le-refl}
 use native.Mathlib.Omega.{arith}
+use borrow.Author.Tests.{ltb-true}
+use lib.Dec.{ltb}
 use lib.IntN.{ℤ, pos, negsuc, natAbs, _+ℤ_, _-ℤ_, _*ℤ_}
 use lib.ListN.{length}
 use lib.Signed.{_≤ℤ_}
 use Rattle.integers.proofs.Solver.{con, _⊕_, _⊗_, _⊝_, x₀, x₁, x₂, x₃, solve}
 use Rattle.integers.proofs.Order.{≤→≤ℤ, ≤ℤ→≤, <→<ℤ, <ℤ→<}
+use Rattle.integers.proofs.Bounds.{pos-sub}
 use Rattle.integers.proofs.Facts.{_≼_, known, _⊡_, derive}
+use Rattle.files.proofs.Refusal.{and-true}
 use Rattle.frank_wolfe.specs.Method.{Space, Residual, Mixture, Gap}
 use Rattle.frank_wolfe.specs.Theorem.{Compared}
 use Rattle.frank_wolfe.specs.Vectors.{subtract, scale, weighted, sum, combination, Among}
 use Rattle.frank_wolfe.proofs.Vectors.{factored, Wide, residual-is, mixture-is, compared-is, norm-weighted, length-scale, length-subtract}
 use Rattle.frank_wolfe.proofs.Theorem.{frank-wolfe}
+use Rattle.method.specs.declared.Test.{Test}
+use Rattle.method.specs.declared.Test.the-variants.{Former, Sharper}
 use Rattle.method.specs.Problem.{Problem, weight}
 use Rattle.method.specs.Iterates.{Iterate, residual, row, scores, argmin, distance, signed-gap, natural, gap, mixture-distance}
+use Rattle.method.specs.Answers.{is-beyond}
 use Rattle.method.specs.Minimum.{minimum}
 use Rattle.method.proofs.Weights.{Schedule-fits}
 use Rattle.method.proofs.Argmin.{argmin-below, among-row, least-score, minimum-least, inner-gap, maximum-by-minimum}
@@ -126,17 +134,45 @@ module _ {p : Problem} (h : Well-formed p) {t : ℕ} {x : Iterate} (k : 1 ≤ we
       (frank-wolfe S (Among (p .vertices)) (p .target) .gap-bound (residual-of h t x len) (gap-over h t x len k) (compared qs e))))
       (add-le-add (le-refl _) (mul-le-mul-right (sum qs * sum qs) (mul-le-mul-right (gap p t x) hc)))
 
-  pub beyond-bound : (τ : ℕ) → τ * (weight (p .schedule) t * weight (p .schedule) t) + 2 * gap p t x < distance p t x →
+  module _ (τ : ℕ) (qs : List ℕ) (e : length qs ≡ length (p .vertices)) (hq : 1 ≤ sum qs) where
+    abbrev r : List ℤ
+    r = residual p t x
+
+    abbrev ρ : List ℤ
+    ρ = subtract (combination (p .columns) qs (p .vertices)) (scale (sum qs) (p .target))
+
+    abbrev limit : ℕ
+    limit = τ * (weight (p .schedule) t * weight (p .schedule) t)
+
+    len : length (x .point) ≡ p .columns
+    len = mixed-length (h .wide) m
+
+    by-former : limit + 2 * gap p t x < distance p t x → τ * (sum qs * sum qs) < mixture-distance p qs
+    unfolding distance mixture-distance
+    by-former b =
+        <ℤ→<
+        (rw (← norm-weighted (p .factors) ρ) at
+        (frank-wolfe S (Among (p .vertices)) (p .target) .beyond (pos τ) (residual-of h t x len) (gap-over h t x len k) (compared qs e) hq
+        (rw (← norm-weighted (p .factors) r, gap-is) (<→<ℤ b))))
+
+    by-sharper : gap p t x < distance p t x →
+        limit * distance p t x < (distance p t x - gap p t x) * (distance p t x - gap p t x) → τ * (sum qs * sum qs) < mixture-distance p qs
+    unfolding distance mixture-distance
+    by-sharper above far =
+        <ℤ→<
+        (rw (← norm-weighted (p .factors) ρ) at
+        (frank-wolfe S (Among (p .vertices)) (p .target) .sharper-beyond (pos τ) (residual-of h t x len) (gap-over h t x len k) (compared qs e) hq
+        (rw gap-is (≤→≤ℤ (omega arith))) (rw (← norm-weighted (p .factors) r, gap-is) (<→<ℤ above))
+        (rw (← norm-weighted (p .factors) r, gap-is, pos-sub (distance p t x) (gap p t x) (le-of-lt above)) (<→<ℤ far))))
+
+  -- where a test holds, every mixture's squared distance is above τ
+  pub beyond-bound : (test : Test) (τ : ℕ) → is-beyond test (τ * (weight (p .schedule) t * weight (p .schedule) t)) (distance p t x) (gap p t x) ≡ true →
       (qs : List ℕ) → length qs ≡ length (p .vertices) → 1 ≤ sum qs → τ * (sum qs * sum qs) < mixture-distance p qs
-  unfolding distance mixture-distance
-  beyond-bound τ b qs e hq =
-      let r = residual p t x in
-      let ρ = subtract (combination (p .columns) qs (p .vertices)) (scale (sum qs) (p .target)) in
-      let len = mixed-length (h .wide) m in
-      <ℤ→<
-      (rw (← norm-weighted (p .factors) ρ) at
-      (frank-wolfe S (Among (p .vertices)) (p .target) .beyond (pos τ) (residual-of h t x len) (gap-over h t x len k) (compared qs e) hq
-      (rw (← norm-weighted (p .factors) r, gap-is) (<→<ℤ b))))
+  unfolding is-beyond
+  beyond-bound Former τ b qs e hq = by-former τ qs e hq (ltb-true _ _ b)
+  beyond-bound Sharper τ b qs e hq =
+      let both = and-true (ltb (gap p t x) (distance p t x)) _ b in
+      by-sharper τ qs e hq (ltb-true _ _ (both .0)) (ltb-true _ _ (both .1))
 
 -- ---- How large the numbers are
 

@@ -2,34 +2,36 @@
 -- are those of the published iterate. Assumes nothing.
 use mathlib.Core.Path.{_≡_, refl, sym, ap, ap₂, _∙_, subst}
 use mathlib.Core.Logic.{_↔_}
-use mathlib.Core.Bool.{false}
+use mathlib.Core.Bool.{Bool, true, false, _&&_}
+use borrow.Author.Tests.{leb-true, leb-false, ltb-true, lt-ltb}
 use mathlib.Core.List.{List, [], _∷_}
-use Prim.Native.Nat.{ℕ, zero, suc, _+_, _*_, _≤_, _<_}
+use Prim.Native.Nat.{ℕ, zero, suc, _+_, _*_, _-_, _≤_, _<_}
 use native.Mathlib.Omega.{arith}
 use native.Mathlib.Nat.{zero-add, one-mul, one-le-mul, le-of-lt}
-use lib.Dec.{ltb, ltb→lt, lt→ltb}
-use lib.IntN.{ℤ, pos, _-ℤ_, *ℤ-comm}
+use lib.Dec.{leb, ltb, ltb→lt}
+use lib.IntN.{ℤ, pos, _-ℤ_, _*ℤ_, *ℤ-comm}
 use lib.ListN.{length, getD, set, replicate, length-replicate}
-use Rattle.integers.proofs.Solver.{con, _⊕_, _⊗_, x₀, x₁, solve}
+use Rattle.integers.proofs.Solver.{con, _⊕_, _⊗_, x₀, x₁, x₂, solve}
 use Rattle.integers.proofs.Bounds.{pos-sub}
-use Rattle.integers.proofs.Facts.{lt-move}
+use Rattle.files.proofs.Refusal.{and-true}
 use Rattle.frank_wolfe.specs.Vectors.{add, scale}
 use Rattle.frank_wolfe.proofs.Vectors.{norm-weighted, scale-one}
 use Rattle.method.specs.Problem.{Problem, share, weight}
 use Rattle.method.specs.Iterates.{start, residual, row, direction, pick, with-shares, step, iterate, distance, signed-gap, gap}
 use Rattle.method.specs.declared.Verdict.{Verdict}
 use Rattle.method.specs.declared.Verdict.the-variants.{Within, Beyond, Spent}
-use Rattle.method.specs.Answers.{verdict, verdict-number, verdict-carries, stops, answer-at, steps-used, run-iterate, run-answer}
+use Rattle.method.specs.declared.Test.the-variants.{Sharper}
+use Rattle.method.specs.Answers.{is-beyond, verdict, verdict-number, verdict-carries, stops, answer-at, steps-used, run-iterate, run-answer}
 use Rattle.method.specs.Fractions.{Fraction, integer, Is-ratio, _-ℚ_, _*ℚ_, ltQ, _≤ℚ_, _<ℚ_, fractions}
 use Rattle.method.specs.Published.{unit-vector, gradient, step-size, move, minimizer, published-iterate, published-pick, published-distance, published-gap, published-floor}
-use Rattle.method.specs.PublishedRun.{Is-published, Published-step, Published-run}
+use Rattle.method.specs.PublishedRun.{Published-beyond, Is-published, Published-step, Published-run}
 use Rattle.method.proofs.Weights.{weight-zero, weight-suc, weight-positive}
 use Rattle.method.proofs.Argmin.{among-row}
 use Rattle.method.proofs.Shares.{Mixed, mixed-is, iterate-mixed}
 use Rattle.method.proofs.Mixtures.{Well-formed, gap-is}
 use Rattle.method.proofs.Verdicts.{Means, verdict-means, within-exactly, beyond-exactly, beyond-carries, spent-carries}
 use Rattle.method.proofs.Running.{stops-at, Stopped, stopped}
-use Rattle.method.proofs.Fractions.{one, integer-value, subtract-value, multiply-value, lt-value, le-exactly}
+use Rattle.method.proofs.Fractions.{one, integer-value, subtract-value, multiply-value, lt-value, le-exactly, same-value}
 use Rattle.method.proofs.Numerators.{integer-over, Over, over-at, over-fractions, over-difference, over-inner, over-linear-form, over-gap-terms, over-argmin, over-greatest, step-ratio, over-step, over-first}
 
 -- ---- Shares as integers
@@ -199,8 +201,8 @@ module _ {p : Problem} (wf : Well-formed p) where
 -- ---- The verdict
 
 module _ {d g : Fraction} (tolerance w : ℕ) {e f : ℕ} (hd : Is-ratio d (pos e) (w * w)) (hg : Is-ratio g (pos f) (w * w)) where
-  means : Means (tolerance * (w * w)) e f (verdict tolerance w e f)
-  means = verdict-means tolerance w e f
+  means : Means Sharper (tolerance * (w * w)) e f (verdict Sharper tolerance w e f)
+  means = verdict-means Sharper tolerance w e f
 
   tolerance-value : Is-ratio (integer (pos tolerance)) (pos (tolerance * (w * w))) (w * w)
   tolerance-value = rw (*ℤ-comm (pos tolerance) (pos (w * w))) (integer-over (pos tolerance) (hd .above-zero))
@@ -211,22 +213,53 @@ module _ {d g : Fraction} (tolerance w : ℕ) {e f : ℕ} (hd : Is-ratio d (pos 
   at-most : (d ≤ℚ integer (pos tolerance)) ↔ (e ≤ tolerance * (w * w))
   at-most = le-exactly hd tolerance-value
 
-  floor-above : ltQ (integer (pos tolerance)) (d -ℚ integer (pos 2) *ℚ g) ≡ ltb (tolerance * (w * w) + 2 * f) e
-  floor-above = lt-value tolerance-value floor-value ∙ lt-move (pos (tolerance * (w * w))) (pos e) (pos (2 * f))
-
-  within-value : (verdict-number (verdict tolerance w e f) ≡ 1) ↔ (d ≤ℚ integer (pos tolerance))
+  within-value : (verdict-number (verdict Sharper tolerance w e f) ≡ 1) ↔ (d ≤ℚ integer (pos tolerance))
   within-value = (λ q. at-most .1 (within-exactly means .0 q), λ h. within-exactly means .1 (at-most .0 h))
 
-  beyond-value : (verdict-number (verdict tolerance w e f) ≡ 2) ↔ ((¬ (d ≤ℚ integer (pos tolerance))) × (integer (pos tolerance) <ℚ d -ℚ integer (pos 2) *ℚ g))
+  -- (d - g)², and the tolerance times d, over w² w²
+  square-value : Is-ratio ((d -ℚ g) *ℚ (d -ℚ g)) ((pos e -ℤ pos f) *ℤ (pos e -ℤ pos f)) (w * w * (w * w))
+  square-value = multiply-value (subtract-value hd hg) (subtract-value hd hg)
+
+  product-value : Is-ratio (integer (pos tolerance) *ℚ d) (pos (tolerance * (w * w) * e)) (w * w * (w * w))
+  product-value =
+      same-value (multiply-value (integer-value (pos tolerance)) hd) (one-le-mul (hd .above-zero) (hd .above-zero))
+      (solve (pos tolerance ∷ pos e ∷ pos w ∷ []) (x₀ ⊗ x₁ ⊗ (x₂ ⊗ x₂ ⊗ (x₂ ⊗ x₂))) (x₀ ⊗ (x₂ ⊗ x₂) ⊗ x₁ ⊗ (con (pos 1) ⊗ (x₂ ⊗ x₂))) tt)
+
+  gap-below : ltQ g d ≡ ltb f e
+  gap-below = lt-value hg hd
+
+  square-above : f < e → ltQ (integer (pos tolerance) *ℚ d) ((d -ℚ g) *ℚ (d -ℚ g)) ≡ ltb (tolerance * (w * w) * e) ((e - f) * (e - f))
+  square-above k = lt-value product-value (rw (pos-sub e f (le-of-lt k)) at square-value)
+
+  not-within : ¬ (d ≤ℚ integer (pos tolerance)) → tolerance * (w * w) < e
+  not-within n = by (leb e (tolerance * (w * w))) refl
+    where
+      by : (t : Bool) → leb e (tolerance * (w * w)) ≡ t → tolerance * (w * w) < e
+      by true q = absurd (n (at-most .1 (leb-true e (tolerance * (w * w)) q)))
+      by false q = leb-false e (tolerance * (w * w)) q
+
+  beyond-value : (verdict-number (verdict Sharper tolerance w e f) ≡ 2)
+      ↔ ((¬ (d ≤ℚ integer (pos tolerance))) × (g <ℚ d) × (integer (pos tolerance) *ℚ d <ℚ (d -ℚ g) *ℚ (d -ℚ g)))
+  unfolding is-beyond
   beyond-value = (
-    λ q. (λ h. omega (arith, beyond-exactly means .0 q .0, at-most .0 h), record { lt = rw floor-above (lt→ltb _ _ (beyond-exactly means .0 q .1)) }),
-    λ h. let k : tolerance * (w * w) + 2 * f < e = ltb→lt _ _ (rw floor-above at (h .1 .lt)) in beyond-exactly means .1 (omega arith, k),
+    λ q.
+        let b = beyond-exactly means .0 q in
+        let both = and-true (ltb f e) (ltb (tolerance * (w * w) * e) ((e - f) * (e - f))) (b .1) in
+        (
+          λ h. omega (arith, b .0, at-most .0 h),
+          record { lt = rw (gap-below ∙ both .0) tt },
+          record { lt = rw (square-above (ltb-true f e (both .0)) ∙ both .1) tt },
+        ),
+    λ h.
+        let above : f < e = ltb→lt f e (rw gap-below at (h .1 .lt)) in
+        let far : tolerance * (w * w) * e < (e - f) * (e - f) = ltb→lt (tolerance * (w * w) * e) ((e - f) * (e - f)) (rw (square-above above) at (h .2 .lt)) in
+        beyond-exactly means .1 (not-within (h .0), ap₂ (λ s t. s && t) (lt-ltb f e above) (lt-ltb (tolerance * (w * w) * e) ((e - f) * (e - f)) far)),
   )
 
-  floor-carried : verdict-number (verdict tolerance w e f) ≡ 2 → Is-ratio (d -ℚ integer (pos 2) *ℚ g) (verdict-carries (verdict tolerance w e f)) (w * w)
+  floor-carried : verdict-number (verdict Sharper tolerance w e f) ≡ 2 → Is-ratio (d -ℚ integer (pos 2) *ℚ g) (verdict-carries (verdict Sharper tolerance w e f)) (w * w)
   floor-carried q = rw (beyond-carries means q) floor-value
 
-  shortfall-carried : verdict-number (verdict tolerance w e f) ≡ 3 → Is-ratio (d -ℚ integer (pos tolerance)) (verdict-carries (verdict tolerance w e f)) (w * w)
+  shortfall-carried : verdict-number (verdict Sharper tolerance w e f) ≡ 3 → Is-ratio (d -ℚ integer (pos tolerance)) (verdict-carries (verdict Sharper tolerance w e f)) (w * w)
   shortfall-carried q =
       let n = spent-carries means q in
       rw (n .1) (rw (pos-sub e (tolerance * (w * w)) (le-of-lt (n .0))) at (subtract-value hd tolerance-value))
@@ -247,7 +280,9 @@ is-published {p} wf (suc t) h =
       distance = d;
       gap = g;
       within = within-value (p .tolerance) (weight (p .schedule) (suc t)) d g;
-      beyond = beyond-value (p .tolerance) (weight (p .schedule) (suc t)) d g;
+      beyond =
+          let b = beyond-value (p .tolerance) (weight (p .schedule) (suc t)) d g in
+          (λ q. (b .0 q .0, record { above = b .0 q .1; far = b .0 q .2 }), λ h. b .1 (h .0, h .1 .above, h .1 .far));
       floor = floor-carried (p .tolerance) (weight (p .schedule) (suc t)) d g;
       shortfall = shortfall-carried (p .tolerance) (weight (p .schedule) (suc t)) d g;
     }
@@ -270,7 +305,7 @@ module _ {p : Problem} (wf : Well-formed p) (some : 1 ≤ p .steps) where
   each-step : (k : ℕ) → 1 ≤ k → Published-step p k
   each-step = is-published wf
 
-  spent-before : (k : ℕ) → 1 ≤ k → k < last → verdict-number (answer-at p k (iterate p k) .verdict) ≡ 3
+  spent-before : (k : ℕ) → 1 ≤ k → k < last → verdict-number (answer-at Sharper p k (iterate p k) .verdict) ≡ 3
   unfolding stops-at
   spent-before k h q = unstopped (p .steps) k _ (stopped-there .first k h q)
 
@@ -278,7 +313,7 @@ module _ {p : Problem} (wf : Well-formed p) (some : 1 ≤ p .steps) where
   unfolding answer-at
   none-within k h q w = omega (arith, each-step k h .within .1 w, spent-before k h q)
 
-  none-beyond : (k : ℕ) → 1 ≤ k → k < last → ¬ (integer (pos (p .tolerance)) <ℚ published-floor p k)
+  none-beyond : (k : ℕ) → 1 ≤ k → k < last → ¬ (Published-beyond p k)
   unfolding answer-at
   none-beyond k h q w = omega (arith, each-step k h .beyond .1 (none-within k h q, w), spent-before k h q)
 

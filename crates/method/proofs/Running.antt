@@ -7,6 +7,7 @@ use borrow.Author.Tests.{eq-eqb, ltb-true, ltb-false}
 use lib.Dec.{ltb}
 use Rattle.method.specs.declared.Verdict.{Verdict}
 use Rattle.method.specs.declared.Verdict.the-variants.{Within, Beyond, Spent}
+use Rattle.method.specs.declared.Test.the-variants.{Sharper}
 use Rattle.method.specs.Problem.{Problem}
 use Rattle.method.specs.Iterates.{Iterate, start, direction, step, iterate}
 use Rattle.method.specs.Answers.{stops, answer-at, steps-from, steps-used, run-iterate, run-answer}
@@ -23,7 +24,7 @@ pub record Running (p : Problem) (t : ℕ) (x : Iterate) : Type 0 where
 pub record Finished (p : Problem) (t : ℕ) (x : Iterate) : Type 0 where
   pub steps : t ≡ steps-used p
   pub iterated : x ≡ iterate p (steps-used p)
-  pub answer : answer-at p t x ≡ answer-at p (steps-used p) (iterate p (steps-used p))
+  pub answer : answer-at Sharper p t x ≡ answer-at Sharper p (steps-used p) (iterate p (steps-used p))
 
 pub running-start : (p : Problem) → Running p 0 (start p)
 unfolding iterate steps-used
@@ -34,7 +35,7 @@ abbrev pub next : Problem → (t : ℕ) → Iterate → Iterate
 next p t x = step p t (direction p t x) x
 
 module _ {p : Problem} {t : ℕ} {x : Iterate} (d : Running p t x) (h : t < p .steps) where
-  opened : cond (stops (p .steps) (suc t) (answer-at p (suc t) (next p t x) .verdict)) (suc t) (steps-from (p .steps - suc t) (suc t) p (next p t x)) ≡ steps-used p
+  opened : cond (stops (p .steps) (suc t) (answer-at Sharper p (suc t) (next p t x) .verdict)) (suc t) (steps-from (p .steps - suc t) (suc t) p (next p t x)) ≡ steps-used p
   unfolding steps-from
   opened = let e : p .steps - t ≡ suc (p .steps - suc t) = omega arith in rw e at (d .decides)
 
@@ -42,19 +43,19 @@ module _ {p : Problem} {t : ℕ} {x : Iterate} (d : Running p t x) (h : t < p .s
   unfolding iterate
   stepped = ap (next p t) (d .iterated)
 
-  pub running-more : stops (p .steps) (suc t) (answer-at p (suc t) (next p t x) .verdict) ≡ false → Running p (suc t) (next p t x)
+  pub running-more : stops (p .steps) (suc t) (answer-at Sharper p (suc t) (next p t x) .verdict) ≡ false → Running p (suc t) (next p t x)
   running-more e = record { within = h; iterated = stepped; decides = rw e at opened }
 
-  pub running-done : stops (p .steps) (suc t) (answer-at p (suc t) (next p t x) .verdict) ≡ true → Finished p (suc t) (next p t x)
+  pub running-done : stops (p .steps) (suc t) (answer-at Sharper p (suc t) (next p t x) .verdict) ≡ true → Finished p (suc t) (next p t x)
   running-done e =
       let n : suc t ≡ steps-used p = rw e at opened in
       record {
         steps = n;
         iterated = stepped ∙ ap (iterate p) n;
-        answer = ap (answer-at p (suc t)) stepped ∙ ap (λ k. answer-at p k (iterate p k)) n;
+        answer = ap (answer-at Sharper p (suc t)) stepped ∙ ap (λ k. answer-at Sharper p k (iterate p k)) n;
       }
 
-pub finished-answer : {p : Problem} {t : ℕ} {x : Iterate} → Finished p t x → answer-at p t x ≡ run-answer p
+pub finished-answer : {p : Problem} {t : ℕ} {x : Iterate} → Finished p t x → answer-at Sharper p t x ≡ run-answer p
 unfolding run-answer run-iterate
 finished-answer f = f .answer
 
@@ -73,7 +74,7 @@ stops-last n (Spent shortfall) = eq-eqb n n refl
 
 module _ (p : Problem) where
   unfoldable pub stops-at : ℕ → Bool
-  stops-at t = stops (p .steps) t (answer-at p t (iterate p t) .verdict)
+  stops-at t = stops (p .steps) t (answer-at Sharper p t (iterate p t) .verdict)
 
   -- of a run that has n steps left after step t, and stops after step k
   pub record Stopped (t n k : ℕ) : Type 0 where

@@ -1,5 +1,5 @@
 -- Verdicts and answers of the method, the run of a problem, and what a search refuses and leaves. Definitions only. Assumes nothing.
-use mathlib.Core.Bool.{Bool, true, cond}
+use mathlib.Core.Bool.{Bool, true, _&&_, cond}
 use mathlib.Core.List.{List, _++_}
 use Prim.Native.Nat.{ℕ, zero, suc, _+_, _*_, _-_}
 use lib.Dec.{eqb, ltb, leb}
@@ -9,6 +9,8 @@ use Rattle.files.specs.Book.{boats}
 use Rattle.files.specs.Sheet.{files-refusal}
 use Rattle.method.specs.declared.Verdict.{Verdict}
 use Rattle.method.specs.declared.Verdict.the-variants.{Within, Beyond, Spent}
+use Rattle.method.specs.declared.Test.{Test}
+use Rattle.method.specs.declared.Test.the-variants.{Former, Sharper}
 use Rattle.method.specs.declared.Answer.{Answer}
 use Rattle.method.specs.declared.Searched.{Searched}
 use Rattle.method.specs.declared.Searched.the-variants.{Refused, Answered}
@@ -40,11 +42,17 @@ outcome (suc n) a = Refused (suc n)
 
 -- ---- The verdict of a step
 
--- in this order: Within where E is at most tolerance × w², Beyond where E - 2 G is above it, else Spent
-unfoldable pub verdict : (tolerance w e g : ℕ) → Verdict
-verdict tolerance w e g =
+-- what says Beyond, with tolerance × w² as the limit. Former: E - 2 G is above the limit. Sharper: E is above G, and (E - G)² above the
+-- limit times E
+unfoldable pub is-beyond : Test → (limit e g : ℕ) → Bool
+is-beyond Former limit e g = ltb (limit + 2 * g) e
+is-beyond Sharper limit e g = ltb g e && ltb (limit * e) ((e - g) * (e - g))
+
+-- in this order: Within where E is at most tolerance × w², Beyond where the test says so, with the floor E - 2 G, else Spent
+unfoldable pub verdict : Test → (tolerance w e g : ℕ) → Verdict
+verdict test tolerance w e g =
     let limit = tolerance * (w * w) in
-    cond (leb e limit) Within (cond (ltb (limit + 2 * g) e) (Beyond (pos e -ℤ pos (2 * g))) (Spent (e - limit)))
+    cond (leb e limit) Within (cond (is-beyond test limit e g) (Beyond (pos e -ℤ pos (2 * g))) (Spent (e - limit)))
 
 -- whether a run of so many steps stops after step t with this verdict: Spent is for the last step
 unfoldable pub stops : (steps t : ℕ) → Verdict → Bool
@@ -52,21 +60,21 @@ stops n t Within = true
 stops n t (Beyond floor) = true
 stops n t (Spent shortfall) = eqb t n
 
--- ---- The answer after t steps, and the run
+-- ---- The answer after t steps, and the run, which is judged by the sharper test
 
-unfoldable pub answer-at : Problem → (t : ℕ) → Iterate → Answer
-answer-at p t x =
+unfoldable pub answer-at : Test → Problem → (t : ℕ) → Iterate → Answer
+answer-at test p t x =
     let w = weight (p .schedule) t in
     let e = distance p t x in
     let g = gap p t x in
-    record { steps = t; weight = w; distance = e; gap = g; verdict = verdict (p .tolerance) w e g }
+    record { steps = t; weight = w; distance = e; gap = g; verdict = verdict test (p .tolerance) w e g }
 
 -- the steps that a run takes from an iterate after t steps, with so many steps left: up to the first that stops it
 unfoldable pub steps-from : (left t : ℕ) → Problem → Iterate → ℕ
 steps-from zero t p x = t
 steps-from (suc n) t p x =
     let y = step p t (direction p t x) x in
-    cond (stops (p .steps) (suc t) (answer-at p (suc t) y .verdict)) (suc t) (steps-from n (suc t) p y)
+    cond (stops (p .steps) (suc t) (answer-at Sharper p (suc t) y .verdict)) (suc t) (steps-from n (suc t) p y)
 
 unfoldable pub steps-used : Problem → ℕ
 steps-used p = steps-from (p .steps) 0 p (start p)
@@ -76,7 +84,7 @@ unfoldable pub run-iterate : Problem → Iterate
 run-iterate p = iterate p (steps-used p)
 
 unfoldable pub run-answer : Problem → Answer
-run-answer p = answer-at p (steps-used p) (run-iterate p)
+run-answer p = answer-at Sharper p (steps-used p) (run-iterate p)
 
 -- ---- The search
 

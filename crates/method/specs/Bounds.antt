@@ -9,21 +9,23 @@ use lib.IntN.{ℤ, pos, _-ℤ_}
 use lib.Signed.{_≤ℤ_}
 use Rattle.frank_wolfe.specs.Vectors.{sum, combination}
 use Rattle.method.specs.declared.Verdict.the-variants.{Within, Beyond, Spent}
+use Rattle.method.specs.declared.Test.{Test}
+use Rattle.method.specs.declared.Test.the-variants.{Former, Sharper}
 use Rattle.method.specs.declared.Answer.{Answer}
 use Rattle.method.specs.Problem.{Schedule, fixed, Problem, weight}
 use Rattle.method.specs.Iterates.{Iterate, iterate, signed-gap, mixture-distance, diameter, support}
-use Rattle.method.specs.Answers.{stops, answer-at}
+use Rattle.method.specs.Answers.{is-beyond, stops, answer-at}
 
 -- some shares with their sum of share times vertex
 abbrev pub mixture-iterate : Problem → (shares : List ℕ) → Iterate
 mixture-iterate p qs = record { shares = qs; point = combination (p .columns) qs (p .vertices) }
 
--- the answer of shares qs, one a vertex, after t steps: E and G are theirs, the verdict is judged in its order at the tolerance
-abbrev pub answer-of : Problem → (shares : List ℕ) → (t : ℕ) → Answer
-answer-of p qs t = answer-at p t (mixture-iterate p qs)
+-- the answer of shares qs, one a vertex, after t steps: E and G are theirs, the verdict is judged in its order at the tolerance, by the test
+abbrev pub answer-of : Test → Problem → (shares : List ℕ) → (t : ℕ) → Answer
+answer-of test p qs t = answer-at test p t (mixture-iterate p qs)
 
--- of an answer and its shares, a run's or an accepted card's
-pub record Answer-bounds (p : Problem) (a : Answer) (shares : List ℕ) : Type 0 where
+-- of an answer and its shares, a run's or an accepted card's, judged by a test
+pub record Answer-bounds (test : Test) (p : Problem) (a : Answer) (shares : List ℕ) : Type 0 where
   -- ---- Shares and steps
   -- one share a vertex
   pub share-count : length shares ≡ length (p .vertices)
@@ -48,19 +50,22 @@ pub record Answer-bounds (p : Problem) (a : Answer) (shares : List ℕ) : Type 0
   -- every squared distance is at least this one less twice the gap
   pub gap-bound : (qs : List ℕ) → length qs ≡ length (p .vertices) → 1 ≤ sum qs →
       a .distance * (sum qs * sum qs) ≤ mixture-distance p qs * (a .weight * a .weight) + 2 * a .gap * (sum qs * sum qs)
-  -- ---- The verdicts: E is at most tolerance × W² for Within alone, E - 2 G is above it for Beyond alone
+  -- ---- The verdicts: E is at most tolerance × W² for Within alone, else the test holds for Beyond alone
   -- Within: the squared distance is at most the tolerance
   pub within : a .verdict ≡ Within → a .distance ≤ p .tolerance * (a .weight * a .weight)
   -- Beyond: every mixture's squared distance is above the tolerance
   pub beyond : (floor : ℤ) → a .verdict ≡ Beyond floor → (qs : List ℕ) → length qs ≡ length (p .vertices) → 1 ≤ sum qs →
       p .tolerance * (sum qs * sum qs) < mixture-distance p qs
-  -- it is said where E - 2 G is above tolerance × W²
-  pub beyond-above : (floor : ℤ) → a .verdict ≡ Beyond floor → p .tolerance * (a .weight * a .weight) + 2 * a .gap < a .distance
-  -- and carries E - 2 G
+  -- it is said where the test holds
+  pub beyond-tested : (floor : ℤ) → a .verdict ≡ Beyond floor → is-beyond test (p .tolerance * (a .weight * a .weight)) (a .distance) (a .gap) ≡ true
+  -- by either test wherever E - 2 G is above tolerance × W²
+  pub beyond-former : p .tolerance * (a .weight * a .weight) + 2 * a .gap < a .distance → a .verdict ≡ Beyond (pos (a .distance) -ℤ pos (2 * a .gap))
+  -- and carries E - 2 G, which may be below zero
   pub beyond-floor : (floor : ℤ) → a .verdict ≡ Beyond floor → floor ≡ pos (a .distance) -ℤ pos (2 * a .gap)
-  -- Spent is said where neither of the others is: E - 2 G is not above tolerance × W²
-  pub spent-undecided : (shortfall : ℕ) → a .verdict ≡ Spent shortfall → a .distance ≤ p .tolerance * (a .weight * a .weight) + 2 * a .gap
-  -- and E is
+  -- Spent is said where neither of the others is: the test does not hold
+  pub spent-undecided : (shortfall : ℕ) → a .verdict ≡ Spent shortfall →
+      is-beyond test (p .tolerance * (a .weight * a .weight)) (a .distance) (a .gap) ≡ false
+  -- and E is above tolerance × W²
   pub spent-above : (shortfall : ℕ) → a .verdict ≡ Spent shortfall → p .tolerance * (a .weight * a .weight) < a .distance
   -- after the problem's last step only
   pub spent-last : (shortfall : ℕ) → a .verdict ≡ Spent shortfall → a .steps ≡ p .steps
@@ -80,10 +85,13 @@ Step-bound fixed t d a b n q = a * (n * n) * (t + 2) ≤ q * b * (t + 2) + 4 * d
 
 -- of a run's answer and shares, in addition
 pub record Run-bounds (p : Problem) (a : Answer) (shares : List ℕ) : Type 0 where
-  pub answer : Answer-bounds p a shares
+  pub answer : Answer-bounds Sharper p a shares
   -- no step before it stopped the run
   pub first : (t : ℕ) → 1 ≤ t → t < a .steps →
-      stops (p .steps) t (answer-at p t (iterate p t) .verdict) ≡ false
+      stops (p .steps) t (answer-at Sharper p t (iterate p t) .verdict) ≡ false
+  -- nor would one by the former test: no run by that test is shorter
+  pub first-former : (t : ℕ) → 1 ≤ t → t < a .steps →
+      stops (p .steps) t (answer-at Former p t (iterate p t) .verdict) ≡ false
   -- no gap on the way is below 0
   pub every-gap : (t : ℕ) → 1 ≤ t → pos 0 ≤ℤ signed-gap p t (iterate p t)
   -- every squared distance is at least the run's, E / W², less the bound of its steps

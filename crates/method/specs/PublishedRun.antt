@@ -5,13 +5,21 @@ use mathlib.Core.List.{List}
 use Prim.Native.Nat.{ℕ, _*_, _≤_, _<_}
 use lib.ListN.{getD}
 use lib.IntN.{pos}
+use Rattle.method.specs.declared.Test.the-variants.{Sharper}
 use Rattle.method.specs.declared.Answer.{Answer}
 use Rattle.method.specs.Problem.{Problem}
 use Rattle.method.specs.Iterates.{Iterate, direction, pick, iterate}
 use Rattle.method.specs.Answers.{verdict-number, verdict-carries, answer-at}
 use Rattle.method.specs.Bounds.{mixture-iterate}
-use Rattle.method.specs.Fractions.{integer, Is-ratio, _-ℚ_, _≤ℚ_, _<ℚ_}
+use Rattle.method.specs.Fractions.{integer, Is-ratio, _-ℚ_, _*ℚ_, _≤ℚ_, _<ℚ_}
 use Rattle.method.specs.Published.{published-iterate, published-pick, published-distance, published-gap, published-floor}
+
+-- the sharper test over fractions, of the squared distance d and the gap g after k steps: d > g, and (d - g)² > tolerance × d
+pub record Published-beyond (p : Problem) (k : ℕ) : Type 0 where
+  pub above : published-gap p k <ℚ published-distance p k
+  pub far :
+      integer (pos (p .tolerance)) *ℚ published-distance p k
+      <ℚ (published-distance p k -ℚ published-gap p k) *ℚ (published-distance p k -ℚ published-gap p k)
 
 -- that an iterate x in whole numbers and an answer are those of the published method after as many steps as
 -- the answer says. W, E, G: the answer's weight, distance and gap. Verdicts by number: 1 Within, 2 Beyond, 3 Spent.
@@ -26,10 +34,10 @@ pub record Is-published (p : Problem) (x : Iterate) (a : Answer) : Type 0 where
   pub gap : Is-ratio (published-gap p (a .steps)) (pos (a .gap)) (a .weight * a .weight)
   -- Within exactly where the squared distance is at most the tolerance
   pub within : (verdict-number (a .verdict) ≡ 1) ↔ (published-distance p (a .steps) ≤ℚ integer (pos (p .tolerance)))
-  -- Beyond exactly where it is not and the squared distance less twice the gap is above the tolerance
+  -- Beyond exactly where it is not and the sharper test holds
   pub beyond :
       (verdict-number (a .verdict) ≡ 2)
-      ↔ ((¬ (published-distance p (a .steps) ≤ℚ integer (pos (p .tolerance)))) × (integer (pos (p .tolerance)) <ℚ published-floor p (a .steps)))
+      ↔ ((¬ (published-distance p (a .steps) ≤ℚ integer (pos (p .tolerance)))) × Published-beyond p (a .steps))
   -- Beyond carries W² times the squared distance less twice the gap, Spent W² times the squared distance less the tolerance
   pub floor : verdict-number (a .verdict) ≡ 2 → Is-ratio (published-floor p (a .steps)) (verdict-carries (a .verdict)) (a .weight * a .weight)
   pub shortfall : verdict-number (a .verdict) ≡ 3 →
@@ -37,7 +45,7 @@ pub record Is-published (p : Problem) (x : Iterate) (a : Answer) : Type 0 where
 
 -- that they are after k steps: the iterate in whole numbers and the answer there
 abbrev pub Published-step : Problem → (k : ℕ) → Type 0
-Published-step p k = Is-published p (iterate p k) (answer-at p k (iterate p k))
+Published-step p k = Is-published p (iterate p k) (answer-at Sharper p k (iterate p k))
 
 -- of an answer and its shares
 pub record Published-run (p : Problem) (a : Answer) (shares : List ℕ) : Type 0 where
@@ -47,5 +55,5 @@ pub record Published-run (p : Problem) (a : Answer) (shares : List ℕ) : Type 0
   pub last-step : Is-published p (mixture-iterate p shares) a
   -- no verdict of the published method stood before: its squared distance was above the tolerance
   pub none-within : (k : ℕ) → 1 ≤ k → k < a .steps → ¬ (published-distance p k ≤ℚ integer (pos (p .tolerance)))
-  -- and less twice its gap it was not
-  pub none-beyond : (k : ℕ) → 1 ≤ k → k < a .steps → ¬ (integer (pos (p .tolerance)) <ℚ published-floor p k)
+  -- and the sharper test did not hold
+  pub none-beyond : (k : ℕ) → 1 ≤ k → k < a .steps → ¬ (Published-beyond p k)

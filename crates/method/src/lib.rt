@@ -9,6 +9,12 @@ pub enum Verdict {
     Spent(u64),
 }
 
+// What says Beyond. Former: E - 2 G is above tolerance × W². Sharper: E is above G, and (E - G)² above tolerance × W² × E.
+pub enum Test {
+    Former,
+    Sharper,
+}
+
 // The answer of a run: steps used, W, E, G and the verdict.
 pub struct Answer {
     pub steps: u32,

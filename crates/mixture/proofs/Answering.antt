@@ -14,6 +14,7 @@ use Rattle.files.specs.Bytes.{values}
 use Rattle.files.specs.Book.{boats, columns, rows, rows-from}
 use Rattle.files.specs.Sheet.{sheet, files-refusal}
 use Rattle.files.proofs.Access.{rows-at}
+use Rattle.method.specs.declared.Test.{Test}
 use Rattle.method.specs.declared.Answer.{Answer}
 use Rattle.method.specs.Problem.{fixed, problem, weight}
 use Rattle.method.specs.Iterates as M
@@ -96,8 +97,8 @@ module _ (b s : List ℕ) (ok : files-refusal b s ≡ 0) {l : Layout} (e : l ≡
               judged = rw (residual-is, target-is b s ok) (mixed-judged b s ok some few mixed);
             })
 
-        pub answered : {a : Answer} →
-            a ≡ measure t (weight fixed t) (sheet s .tolerance) (take (l .columns) now) (values (l .columns) (drop (l .target) s)) (toZ w64 (ofZ w64 (lo .score))) →
-            a ≡ answer-of (problem b s) (take (boats b) shares) t
+        pub answered : (test : Test) {a : Answer} →
+            a ≡ measure test t (weight fixed t) (sheet s .tolerance) (take (l .columns) now) (values (l .columns) (drop (l .target) s)) (toZ w64 (ofZ w64 (lo .score))) →
+            a ≡ answer-of test (problem b s) (take (boats b) shares) t
         unfolding file-layout
-        answered f = f ∙ rw (e, least-read, residual-is, target-is b s ok) (mixed-answer b s ok some few mixed)
+        answered test f = f ∙ rw (e, least-read, residual-is, target-is b s ok) (mixed-answer b s ok some few mixed test)

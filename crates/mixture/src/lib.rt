@@ -14,6 +14,7 @@ ghost use Rattle.method.specs.Bounds.{answer-of};
 use iteration::Layout;
 use iteration::State;
 use method::Answer;
+use method::Test;
 
 // The residual of the first shares, one a boat: the sum over the boats of share × (row - target), one entry a column.
 fn residual_of(book: &[u8], sheet: &[u8], layout: Layout, shares: [u16; 256]) -> [i32; 64]
@@ -38,18 +39,33 @@ fn residual_of(book: &[u8], sheet: &[u8], layout: Layout, shares: [u16; 256]) ->
     r
 }
 
-// The answer of the first shares, one a boat, after t steps.
-pub fn answer_of(book: &[u8], sheet: &[u8], layout: Layout, shares: [u16; 256], t: u32) -> Answer
+// The answer of the first shares, one a boat, after t steps, judged by the test.
+pub fn answer_of(
+    test: Test,
+    book: &[u8],
+    sheet: &[u8],
+    layout: Layout,
+    shares: [u16; 256],
+    t: u32,
+) -> Answer
     requires { ⌜ files-refusal (now book) (now sheet) ≡ 0 ⌝ }
     requires { ⌜ layout ≡ file-layout (now book) (now sheet) ⌝ }
     requires { do ⌜ (1 ≤ t) × (t ≤ (← ⟦State::MOST_STEPS⟧)) ⌝ }
     requires { ⌜ sum (take (boats (now book)) shares) ≡ weight fixed t ⌝ }
-    ensures { λ x. ⌜ x ≡ answer-of (problem (now (book .entry)) (now (sheet .entry))) (take (boats (now (book .entry))) shares) t ⌝ }
+    ensures { λ x. ⌜ x ≡ answer-of test (problem (now (book .entry)) (now (sheet .entry))) (take (boats (now (book .entry))) shares) t ⌝ }
 {
     let rows = layout.rows;
     let columns = layout.columns;
     let boats = layout.boats;
     let r = residual_of(book, sheet, layout, shares);
     let least = scoring::least_score(&r, book, rows, boats, columns);
-    iteration::measured(t, totals::total_after(t), &r, least.score, sheet, layout)
+    iteration::measured(
+        test,
+        t,
+        totals::total_after(t),
+        &r,
+        least.score,
+        sheet,
+        layout,
+    )
 }

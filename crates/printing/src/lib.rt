@@ -51,10 +51,12 @@ pub fn line(text: &[u8], n: u64) {
     word(b"\n");
 }
 
-// A floor, which is above 0 where the verdict is Beyond.
+// A floor, with its sign.
 fn floor(x: i64) {
     if x < 0 {
-        word(b"below 0\n");
+        word(b"floor -");
+        io::print_decimal(STDOUT_FILENO, (-1 - x) as u64 + 1);
+        word(b"\n");
         return;
     }
     line(b"floor", x as u64);

@@ -13,6 +13,7 @@ use Rattle.files.specs.Book.{columns}
 use Rattle.files.specs.Sheet.{sheet, files-refusal}
 use Rattle.method.specs.Problem.{fixed, problem, weight}
 use Rattle.method.specs.Iterates.{iterate}
+use Rattle.method.specs.declared.Test.the-variants.{Sharper}
 use Rattle.method.specs.Answers.{answer-at, stops, run-answer, run-iterate}
 use Rattle.method.specs.declared.Answer.{Answer}
 use Rattle.method.specs.declared.Verdict.{Verdict}
@@ -54,11 +55,11 @@ module _ (b s : List ℕ) (ok : files-refusal b s ≡ 0) where
           }
 
   -- a run that its first step stops
-  pub first-done : {a : Answer} → a ≡ answer-at (problem b s) 1 (iterate-of b s 1) → {k : ℕ} → k ≡ sheet s .steps → {d : Bool} → d ≡ stops k 1 (a .verdict) → d ≡ true →
+  pub first-done : {a : Answer} → a ≡ answer-at Sharper (problem b s) 1 (iterate-of b s 1) → {k : ℕ} → k ≡ sheet s .steps → {d : Bool} → d ≡ stops k 1 (a .verdict) → d ≡ true →
       (a ≡ run-answer (problem b s)) × (iterate-of b s 1 .shares ≡ run-iterate (problem b s) .shares)
   unfolding problem iterate
   first-done ea ek ed f =
-      let v : stops (sheet s .steps) 1 (answer-at (problem b s) 1 (iterate-of b s 1) .verdict) ≡ true = rw (ek, ea) at (sym ed ∙ f) in
+      let v : stops (sheet s .steps) 1 (answer-at Sharper (problem b s) 1 (iterate-of b s 1) .verdict) ≡ true = rw (ek, ea) at (sym ed ∙ f) in
       let d = running-done (running-start (problem b s)) (omega (arith, sheet-fits b s ok .some-steps)) v in
       (ea ∙ finished-answer d, ap (λ z. z .shares) (finished-iterate d))
 
@@ -78,12 +79,12 @@ module _ (b s : List ℕ) (ok : files-refusal b s ≡ 0) where
       next-answerable = answerable b s ok next-held next-few e
 
       module _ {a : Answer}
-          (ea : a ≡ measure (y .steps) (weight fixed (y .steps)) (sheet s .tolerance) (take (l .columns) (y .residual)) (values (l .columns) (drop (l .target) s)) (y .least))
+          (ea : a ≡ measure Sharper (y .steps) (weight fixed (y .steps)) (sheet s .tolerance) (take (l .columns) (y .residual)) (values (l .columns) (drop (l .target) s)) (y .least))
           {k : ℕ} (ek : k ≡ sheet s .steps) {d : Bool} (ed : d ≡ stops k (y .steps) (a .verdict)) where
-        answer-is : a ≡ answer-at (problem b s) (suc (x .steps)) (iterate-of b s (suc (x .steps)))
+        answer-is : a ≡ answer-at Sharper (problem b s) (suc (x .steps)) (iterate-of b s (suc (x .steps)))
         answer-is = ea ∙ answer-right b s ok next-held next-few e
 
-        stopped-is : d ≡ stops (sheet s .steps) (suc (x .steps)) (answer-at (problem b s) (suc (x .steps)) (iterate-of b s (suc (x .steps))) .verdict)
+        stopped-is : d ≡ stops (sheet s .steps) (suc (x .steps)) (answer-at Sharper (problem b s) (suc (x .steps)) (iterate-of b s (suc (x .steps))) .verdict)
         stopped-is = ed ∙ rw (ek, next-held .steps-are, answer-is)
 
         pub going-more : d ≡ false → Going b s y

@@ -36,7 +36,7 @@ returns c =
     let at-inner-at = c .before .before .before in
     let at-squared-norm = at-inner-at .before in
     let start = at-squared-norm .before .before in
-    answer-is (start .pre) (at-squared-norm .squared-norm .ensures) (at-inner-at .inner-at .ensures) (toZ-ofZ (sfits-of (at-inner-at .inner-at .ok))) refl (c .before .before .gap-of .ensures) (c .before .tolerance .ensures) (start .args .steps) (c .judge .ensures)
+    answer-is (start .pre) (at-squared-norm .squared-norm .ensures) (at-inner-at .inner-at .ensures) (toZ-ofZ (sfits-of (at-inner-at .inner-at .ok))) refl (c .before .before .gap-of .ensures) (c .before .tolerance .ensures) (start .args .test) (start .args .steps) (c .judge .ensures)
 
 pub measured-spec : {M : Type 1} → statement M
 measured-spec =

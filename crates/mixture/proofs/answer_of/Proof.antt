@@ -45,7 +45,7 @@ returns c =
     let at-residual-of = at-least-score .before .before in
     let start = at-residual-of .before .before .before in
     let p = start .pre in
-    answered _ _ (p .0) (p .1 .0) (start .args .shares) (p .1 .1 .0 .0) (p .1 .1 .0 .1) (p .1 .1 .1) (search (needs, start .good .1 .1 .1 .0)) (at-residual-of .residual-of .result) (search needs) (at-residual-of .residual-of .ensures) (at-least-score .least-score .ensures)
+    answered _ _ (p .0) (p .1 .0) (start .args .shares) (p .1 .1 .0 .0) (p .1 .1 .0 .1) (p .1 .1 .1) (search (needs, start .good .1 .1 .1 .1 .0)) (at-residual-of .residual-of .result) (search needs) (at-residual-of .residual-of .ensures) (at-least-score .least-score .ensures) (start .args .test)
     (c .measured .ensures ∙ rw (c .before .before .before .total-after .ensures))
 
 pub answer-of-spec : {M : Type 1} → statement M
