@@ -1,11 +1,15 @@
 #!/usr/bin/env python3
-"""Write the files that the programs and test programs are run on, crates/NAME/data."""
+"""Write the files that the programs and test programs are run on, crates/NAME/data.
+
+The cards of crates/edition_test/data are not written here: the program filed them before WCD2, and they are kept as they are.
+"""
 import os
 import sys
 
 HERE = os.path.dirname(os.path.abspath(__file__))
 sys.path.insert(0, HERE)
 from exact import make_book, make_card, make_sheet, write_card  # noqa: E402
+from generator import Draws, draw_row  # noqa: E402
 
 CRATES = os.path.join(HERE, "..", "crates")
 
@@ -84,6 +88,21 @@ FOLDERS = {
     "long": folder(BOOK, SHEET),
 }
 
+# edition_test: books and sheets whose cards were filed before WCD2, by the names of the cards. The far targets are ones at which the
+# former test needs more steps than the sharper, or never ends Beyond.
+DRAWS = Draws(31)
+FAR = make_book([draw_row(DRAWS, 16, 20) for _ in range(20)], front=b"twenty boats\n")
+FAR_TARGET = [value + 4 for value in draw_row(DRAWS, 16, 8)]
+FILED_BEFORE = {
+    "a": ("p.wbk", BOOK, SHEET), "b": ("p.wbk", BOOK, FILES["b.wsh"]), "c": ("p.wbk", BOOK, FILES["c.wsh"]),
+    "d": ("p.wbk", BOOK, FILES["d.wsh"]), "e": ("e.wbk", FILES["e.wbk"], FILES["e.wsh"]),
+    "f": ("e.wbk", FILES["e.wbk"], FILES["f.wsh"]), "g": ("g.wbk", FILES["g.wbk"], FILES["g.wsh"]),
+    "h": ("h.wbk", FILES["h.wbk"], FILES["h.wsh"]), "i": ("h.wbk", FILES["h.wbk"], FILES["i.wsh"]),
+    "larger": ("larger.wbk", LARGER, LARGER_SHEET),
+    "far": ("far.wbk", FAR, make_sheet(FAR_TARGET, steps=90, tolerance=60)),
+    "short": ("far.wbk", FAR, make_sheet(FAR_TARGET, steps=12, tolerance=60)),
+}
+
 # The programs, each in a folder of its own, so that one that does another's work prints something else.
 PROGRAMS = {
     "mixlist": folder(LARGER, LARGER_SHEET),
@@ -101,6 +120,8 @@ def write(crate, name, content):
 
 def main():
     data = {"search_test": FILES, **PROGRAMS}
+    data["edition_test"] = {name: content for card, (book, rows, sheet) in FILED_BEFORE.items()
+                            for name, content in ((book, rows), (card + ".wsh", sheet))}
     data["program_test"] = {os.path.join(name, file): content for name, files in FOLDERS.items() for file, content in files.items()}
     for crate, files in data.items():
         for name, content in files.items():

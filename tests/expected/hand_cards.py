@@ -18,9 +18,9 @@ def checked(book, sheet, card):
 
 
 def hand(name, entries=EQUAL, verdict=1, steps=3, tolerance=1, distance=8, gap=32, boats=3, columns=2, back=12,
-         letters=b"WCD1", length=48, target=1, sheet_steps=9):
+         letters=b"WCD2", length=48, target=1, sheet_steps=9, sheet_tolerance=1):
     book = exact.make_book(FLEET_P)
-    sheet = exact.make_sheet([target, target], sheet_steps, 1)
+    sheet = exact.make_sheet([target, target], sheet_steps, sheet_tolerance)
     card = exact.make_card(entries, verdict, steps, tolerance, distance, gap, boats, columns, back=back, letters=letters)
     return name + "\n" + checked(book, sheet, card[len(card) - length:])
 
@@ -35,7 +35,8 @@ def trailers():
     for length in (35, 36, 47):
         yield hand("%d bytes" % length, length=length)
     for more in (1, 256, 65536, 16777216):
-        yield hand("letters %d" % more, letters=(826557271 + more).to_bytes(4, "little"))
+        yield hand("letters %d" % more, letters=(843334487 + more).to_bytes(4, "little"))
+    yield hand("letters before", letters=b"WCD0")
     yield hand("2 boats", boats=2)
     yield hand("4 boats", boats=4)
     yield hand("3 columns", columns=3)
@@ -76,8 +77,36 @@ def numbers():
     yield hand("gap 33 and tolerance 2", gap=33, tolerance=2)
 
 
+def far(name, letters, entries, verdict, steps, distance, gap, target=5, tolerance=1, sheet_steps=9):
+    return hand("%s %s" % ({b"WCD1": "former", b"WCD2": "sharper"}[letters], name), entries, verdict, steps, tolerance, distance, gap, back=4 * len(entries),
+                letters=letters, length=36 + 4 * len(entries), target=target, sheet_steps=sheet_steps, sheet_tolerance=tolerance)
+
+
+def editions():
+    one, two = b"WCD1", b"WCD2"
+    second = [(1, 1), (2, 2)]
+    yield hand("former equal shares", letters=one)
+    yield far("far target", one, [(1, 3), (2, 3)], 2, 3, 648, 0)
+    for letters in (two, one):
+        yield far("first step beyond", letters, ONE, 2, 1, 26, 16)
+    for letters in (two, one):
+        yield far("first step spent of one", letters, ONE, 3, 1, 26, 16, sheet_steps=1)
+    for letters in (two, one):
+        yield far("second step", letters, second, 2, 2, 170, 32)
+    for letters, tolerance in ((one, 11), (one, 12), (two, 12), (two, 13)):
+        yield far("tolerance %d" % tolerance, letters, second, 2, 2, 170, 32, tolerance=tolerance)
+    zero = [(0, 1)]
+    yield far("one off", two, zero, 2, 1, 50, 20, tolerance=17)
+    yield far("equality", two, zero, 2, 1, 50, 20, tolerance=18)
+    yield far("equality spent of one", two, zero, 3, 1, 50, 20, tolerance=18, sheet_steps=1)
+    yield far("distance as the gap", two, zero, 2, 1, 8, 8, 2, 0)
+    yield far("distance as the gap spent of one", two, zero, 3, 1, 8, 8, 2, 0, 1)
+    yield far("distance below the gap", two, zero, 2, 1, 2, 4, 1)
+    yield far("distance below the gap", one, zero, 2, 1, 2, 4, 1)
+
+
 def main():
-    parts = [true_cards(), trailers(), bodies(), numbers()]
+    parts = [true_cards(), trailers(), bodies(), numbers(), editions()]
     sys.stdout.write("".join(text for part in parts for text in part))
 
 

@@ -34,7 +34,7 @@ fn put_trailer(file: &mut [u8], at: usize, line: &[u8]) -> usize {
         line,
         b"KVSTEGNCL",
         b"422488224",
-        b"K12 V1 S3 T1 E8 G32 N3 C2 L826557271",
+        b"K12 V1 S3 T1 E8 G32 N3 C2 L843334487",
     )
 }
 
@@ -109,10 +109,11 @@ far target: P1323 K8 V2 E648 G0 B44 X5
 35 bytes: B35
 36 bytes: B36
 47 bytes: B47
-letters 1: L826557272
-letters 256: L826557527
-letters 65536: L826622807
-letters 16777216: L843334487
+letters 1: L843334488
+letters 256: L843334743
+letters 65536: L843400023
+letters 16777216: L860111703
+letters before: L809780055
 2 boats: N2
 4 boats: N4
 3 columns: C3
@@ -157,7 +158,36 @@ gap 33 and tolerance 2: G33 T2
     );
 }
 
+// Both tests of Beyond: WCD1, L826557271, has the former, and WCD2 the sharper. J is the sheet's tolerance.
+// At (5,5) boat 1 has E = 26 and G = 16 after step 1, boats 1 and 2 have E = 170 and G = 32 after step 2; boat 0 alone has E = 50
+// and G = 20, where (E - G)² is 18 × E. At (2,2) its E is its G, at (1,1) below it.
+fn editions() {
+    check_all(
+        b"former equal shares: L826557271
+former far target: P1323 K8 V2 E648 G0 B44 X5 L826557271
+sharper first step beyond: P11 K4 V2 S1 E26 G16 B40 X5
+former first step beyond: P11 K4 V2 S1 E26 G16 B40 X5 L826557271
+sharper first step spent of one: P11 K4 V3 S1 E26 G16 B40 X5 M1
+former first step spent of one: P11 K4 V3 S1 E26 G16 B40 X5 M1 L826557271
+sharper second step: P1122 K8 V2 S2 E170 G32 B44 X5
+former second step: P1122 K8 V2 S2 E170 G32 B44 X5 L826557271
+former tolerance 11: P1122 K8 V2 S2 E170 G32 B44 X5 J11 T11 L826557271
+former tolerance 12: P1122 K8 V2 S2 E170 G32 B44 X5 J12 T12 L826557271
+sharper tolerance 12: P1122 K8 V2 S2 E170 G32 B44 X5 J12 T12
+sharper tolerance 13: P1122 K8 V2 S2 E170 G32 B44 X5 J13 T13
+sharper one off: P01 K4 V2 S1 E50 G20 B40 X5 J17 T17
+sharper equality: P01 K4 V2 S1 E50 G20 B40 X5 J18 T18
+sharper equality spent of one: P01 K4 V3 S1 E50 G20 B40 X5 J18 T18 M1
+sharper distance as the gap: P01 K4 V2 S1 E8 G8 B40 X2 J0 T0
+sharper distance as the gap spent of one: P01 K4 V3 S1 E8 G8 B40 X2 J0 T0 M1
+sharper distance below the gap: P01 K4 V2 S1 E2 G4 B40
+former distance below the gap: P01 K4 V2 S1 E2 G4 B40 L826557271
+",
+    );
+}
+
 fn main() {
     trailers();
     pairs_and_numbers();
+    editions();
 }

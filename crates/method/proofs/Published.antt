@@ -244,8 +244,7 @@ module _ {d g : Fraction} (tolerance w : ℕ) {e f : ℕ} (hd : Is-ratio d (pos 
   beyond-value = (
     λ q.
         let b = beyond-exactly means .0 q in
-        let both = and-true (ltb f e) (ltb (tolerance * (w * w) * e) ((e - f) * (e - f))) (b .1) in
-        (
+        let both = and-true (ltb f e) (ltb (tolerance * (w * w) * e) ((e - f) * (e - f))) (b .1) in (
           λ h. omega (arith, b .0, at-most .0 h),
           record { lt = rw (gap-below ∙ both .0) tt },
           record { lt = rw (square-above (ltb-true f e (both .0)) ∙ both .1) tt },
