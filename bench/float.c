@@ -49,7 +49,7 @@ float_answer float_search(const uint8_t *book, size_t book_length, const uint8_t
         }
         if (k > 0) {
             double gap = along - least;
-            a.verdict = distance <= tolerance ? 1 : distance - 2 * gap > tolerance ? 2 : k == steps ? 3 : 0;
+            a.verdict = distance <= tolerance ? 1 : distance > gap && (distance - gap) * (distance - gap) > tolerance * distance ? 2 : k == steps ? 3 : 0;
             if (a.verdict != 0) {
                 a.steps = k;
                 a.distance = distance;

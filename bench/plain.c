@@ -95,7 +95,7 @@ dofitrano_reply plain_c_search(const uint8_t *book, size_t book_length, const ui
         int64_t limit = tolerance * w * w;
         if (e <= limit) {
             a.verdict = 1;
-        } else if (e - 2 * g > limit) {
+        } else if (e > g && (__int128)(e - g) * (e - g) > (__int128)limit * e) {
             a.verdict = 2;
             a.floor = e - 2 * g;
         } else if (t == steps) {

@@ -149,7 +149,7 @@ pub fn search(book: &[u8], sheet: &[u8], slots: &mut [u16]) -> Reply {
         let limit = sheet.tolerance as i64 * w * w;
         let (verdict, floor, shortfall) = if e <= limit {
             (1, 0, 0)
-        } else if e - 2 * g > limit {
+        } else if e > g && i128::from(e - g) * i128::from(e - g) > i128::from(limit) * i128::from(e) {
             (2, e - 2 * g, 0)
         } else if t == sheet.steps {
             (3, 0, (e - limit) as u64)

@@ -11,7 +11,7 @@ mod reference;
 
 use encode::{book_of, sheet_of};
 use random::Random;
-use reference::{Answer, Verdict};
+use reference::{Answer, Test, Verdict};
 use std::collections::BTreeMap;
 
 // ---------------------------------------------------------------- the library
@@ -214,9 +214,15 @@ fn tolerance(rng: &mut Random, rows: &[Vec<i16>], target: &[i16], steps: u16) ->
         _ => {
             let short = 1 + rng.below(usize::from(steps).min(12));
             let problem = reference::read_files(&book_of(rows), &sheet_of(target, short as u16, 0)).unwrap();
-            let (a, _) = problem.run();
-            let bound = if rng.one_in(2) { a.distance } else { a.distance - 2 * a.gap };
-            (bound / (a.weight * a.weight) + i128::from(rng.between(-1, 1))).clamp(0, MOST) as u32
+            let (e, g) = problem.distance_and_gap(&problem.shares_after(short));
+            let weight = (short * (short + 1) / 2) as i128;
+            let bound = match rng.below(3) {
+                0 => e,
+                1 => e - 2 * g,
+                _ if e > g => (e - g) * (e - g) / e,
+                _ => 0,
+            };
+            (bound / (weight * weight) + i128::from(rng.between(-1, 1))).clamp(0, MOST) as u32
         }
     }
 }
@@ -505,18 +511,22 @@ fn other_shares(rng: &mut Random, boats: usize, t: usize) -> Vec<u16> {
     shares
 }
 
-/// A card for accepted files: of their search, or of another mixture with its true numbers; front text and damage as for the others.
+/// A card for accepted files, of either edition: of their search, or of another mixture with its true numbers; one in eight has the
+/// letters of the other edition. Front text and damage as for the others.
 fn card_for(rng: &mut Random, problem: &reference::Problem) -> Vec<u8> {
-    let (mut answer, mut shares) = problem.run();
+    let test = rng.of(&[Test::Former, Test::Sharper, Test::Sharper]);
+    let (run, mut shares) = problem.run();
+    let mut t = run.steps;
     if rng.one_in(2) {
-        let t = if rng.one_in(2) { problem.steps } else { 1 + rng.below(problem.steps) };
+        t = if rng.one_in(2) { problem.steps } else { 1 + rng.below(problem.steps) };
         shares = other_shares(rng, problem.rows.len(), t);
-        let (distance, gap) = problem.distance_and_gap(&shares);
-        // Where no verdict is due, the card says Spent too early.
-        let spent = Answer { steps: t, weight: 0, distance, gap, verdict: Verdict::Spent(0) };
-        answer = problem.answer_of(t, &shares).unwrap_or(spent);
     }
-    let plain = problem.answer_card(&answer, &shares);
+    let (distance, gap) = problem.distance_and_gap(&shares);
+    // Where no verdict is due, the card says Spent too early.
+    let spent = Answer { steps: t, weight: 0, distance, gap, verdict: Verdict::Spent(0) };
+    let answer = problem.answer_of(test, t, &shares).unwrap_or(spent);
+    let letters = if rng.one_in(8) { rng.of(&[Test::Former, Test::Sharper]) } else { test };
+    let plain = problem.answer_card(letters, &answer, &shares);
     let mut card = with_front(rng, plain);
     if rng.one_in(2) {
         damage_card(rng, &mut card, problem.rows.len());

@@ -30,6 +30,30 @@ impl Verdict {
     }
 }
 
+/// What says Beyond: the former test, of cards with the letters WCD1, or the sharper, of runs and of cards with WCD2.
+#[derive(Clone, Copy, PartialEq, Debug)]
+pub enum Test {
+    Former,
+    Sharper,
+}
+
+impl Test {
+    fn letters(self) -> &'static [u8; 4] {
+        match self {
+            Test::Former => b"WCD1",
+            Test::Sharper => b"WCD2",
+        }
+    }
+
+    /// E - 2 G above the limit; or E above G and (E - G)² above the limit times E.
+    fn holds(self, limit: i128, e: i128, g: i128) -> bool {
+        match self {
+            Test::Former => e - 2 * g > limit,
+            Test::Sharper => e > g && (e - g) * (e - g) > limit * e,
+        }
+    }
+}
+
 /// Steps used, W, E, G and the verdict.
 #[derive(Clone, Copy, PartialEq, Debug)]
 pub struct Answer {
@@ -164,11 +188,11 @@ impl Problem {
     }
 
     /// The verdict after t steps, none where the search goes on.
-    fn judge(&self, t: usize, weight: i128, e: i128, g: i128) -> Option<Verdict> {
+    fn judge(&self, test: Test, t: usize, weight: i128, e: i128, g: i128) -> Option<Verdict> {
         let limit = self.tolerance * weight * weight;
         if e <= limit {
             Some(Verdict::Within)
-        } else if e - 2 * g > limit {
+        } else if test.holds(limit, e, g) {
             Some(Verdict::Beyond(e - 2 * g))
         } else if t == self.steps {
             Some(Verdict::Spent(e - limit))
@@ -177,33 +201,50 @@ impl Problem {
         }
     }
 
+    /// Step t, counted from 1: the first is scored from boat 0, the others from the residual.
+    fn step(&self, t: usize, shares: &mut [u16]) {
+        let direction = match t {
+            1 => self.rows[0].iter().zip(&self.target).map(|(x, u)| x - u).collect(),
+            _ => self.point_and_residual(shares).1,
+        };
+        shares[self.pick(&direction)] += t as u16;
+    }
+
+    /// The shares after t steps, whatever the verdicts are.
+    pub fn shares_after(&self, steps: usize) -> Vec<u16> {
+        let mut shares = vec![0u16; self.rows.len()];
+        for t in 1..=steps {
+            self.step(t, &mut shares);
+        }
+        shares
+    }
+
     /// The answer and the shares of a run.
     pub fn run(&self) -> (Answer, Vec<u16>) {
         let mut shares = vec![0u16; self.rows.len()];
-        let mut direction: Vec<i128> = self.rows[0].iter().zip(&self.target).map(|(x, u)| x - u).collect();
         let mut t = 0;
         loop {
             t += 1;
-            shares[self.pick(&direction)] += t as u16;
+            self.step(t, &mut shares);
             let weight = (t * (t + 1) / 2) as i128;
             let (distance, gap) = self.distance_and_gap(&shares);
-            if let Some(verdict) = self.judge(t, weight, distance, gap) {
+            if let Some(verdict) = self.judge(Test::Sharper, t, weight, distance, gap) {
                 return (Answer { steps: t, weight, distance, gap, verdict }, shares);
             }
-            direction = self.point_and_residual(&shares).1;
         }
     }
 
-    /// The answer that a card with these shares after t steps must carry, none where no verdict is due.
-    pub fn answer_of(&self, t: usize, shares: &[u16]) -> Option<Answer> {
+    /// The answer that a card of the test's edition with these shares after t steps must carry, none where no verdict is due.
+    pub fn answer_of(&self, test: Test, t: usize, shares: &[u16]) -> Option<Answer> {
         let weight = (t * (t + 1) / 2) as i128;
         let (distance, gap) = self.distance_and_gap(shares);
-        let verdict = self.judge(t, weight, distance, gap)?;
+        let verdict = self.judge(test, t, weight, distance, gap)?;
         Some(Answer { steps: t, weight, distance, gap, verdict })
     }
 
-    /// The card of some shares and fields.
-    pub fn card(&self, shares: &[u16], verdict: u16, steps: u16, tolerance: u32, distance: u64, gap: u64) -> Vec<u8> {
+    /// The card of the test's edition of some shares and fields.
+    #[allow(clippy::too_many_arguments)]
+    pub fn card(&self, test: Test, shares: &[u16], verdict: u16, steps: u16, tolerance: u32, distance: u64, gap: u64) -> Vec<u8> {
         let mut card = Vec::new();
         for (boat, share) in shares.iter().enumerate() {
             if *share != 0 {
@@ -220,12 +261,13 @@ impl Problem {
         card.extend_from_slice(&gap.to_le_bytes());
         card.extend_from_slice(&(self.rows.len() as u16).to_le_bytes());
         card.extend_from_slice(&(self.target.len() as u16).to_le_bytes());
-        card.extend_from_slice(b"WCD1");
+        card.extend_from_slice(test.letters());
         card
     }
 
-    pub fn answer_card(&self, answer: &Answer, shares: &[u16]) -> Vec<u8> {
+    pub fn answer_card(&self, test: Test, answer: &Answer, shares: &[u16]) -> Vec<u8> {
         self.card(
+            test,
             shares,
             answer.verdict.number(),
             answer.steps as u16,
@@ -241,9 +283,9 @@ impl Problem {
             return Err(31);
         }
         let (before, trailer) = card.split_at(card.len() - 36);
-        if &trailer[32..] != b"WCD1" {
+        let Some(test) = [Test::Former, Test::Sharper].into_iter().find(|test| &trailer[32..] == test.letters()) else {
             return Err(32);
-        }
+        };
         if unsigned(&trailer[28..30]) as usize != self.rows.len() || unsigned(&trailer[30..32]) as usize != self.target.len() {
             return Err(33);
         }
@@ -272,7 +314,7 @@ impl Problem {
         if body.len() / 4 > t || total != t * (t + 1) / 2 {
             return Err(37);
         }
-        let Some(answer) = self.answer_of(t, &shares) else {
+        let Some(answer) = self.answer_of(test, t, &shares) else {
             return Err(38);
         };
         if unsigned(&trailer[12..20]) as i128 != answer.distance
@@ -303,7 +345,7 @@ pub fn search(book: &[u8], sheet: &[u8], slots: &mut [u16]) -> Result<Answer, u3
 pub fn write_card(book: &[u8], sheet: &[u8], buffer: &mut [u8]) -> Result<(Answer, usize), u32> {
     let problem = read_files(book, sheet)?;
     let (answer, shares) = problem.run();
-    let card = problem.answer_card(&answer, &shares);
+    let card = problem.answer_card(Test::Sharper, &answer, &shares);
     if buffer.len() < card.len() {
         return Err(22);
     }

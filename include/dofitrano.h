@@ -48,13 +48,13 @@ enum dofitrano_refusal {
     DOFITRANO_CARD_BUFFER = 22, /* card buffer shorter than the card */
     /* the card */
     DOFITRANO_CARD_LENGTH = 31,    /* shorter than 36 or longer than 40,000 bytes */
-    DOFITRANO_CARD_LETTERS = 32,   /* letters not WCD1 */
+    DOFITRANO_CARD_LETTERS = 32,   /* letters not WCD1 or WCD2 */
     DOFITRANO_CARD_SIZES = 33,     /* boats or columns differ from the book's */
     DOFITRANO_CARD_STEPS = 34,     /* verdict outside 1 to 3, or steps used 0 or above the sheet's */
     DOFITRANO_CARD_BACK = 35,      /* back 0, no multiple of 4, above 4 x boats, or before the first byte */
     DOFITRANO_CARD_BOATS = 36,     /* boats not strictly ascending, a boat not in the book, or a share of 0 */
     DOFITRANO_CARD_SHARES = 37,    /* more boats than steps used, or shares not totalling t (t + 1) / 2 */
-    DOFITRANO_CARD_UNTRUE = 38,    /* E, G or the verdict untrue of the shares */
+    DOFITRANO_CARD_UNTRUE = 38,    /* E, G or the verdict, judged by the test of the letters, untrue of the shares */
     DOFITRANO_CARD_TOLERANCE = 39, /* tolerance differs from the sheet's */
     /* the scale cells */
     DOFITRANO_CELL_UNWEIGHED = 41, /* a cell not weighed */
@@ -76,7 +76,7 @@ typedef struct dofitrano_reply {
     uint32_t weight;    /* W = t (t + 1) / 2, the total of the shares */
     uint64_t distance;  /* E: the squared distance is E / W^2 */
     uint64_t gap;       /* G: the gap is G / W^2 */
-    int64_t floor;      /* of Beyond: E - 2 G; else 0 */
+    int64_t floor;      /* of Beyond: E - 2 G, which may be below 0; else 0 */
     uint64_t shortfall; /* of Spent: E - tolerance x W^2; else 0 */
 } dofitrano_reply;
 
@@ -95,14 +95,14 @@ typedef struct dofitrano_card_reply {
 /* A card has at most 4 bytes a boat and 36 more: a buffer of this length is never too short. */
 #define DOFITRANO_CARD_MOST 1060
 
-/* Makes the search itself and writes its card to the first bytes of `output`; later bytes are as they were. Refuses by 1 to 17,
- * then 22. */
+/* Makes the search itself and writes its card, of the edition WCD2, to the first bytes of `output`; later bytes are as they were.
+ * Refuses by 1 to 17, then 22. */
 dofitrano_card_reply dofitrano_write_card(const uint8_t *book, size_t book_length,
                                           const uint8_t *sheet, size_t sheet_length,
                                           uint8_t *output, size_t output_length);
 
-/* Checks a card against its book and sheet without a search. Refuses by 1 to 17, then 21, then 31 to 39. Where it accepts, it replies
- * with the card's answer and fills the first slots of `shares` with the card's shares as dofitrano_search does. */
+/* Checks a card, of either edition, against its book and sheet without a search. Refuses by 1 to 17, then 21, then 31 to 39. Where it
+ * accepts, it replies with the card's answer and fills the first slots of `shares` with the card's shares as dofitrano_search does. */
 dofitrano_reply dofitrano_check_card(const uint8_t *book, size_t book_length,
                                      const uint8_t *sheet, size_t sheet_length,
                                      const uint8_t *card, size_t card_length,
