@@ -293,16 +293,20 @@ def squared_diameter(rows):
     return max(sum((x - y) ** 2 for x, y in zip(one, other)) for one in rows for other in rows)
 
 
-def gaps_of(rows, target, steps):
-    """The duality gaps after 1, 2, ..., `steps` steps, with no regard to verdicts."""
+def measures(rows, target, steps):
+    """Squared distance and duality gap after 1, 2, ..., `steps` steps, with no regard to verdicts."""
     point = [Fraction(value) for value in rows[0]]
-    gaps = []
+    _, _, vertex = measure(point, rows, target)
     for k in range(steps):
-        _, _, vertex = measure(point, rows, target)
         gamma = Fraction(2, k + 2)
         point = [(1 - gamma) * x + gamma * s for x, s in zip(point, rows[vertex])]
-        gaps.append(measure(point, rows, target)[1])
-    return gaps
+        squared_distance, duality_gap, vertex = measure(point, rows, target)
+        yield squared_distance, duality_gap
+
+
+def gaps_of(rows, target, steps):
+    """The duality gaps of these."""
+    return [gap for _, gap in measures(rows, target, steps)]
 
 
 def gap_ratios(rows, target, steps):

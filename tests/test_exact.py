@@ -19,6 +19,8 @@ HERE = os.path.dirname(os.path.abspath(__file__))
 sys.path.insert(0, HERE)
 
 import exact  # noqa: E402
+import make_data  # noqa: E402
+import printing  # noqa: E402
 from exact import make_book, make_card, make_sheet  # noqa: E402
 
 checks = 0
@@ -403,6 +405,16 @@ def editions():
         agree("run %d, Beyond" % number, former.verdict != exact.BEYOND or sharper.verdict == exact.BEYOND, True)
 
 
+def filed_before():
+    """The cards of crates/edition_test/data are those of runs by the former test, byte for byte."""
+    for name, (_, book, sheet) in make_data.FILED_BEFORE.items():
+        rows, (target, steps, tolerance) = exact.read_book(book), exact.read_sheet(sheet)
+        answer, shares = exact.run(rows, target, steps, tolerance, exact.former_test)
+        card = printing.data_file("edition_test", name + ".wcd")
+        agree("card %s" % name, card, exact.card_bytes(answer, shares, tolerance, len(rows), len(target), b"WCD1"))
+        agree("card %s checked" % name, exact.check_card(book, sheet, card, [0] * len(rows)), (0, answer, shares))
+
+
 def two_faults():
     """With two faults the lower number is given back, whatever the pair."""
     long_front = b"f" * 40000
@@ -699,7 +711,7 @@ def gap_bounds():
 
 def main():
     for part in (marked_sheets, readers, book_and_sheet_refusals, lent_lists, card_refusals,
-                 two_tests, editions, two_faults, ties_and_start, random_books, full_size, damaged_files,
+                 two_tests, editions, filed_before, two_faults, ties_and_start, random_books, full_size, damaged_files,
                  from_a_shell, whole_numbers, scale_cells, subtractions, gap_bounds):
         part()
     if differences:

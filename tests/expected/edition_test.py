@@ -3,7 +3,6 @@
 import math
 import os
 import sys
-from fractions import Fraction
 
 sys.path.insert(0, os.path.join(os.path.dirname(os.path.abspath(__file__)), ".."))
 import exact  # noqa: E402
@@ -44,21 +43,10 @@ def filed_before():
         yield name + "\n" + checked(book, sheet, card) + forged_editions(book, sheet, card, len(card))[0]
 
 
-def measures(rows, target, steps):
-    """Squared distance and duality gap after each step, whatever the verdicts are."""
-    point = [Fraction(value) for value in rows[0]]
-    _, _, vertex = exact.measure(point, rows, target)
-    for k in range(steps):
-        gamma = Fraction(2, k + 2)
-        point = [(1 - gamma) * x + gamma * s for x, s in zip(point, rows[vertex])]
-        distance, gap, vertex = exact.measure(point, rows, target)
-        yield distance, gap
-
-
 def border(book, sheet):
     """The greatest tolerance at which a search ends Beyond: the greatest below (d - g)^2 / d after some step; 0 if there is none."""
     target, steps, _ = exact.read_sheet(sheet)
-    limits = [math.ceil((d - g) ** 2 / d) - 1 for d, g in measures(exact.read_book(book), target, steps) if d > g]
+    limits = [math.ceil((d - g) ** 2 / d) - 1 for d, g in exact.measures(exact.read_book(book), target, steps) if d > g]
     return max(limits, default=0)
 
 
