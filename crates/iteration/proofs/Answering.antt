@@ -17,7 +17,6 @@ use Rattle.method.specs.Iterates.{direction, residual}
 use Rattle.method.specs.Answers.{answer-at}
 use Rattle.method.specs.Minimum.{minimum}
 use Rattle.method.proofs.Weights.{weight-most}
-use Rattle.method.proofs.Argmin.{argmin-at}
 use Rattle.method.proofs.Accepted.{mixed, residual-entries, residual-length}
 use Rattle.iteration.specs.declared.Layout.{Layout}
 use Rattle.iteration.specs.declared.State.{State}
@@ -38,7 +37,7 @@ module _ (b s : List ℕ) (ok : files-refusal b s ≡ 0) {t : ℕ} {x : State} (
 
   least-is : x .least ≡ minimum (M.scores (ones (columns b)) r (rows b))
   unfolding direction
-  least-is = H .least-is ∙ argmin-at (M.scores (ones (columns b)) r (rows b))
+  least-is = H .least-is
 
   front : take (columns b) (x .residual) ≡ r
   front = ap (take (columns b)) (H .residual-is) ∙ take-at r (replicate (64 - columns b) (pos 0)) (columns b) (residual-length b s ok (suc t))

@@ -12,20 +12,22 @@ use Rattle.frank_wolfe.specs.Vectors.{add, subtract, scale}
 use Rattle.method.specs.declared.Test.the-variants.{Sharper}
 use Rattle.method.specs.declared.Answer.{Answer}
 use Rattle.method.specs.Problem.{problem, weight}
-use Rattle.method.specs.Iterates.{argmin, residual}
+use Rattle.method.specs.Iterates.{residual}
 use Rattle.method.specs.Answers.{answer-at}
+use Rattle.method.specs.Minimum.{minimum}
+use Rattle.method.proofs.Argmin.{argmin-at}
 use Rattle.method.proofs.Accepted.{residual-length}
 use Rattle.sums.specs.Operands.{Span, Movable}
-use Rattle.scoring.specs.Scores.{least-of}
+use Rattle.scoring.specs.Scores.{least-of, pick-of}
 use Rattle.scoring.specs.declared.Least.{Least}
 use Rattle.iteration.specs.declared.Layout.{Layout}
 use Rattle.iteration.specs.declared.State.{State}
-use Rattle.iteration.specs.States.{file-layout, iterate-of, scores-of, boat-products, fresh-state, Holds}
+use Rattle.iteration.specs.States.{file-layout, iterate-of, scores-of, pick-at, boat-products, fresh-state, Holds}
 use Rattle.iteration.specs.Measures.{measure, Measurable}
 use Rattle.iteration.proofs.States.{book-fits, row-span, target-span, movable, moved-is, fresh-holds, best-below, next-holds, first-scores}
 use Rattle.iteration.proofs.Answering.{answerable, answer-right}
 
-module _ (b s : List ℕ) (ok : files-refusal b s ≡ 0) {i : ℕ} (h : i ≡ argmin (scores-of b s 0)) where
+module _ (b s : List ℕ) (ok : files-refusal b s ≡ 0) {i : ℕ} (h : i ≡ pick-at b s 0) where
   abbrev fresh : State
   fresh = fresh-state (least-of (boat-products b s 0))
 
@@ -50,12 +52,20 @@ module _ (b s : List ℕ) (ok : files-refusal b s ≡ 0) {i : ℕ} (h : i ≡ ar
     module _ {r : List ℤ}
         (er : r ≡ add (take (l .columns) (replicate 64 (pos 0))) (scale 1 (subtract (values (l .columns) (drop (l .rows + 2 * (i * l .columns)) b)) (values (l .columns) (drop (l .target) s)))) ++ drop (l .columns) (replicate 64 (pos 0)))
         {p : Least} (ep : p ≡ least-of (boat-products b s i)) {z : ℤ} (ez : z ≡ p .score) where
-      held : Holds b s 1 (record { steps = 1; residual = r; best = p .boat; least = z })
+      -- the boat that the second step would pick is not looked for
+      abbrev second : Least
+      second = pick-of (iterate-of b s 1 .shares) (scores-of b s 1)
+
+      least-is : z ≡ second .score
+      unfolding least-of pick-of
+      least-is = ez ∙ ap (λ (x : Least). x .score) ep ∙ argmin-at (boat-products b s i) ∙ ap minimum (rw picks at (first-scores b s ok fresh-held))
+
+      held : Holds b s 1 (record { steps = 1; residual = r; best = second .boat; least = z })
       unfolding file-layout fresh-state
       held =
           next-holds b s ok fresh-held
           (rw picks (moved-is b s ok (residual (problem b s) 0 (iterate-of b s 0)) (replicate (64 - columns b) (pos 0)) i 1 pick-below (residual-length b s ok 0) (fresh-held .residual-is) (rw e at er)))
-          (ep ∙ ap least-of (rw picks at (first-scores b s ok fresh-held))) ez
+          refl least-is
 
       pub first-measurable : Measurable r 1 z s l
       unfolding weight

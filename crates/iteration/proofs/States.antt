@@ -18,16 +18,17 @@ use Rattle.frank_wolfe.specs.Vectors.{add, subtract, scale, weighted, ones, sum
 use Rattle.frank_wolfe.proofs.Vectors.{length-scale, length-subtract, weighted-symmetric, weighted-add, weighted-scale, weighted-zero, scale-one}
 use Rattle.method.specs.Problem.{problem, share}
 use Rattle.method.specs.Iterates as M
-use Rattle.method.specs.Iterates.{iterate, direction, pick, with-shares, step, start, argmin, row, residual}
-use Rattle.method.proofs.Argmin.{argmin-below, among-row, score-at, length-scores}
+use Rattle.method.specs.Iterates.{iterate, direction, active-argmin, pick, with-shares, step, start, row, residual}
+use Rattle.method.proofs.Argmin.{argmin-at, among-row, score-at, length-scores}
+use Rattle.method.proofs.Picks.{active-none, pick-below}
 use Rattle.method.proofs.Entries as E
 use Rattle.method.proofs.Shares.{residual-step, residual-start}
 use Rattle.method.proofs.Accepted.{in-range, few-ones, residual-length}
 use Rattle.sums.specs.Operands.{Bounded, Span, Grid, Movable, Rows-bounded, Rescorable}
-use Rattle.scoring.specs.Scores.{least-of}
+use Rattle.scoring.specs.Scores.{least-of, pick-of}
 use Rattle.scoring.specs.declared.Least.{Least}
 use Rattle.iteration.specs.declared.State.{State}
-use Rattle.iteration.specs.States.{iterate-of, scores-of, boat-difference, boat-products, fresh-state, Holds}
+use Rattle.iteration.specs.States.{iterate-of, scores-of, pick-at, boat-difference, boat-products, fresh-state, Holds}
 
 -- ---- Scores are linear in the vector that they are taken with
 
@@ -171,25 +172,29 @@ module _ (b s : List ℕ) (ok : files-refusal b s ≡ 0) where
   -- ---- The fresh state
 
   pub fresh-holds : {p : Least} → p ≡ least-of (boat-products b s 0) → Holds b s 0 (fresh-state p)
-  unfolding problem iterate start direction least-of fresh-state
+  unfolding problem iterate start direction pick active-argmin least-of fresh-state
   fresh-holds e =
       let z : residual (problem b s) 0 (start (problem b s)) ≡ replicate (columns b) (pos 0) = residual-start (problem b s) (sheet-fits .target-length) in
       record {
         steps-are = refl;
         residual-is = rw z (replicate-parts (columns b) 64 (pos 0) (book-fits .most-columns));
-        best-is = ap (λ (x : Least). x .boat) e;
-        least-is = ap (λ (x : Least). x .score) e;
+        best-is = ap (λ (x : Least). x .boat) e ∙ sym (active-none 0 _ _ (length (rows b)) _);
+        least-is = ap (λ (x : Least). x .score) e ∙ argmin-at (boat-products b s 0);
       }
 
   -- ---- The next state
 
   pub best-below : {t : ℕ} {x : State} → Holds b s t x → x .best < boats b
-  best-below {t} H = rw (H .best-is) (rw (book-fits .row-count) at (argmin-below (ones (columns b)) (direction (problem b s) t (iterate-of b s t)) (rows b) (omega (arith, book-fits .row-count, book-fits .some-boats))))
+  unfolding problem
+  best-below {t} H =
+      rw (H .best-is)
+      (rw (book-fits .row-count) at (pick-below (problem b s) (direction (problem b s) t (iterate-of b s t)) (iterate-of b s t) (omega (arith, book-fits .row-count, book-fits .some-boats))))
 
   pub next-holds : {t : ℕ} {x : State} → Holds b s t x → {r : List ℤ} →
       r ≡ add (residual (problem b s) t (iterate-of b s t)) (scale (suc t) (subtract (row (rows b) (x .best)) (sheet s .target))) ++ replicate (64 - columns b) (pos 0) →
-      {p : Least} → p ≡ least-of (scores-of b s (suc t)) → {z : ℤ} → z ≡ p .score → Holds b s (suc t) (record { steps = suc t; residual = r; best = p .boat; least = z })
-  unfolding problem share pick iterate least-of
+      {p : Least} → p ≡ pick-of (iterate-of b s (suc t) .shares) (scores-of b s (suc t)) → {z : ℤ} → z ≡ p .score →
+      Holds b s (suc t) (record { steps = suc t; residual = r; best = p .boat; least = z })
+  unfolding problem share pick iterate pick-of
   next-holds {t} {x} H e ep ez =
       record {
         steps-are = refl;
@@ -201,17 +206,17 @@ module _ (b s : List ℕ) (ok : files-refusal b s ≡ 0) where
 
   -- the shares of the next iterate
   pub next-shares : {t : ℕ} {x : State} → Holds b s t x → set (iterate-of b s t .shares) (x .best) (getD (iterate-of b s t .shares) (x .best) 0 + suc t) ≡ iterate-of b s (suc t) .shares
-  unfolding problem share pick iterate step with-shares
+  unfolding problem share iterate step with-shares
   next-shares H = rw (H .best-is)
 
   -- the scores move with the residual
   pub next-scores : {t : ℕ} {x : State} → Holds b s t x →
       add (M.scores (ones (columns b)) (residual (problem b s) t (iterate-of b s t)) (rows b)) (scale (suc t) (boat-products b s (x .best))) ≡ scores-of b s (suc t)
-  unfolding problem share pick iterate direction
+  unfolding problem share iterate direction
   next-scores {t} {x} H =
       rw (H .best-is)
-      (sym (scores-add (ones (columns b)) (residual (problem b s) t (iterate-of b s t)) (subtract (row (rows b) (argmin (scores-of b s t))) (sheet s .target)) (suc t) (rows b)
-      (residual-length b s ok t ∙ sym (length-difference (argmin (scores-of b s t)) (rw (H .best-is) at (best-below H)))))
+      (sym (scores-add (ones (columns b)) (residual (problem b s) t (iterate-of b s t)) (subtract (row (rows b) (pick-at b s t)) (sheet s .target)) (suc t) (rows b)
+      (residual-length b s ok t ∙ sym (length-difference (pick-at b s t) (rw (H .best-is) at (best-below H)))))
       ∙ ap (λ r. M.scores (ones (columns b)) r (rows b)) (sym (residual-step (problem b s) t (direction (problem b s) t (iterate-of b s t)) (iterate-of b s t))))
 
   -- at the first step they are the boat's products

@@ -19,7 +19,7 @@ use Rattle.method.specs.Iterates.{residual}
 use Rattle.method.proofs.Weights.{weight-most, weight-more}
 use Rattle.method.proofs.Accepted.{residual-entries, residual-length}
 use Rattle.sums.specs.Operands.{Bounded, Span, Grid, Movable, Rows-bounded}
-use Rattle.scoring.specs.Scores.{least-of}
+use Rattle.scoring.specs.Scores.{least-of, pick-of}
 use Rattle.scoring.specs.declared.Least.{Least}
 use Rattle.iteration.specs.declared.Layout.{Layout}
 use Rattle.iteration.specs.declared.State.{State}
@@ -105,7 +105,7 @@ module _ (b s : List ℕ) (ok : files-refusal b s ≡ 0) {l : Layout} (e : l ≡
 
     pub next-result : {r : List ℤ} →
         r ≡ add (take (l .columns) (x .residual)) (scale (x .steps + 1) (subtract (values (l .columns) (drop (l .rows + 2 * (x .best * l .columns)) b)) (values (l .columns) (drop (l .target) s)))) ++ drop (l .columns) (x .residual) →
-        {p : Least} → p ≡ least-of (scores-of b s (x .steps + 1)) → {z : ℤ} → z ≡ p .score →
+        {p : Least} → p ≡ pick-of (iterate-of b s (x .steps + 1) .shares) (scores-of b s (x .steps + 1)) → {z : ℤ} → z ≡ p .score →
         Holds b s (x .steps + 1) (record { steps = x .steps + 1; residual = r; best = p .boat; least = z })
     unfolding file-layout
     next-result er ep ez =

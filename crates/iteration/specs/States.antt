@@ -2,13 +2,14 @@
 use mathlib.Core.Path.{_≡_}
 use mathlib.Core.List.{List, _++_}
 use Prim.Native.Nat.{ℕ, _-_}
-use lib.ListN.{getD, replicate}
+use lib.ListN.{replicate}
 use lib.IntN.{ℤ, pos}
 use Rattle.files.specs.Book.{boats, columns, rows, rows-offset}
 use Rattle.files.specs.Sheet.{sheet, target-offset}
 use Rattle.method.specs.Problem.{problem}
 use Rattle.method.specs.Iterates as M
-use Rattle.method.specs.Iterates.{Iterate, iterate, direction, argmin, row}
+use Rattle.method.specs.Iterates.{Iterate, iterate, direction, pick, row}
+use Rattle.method.specs.Minimum.{minimum}
 use Rattle.frank_wolfe.specs.Vectors.{subtract, ones}
 use Rattle.scoring.specs.declared.Least.{Least}
 use Rattle.iteration.specs.declared.Layout.{Layout}
@@ -25,6 +26,10 @@ iterate-of b s t = iterate (problem b s) t
 abbrev pub scores-of : (b s : List ℕ) → (t : ℕ) → List ℤ
 scores-of b s t = M.scores (ones (columns b)) (direction (problem b s) t (iterate-of b s t)) (rows b)
 
+-- the boat that step t + 1 picks
+abbrev pub pick-at : (b s : List ℕ) → (t : ℕ) → ℕ
+pick-at b s t = pick (problem b s) (direction (problem b s) t (iterate-of b s t)) (iterate-of b s t)
+
 -- a boat's row less the target
 abbrev pub boat-difference : (b s : List ℕ) → (boat : ℕ) → List ℤ
 boat-difference b s i = subtract (row (rows b) i) (sheet s .target)
@@ -37,9 +42,9 @@ boat-products b s i = M.scores (ones (columns b)) (boat-difference b s i) (rows 
 unfoldable pub fresh-state : (p : Least) → State
 fresh-state p = record { steps = 0; residual = replicate 64 (pos 0); best = p .boat; least = p .score }
 
--- the state x holds the residual of the iterate after t steps, and the boat that the next step picks, with its score
+-- the state x holds the residual of the iterate after t steps, and the boat that the next step picks, with its score, which is the least
 pub record Holds (b s : List ℕ) (t : ℕ) (x : State) : Type 0 where
   pub steps-are : x .steps ≡ t
   pub residual-is : x .residual ≡ M.residual (problem b s) t (iterate-of b s t) ++ replicate (64 - columns b) (pos 0)
-  pub best-is : x .best ≡ argmin (scores-of b s t)
-  pub least-is : x .least ≡ getD (scores-of b s t) (argmin (scores-of b s t)) (pos 0)
+  pub best-is : x .best ≡ pick-at b s t
+  pub least-is : x .least ≡ minimum (scores-of b s t)

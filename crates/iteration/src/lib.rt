@@ -11,10 +11,9 @@ ghost use Rattle.files.specs.Sheet.{files-refusal};
 ghost use Rattle.files.specs.Bytes.{values};
 ghost use Rattle.method.specs.declared.Test.the-variants.{Sharper};
 ghost use Rattle.method.specs.Problem.{fixed, weight, problem};
-ghost use Rattle.method.specs.Iterates.{argmin};
 ghost use Rattle.method.specs.Answers.{answer-at};
-ghost use Rattle.scoring.specs.Scores.{least-of};
-ghost use Rattle.iteration.specs.States.{file-layout, boat-difference, boat-products, iterate-of, scores-of, fresh-state, Holds};
+ghost use Rattle.scoring.specs.Scores.{least-of, pick-of};
+ghost use Rattle.iteration.specs.States.{file-layout, boat-difference, boat-products, iterate-of, scores-of, pick-at, fresh-state, Holds};
 ghost use Rattle.iteration.specs.Measures.{measure, tolerance-of, Measurable, Answerable};
 use method::Answer;
 use method::Test;
@@ -70,7 +69,7 @@ pub fn products_of(boat: usize, book: &[u8], sheet: &[u8], layout: Layout, to: &
     scoring::products(&d, book, rows, boats, columns, to);
 }
 
-// The least of a boat's products. Of boat 0 it gives the first pick.
+// The least of a boat's products. Of boat 0 it gives the first pick, before which no boat holds shares.
 pub fn least_product_of(boat: usize, book: &[u8], sheet: &[u8], layout: Layout) -> Least
     requires { ⌜ files-refusal (now book) (now sheet) ≡ 0 ⌝ }
     requires { ⌜ layout ≡ file-layout (now book) (now sheet) ⌝ }
@@ -109,13 +108,13 @@ impl State {
         }
     }
 
-    // Step k: the boat of least score gets k shares more, and the residual moves. `pick` is the boat of least score then.
+    // Step k: the boat picked gets k shares more, and the residual moves. `pick` is the boat that the step after it picks.
     pub fn next(self, book: &[u8], sheet: &[u8], layout: Layout, pick: Least) -> State
         requires { ⌜ files-refusal (now book) (now sheet) ≡ 0 ⌝ }
         requires { ⌜ layout ≡ file-layout (now book) (now sheet) ⌝ }
         requires { ⌜ Holds (now book) (now sheet) (self .steps) self ⌝ }
         requires { do ⌜ self .steps < (← ⟦State::MOST_STEPS⟧) ⌝ }
-        requires { ⌜ pick ≡ least-of (scores-of (now book) (now sheet) (self .steps + 1)) ⌝ }
+        requires { ⌜ pick ≡ pick-of (iterate-of (now book) (now sheet) (self .steps + 1) .shares) (scores-of (now book) (now sheet) (self .steps + 1)) ⌝ }
         ensures { λ r. ⌜ Holds (now (book .entry)) (now (sheet .entry)) (self .steps + 1) r ⌝ }
     {
         let rows = layout.rows;
@@ -167,7 +166,7 @@ pub fn measured(
 pub fn first_answer(boat: usize, book: &[u8], sheet: &[u8], layout: Layout) -> Answer
     requires { ⌜ files-refusal (now book) (now sheet) ≡ 0 ⌝ }
     requires { ⌜ layout ≡ file-layout (now book) (now sheet) ⌝ }
-    requires { ⌜ boat ≡ argmin (scores-of (now book) (now sheet) 0) ⌝ }
+    requires { ⌜ boat ≡ pick-at (now book) (now sheet) 0 ⌝ }
     ensures { λ x. ⌜ x ≡ answer-at Sharper (problem (now (book .entry)) (now (sheet .entry))) 1 (iterate-of (now (book .entry)) (now (sheet .entry)) 1) ⌝ }
 {
     let rows = layout.rows;

@@ -12,11 +12,9 @@ use lib.Signed.{_≤ℤ_, ltZ, ltZ-yes, ltZ-no, ≤ℤ-refl, <ℤ-≤ℤ-trans, 
 use Rattle.integers.proofs.Solver.{con, _⊗_, _⊝_, x₀, x₁, x₂, x₃}
 use Rattle.integers.proofs.Order.{<→<ℤ, ≤→≤ℤ}
 use Rattle.integers.proofs.Facts.{_≼_, known, _⊡_, derive, derive-times, ≤ℤ-trans, <ℤ→≤ℤ}
-use Rattle.frank_wolfe.specs.Method.{Argmin}
 use Rattle.frank_wolfe.specs.Vectors.{subtract, scale, weighted, Among, here, there}
-use Rattle.frank_wolfe.proofs.Vectors.{factored, Wide, wide-rest, weighted-subtract, weighted-scale, length-scale}
-use Rattle.method.specs.Problem.{Problem}
-use Rattle.method.specs.Iterates.{row, scores, argmin, argmin-from, pick, gaps, maximum, maximum-from}
+use Rattle.frank_wolfe.proofs.Vectors.{Wide, wide-rest, weighted-subtract, weighted-scale, length-scale}
+use Rattle.method.specs.Iterates.{row, scores, argmin, argmin-from, gaps, maximum, maximum-from}
 use Rattle.method.specs.Minimum.{minimum, minimum-from}
 
 -- ---- The lowest index among equals
@@ -110,7 +108,7 @@ least-score fs g rs = sym (score-at fs g rs (argmin (scores fs g rs))) ∙ argmi
 not-above : {a b : ℤ} → ltZ a b ≡ true → a ≤ℤ b
 not-above e = <ℤ→≤ℤ (ltZ-yes (rw e tt))
 
-not-below : {a b : ℤ} → ltZ a b ≡ false → b ≤ℤ a
+pub not-below : {a b : ℤ} → ltZ a b ≡ false → b ≤ℤ a
 not-below e = ltZ-no (rw e tt)
 
 minimum-from-first : (m : ℤ) (ps : List ℤ) → minimum-from m ps ≤ℤ m
@@ -163,20 +161,6 @@ unfolding row
 among-row [] i h = absurd (omega arith)
 among-row (v ∷ vs) zero h = here
 among-row (v ∷ vs) (suc i) h = there (among-row vs i (omega arith))
-
--- ---- The vertex that a step takes
-
-module _ (p : Problem) (g : List ℤ) where
-  pub pick-below : 1 ≤ length (p .vertices) → pick p g < length (p .vertices)
-  unfolding pick
-  pick-below h = argmin-below (p .factors) g (p .vertices) h
-
-  pub pick-score : weighted (p .factors) g (row (p .vertices) (pick p g)) ≡ minimum (scores (p .factors) g (p .vertices))
-  unfolding pick
-  pick-score = least-score (p .factors) g (p .vertices)
-
-  pub pick-row : 1 ≤ length (p .vertices) → Argmin (factored (p .factors)) (Among (p .vertices)) g (row (p .vertices) (pick p g))
-  pick-row h = record { vertex = among-row (p .vertices) (pick p g) (pick-below h); least = λ v a. rw pick-score (minimum-least (p .factors) g a) }
 
 -- ---- The greatest of <r, y - w v> by the least of <r, v>
 

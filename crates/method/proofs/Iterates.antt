@@ -20,7 +20,8 @@ use Rattle.method.specs.Problem.{Schedule, fixed, Problem, share, weight
 use Rattle.method.specs.Iterates.{start, residual, row, direction, pick, with-shares, step, iterate, distance, mixture-distance, farthest, row-diameter, diameter}
 use Rattle.method.specs.Bounds.{Step-bound}
 use Rattle.method.proofs.Weights.{weight-total}
-use Rattle.method.proofs.Argmin.{among-row, pick-row}
+use Rattle.method.proofs.Argmin.{among-row}
+use Rattle.method.proofs.Picks.{pick-row}
 use Rattle.method.proofs.Shares.{mixed-length, iterate-mixed}
 use Rattle.method.proofs.Mixtures.{Well-formed, residual-of}
 
@@ -82,9 +83,9 @@ module _ {p : Problem} (h : Well-formed p) where
   iterate-run zero = run-start (record { along = λ x. weighted-zero (p .factors) x (p .columns) })
   iterate-run (suc t) =
       let g = direction p t (iterate p t) in
-      let l = pick-row p g (h .some-row) in
+      let l = pick-row p g (iterate p t) (h .some-row) in
       run-step (iterate-run t) (scored t) l
-      (plus-is (p .factors) (iterate p t .point) (share (p .schedule) t) (row (p .vertices) (pick p g)) (long t ∙ sym (h .wide .each _ (l .vertex))))
+      (plus-is (p .factors) (iterate p t .point) (share (p .schedule) t) (row (p .vertices) (pick p g (iterate p t))) (long t ∙ sym (h .wide .each _ (l .vertex))))
 
 module _ {p : Problem} (h : Well-formed p) where
   abbrev S : Space

@@ -1,6 +1,7 @@
 -- The laws of the method that other crates use, and the proofs of what specs/ promises of a run.
 pub mod Weights
 pub mod Argmin
+pub mod Picks
 pub mod Entries
 pub mod Shares
 pub mod Mixtures

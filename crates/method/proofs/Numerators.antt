@@ -1,7 +1,7 @@
 -- Vectors of fractions over one denominator, by their numerators: differences, inner products, the least, the greatest, a step of the
 -- published method. Assumes nothing.
 use mathlib.Core.Path.{_≡_, refl, sym, ap, ap₂, _∙_}
-use mathlib.Core.Bool.{Bool, true, false, _||_, cond}
+use mathlib.Core.Bool.{Bool, true, false, not, _&&_, _||_, cond}
 use mathlib.Core.List.{List, [], _∷_}
 use Prim.Native.Nat.{ℕ, zero, suc, _+_, _*_, _≤_}
 use native.Mathlib.Omega.{arith}
@@ -11,14 +11,16 @@ use lib.IntN.{ℤ, pos, _+ℤ_, _*ℤ_}
 use lib.ListN.{length, getD, replicate}
 use lib.Signed.{ltZ}
 use Rattle.integers.proofs.Solver.{Expr, con, _⊕_, _⊗_, _⊝_, x₀, x₁, x₂, x₃, solve}
-use Rattle.integers.proofs.Facts.{plus-equation}
+use Rattle.integers.proofs.Facts.{plus-equation, le-not-lt}
 use Rattle.frank_wolfe.specs.Vectors.{add, subtract, scale, weighted}
 use Rattle.method.specs.Problem.{Schedule, fixed, share, weight}
-use Rattle.method.specs.Iterates.{scores, argmin, gaps, maximum-from, maximum}
-use Rattle.method.specs.Fractions.{Fraction, integer, Is-ratio, _+ℚ_, _-ℚ_, _*ℚ_, fractions, difference, inner-product}
-use Rattle.method.specs.Published.{linear-form, any-below, first-minimizer, step-size, move, gap-terms, greatest-from, greatest}
+use Rattle.method.specs.Minimum.{minimum}
+use Rattle.method.specs.Iterates.{scores, argmin, active-from, gaps, maximum-from, maximum}
+use Rattle.method.specs.Fractions.{Fraction, integer, Is-ratio, _+ℚ_, _-ℚ_, _*ℚ_, ltQ, fractions, difference, inner-product}
+use Rattle.method.specs.Published.{unit-vector, linear-form, any-below, first-minimizer, active-minimizer, step-size, move, gap-terms, greatest-from, greatest}
 use Rattle.method.proofs.Weights.{weight-suc, weight-twice}
 use Rattle.method.proofs.Argmin.{any-belowℤ, first-minimizerℤ, argmin-first}
+use Rattle.method.proofs.Picks.{any-below-minimum}
 use Rattle.method.proofs.Fractions.{one, integer-value, ratio-value, add-value, subtract-value, multiply-value, lt-value, same-value}
 
 abbrev O : Expr
@@ -33,6 +35,11 @@ integer-over b {w} h = record { above-zero = h; cross = solve (b ∷ pos w ∷ [
 
 zero-over : {w : ℕ} → 1 ≤ w → Is-ratio (integer (pos 0)) (pos 0) w
 zero-over {w} h = record { above-zero = h; cross = solve (pos w ∷ []) (O ⊗ x₀) (O ⊗ one) tt }
+
+-- shares as integers
+unfoldable pub integers : List ℕ → List ℤ
+integers [] = []
+integers (q ∷ qs) = pos q ∷ integers qs
 
 -- each fraction is the integer at its place over w
 pub data Over (w : ℕ) : List Fraction → List ℤ → Type 0 where
@@ -87,9 +94,42 @@ unfolding first-minimizer first-minimizerℤ
 over-first-minimizer none = refl
 over-first-minimizer (more e o) = ap₂ (λ t n. cond t (suc n) 0) (over-any-below e o) (over-first-minimizer o)
 
--- the vertex picked is that of least score
+-- the lowest-numbered of least score
 pub over-argmin : {w : ℕ} {x : List Fraction} {y : List ℤ} → Over w x y → first-minimizer x ≡ argmin y
 over-argmin {y} o = over-first-minimizer o ∙ sym (argmin-first y)
+
+-- the lowest-numbered of least score and weight above 0
+pub over-active : (i o : ℕ) {w v : ℕ} {all xs ws : List Fraction} {bs ps : List ℤ} (qs : List ℕ) → 1 ≤ v → 1 ≤ length bs →
+    Over w all bs → Over w xs ps → Over v ws (integers qs) → active-minimizer i all o ws xs ≡ active-from i (minimum bs) o qs ps
+unfolding active-minimizer active-from integers
+over-active i o [] hv h a n none = refl
+over-active i o (q ∷ qs) hv h a none (more e m) = refl
+over-active i o {bs = bs} (q ∷ qs) hv h a (more {a = b} d n) (more e m) =
+    ap₂ (λ t k. cond t i k)
+    (ap₂ (λ s t. s && t) (lt-value (zero-over hv) e) (ap not (over-any-below d a ∙ any-below-minimum b bs h) ∙ sym (le-not-lt b (minimum bs))))
+    (over-active (suc i) o qs hv h a n m)
+
+none-active : (i o n : ℕ) (all xs : List Fraction) → active-minimizer i all o (replicate n (integer (pos 0))) xs ≡ o
+unfolding active-minimizer ltQ
+none-active i o zero all xs = refl
+none-active i o (suc n) all [] = refl
+none-active i o (suc n) all (x ∷ xs) = none-active (suc i) o n all xs
+
+-- where all weight is at the first vertex, which is the lowest-numbered of any, the vertex is the lowest-numbered of least score
+pub first-active : (n : ℕ) (xs : List Fraction) → active-minimizer 0 xs (first-minimizer xs) (unit-vector n 0) xs ≡ first-minimizer xs
+unfolding active-minimizer unit-vector first-minimizer any-below
+first-active zero xs = refl
+first-active (suc n) [] = refl
+first-active (suc n) (x ∷ xs) =
+    ap (λ k. cond (ltQ (integer (pos 0)) (integer (pos 1)) && not (ltQ x x || any-below x xs)) 0 k)
+    (none-active 1 (cond (any-below x xs) (suc (first-minimizer xs)) 0) n (x ∷ xs) xs)
+    ∙ by (ltQ (integer (pos 0)) (integer (pos 1))) (ltQ x x) (any-below x xs)
+  where
+    by : (s t b : Bool) → cond (s && not (t || b)) 0 (cond b (suc (first-minimizer xs)) 0) ≡ cond b (suc (first-minimizer xs)) 0
+    by false t b = refl
+    by true true b = refl
+    by true false true = refl
+    by true false false = refl
 
 over-greatest-from : {w : ℕ} {m : Fraction} {a : ℤ} {x : List Fraction} {y : List ℤ} → Is-ratio m a w → Over w x y → Is-ratio (greatest-from m x) (maximum-from a y) w
 unfolding greatest-from maximum-from

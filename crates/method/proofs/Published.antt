@@ -17,28 +17,25 @@ use Rattle.files.proofs.Refusal.{and-true}
 use Rattle.frank_wolfe.specs.Vectors.{add, scale}
 use Rattle.frank_wolfe.proofs.Vectors.{norm-weighted, scale-one}
 use Rattle.method.specs.Problem.{Problem, share, weight}
-use Rattle.method.specs.Iterates.{start, residual, row, direction, pick, with-shares, step, iterate, distance, signed-gap, gap}
+use Rattle.method.specs.Iterates.{start, residual, row, direction, active-argmin, pick, with-shares, step, iterate, distance, signed-gap, gap}
 use Rattle.method.specs.declared.Verdict.{Verdict}
 use Rattle.method.specs.declared.Verdict.the-variants.{Within, Beyond, Spent}
 use Rattle.method.specs.declared.Test.the-variants.{Sharper}
 use Rattle.method.specs.Answers.{is-beyond, verdict, verdict-number, verdict-carries, stops, answer-at, steps-used, run-iterate, run-answer}
 use Rattle.method.specs.Fractions.{Fraction, integer, Is-ratio, _-ℚ_, _*ℚ_, ltQ, _≤ℚ_, _<ℚ_, fractions}
-use Rattle.method.specs.Published.{unit-vector, gradient, step-size, move, minimizer, published-iterate, published-pick, published-distance, published-gap, published-floor}
+use Rattle.method.specs.Published.{unit-vector, linear-form, active-minimizer, gradient, step-size, move, minimizer, published-iterate, published-pick, published-distance, published-gap, published-floor}
 use Rattle.method.specs.PublishedRun.{Published-beyond, Is-published, Published-step, Published-run}
 use Rattle.method.proofs.Weights.{weight-zero, weight-suc, weight-positive}
-use Rattle.method.proofs.Argmin.{among-row}
+use Rattle.method.proofs.Argmin.{length-scores, among-row}
+use Rattle.method.proofs.Picks.{active-none}
 use Rattle.method.proofs.Shares.{Mixed, mixed-is, iterate-mixed}
 use Rattle.method.proofs.Mixtures.{Well-formed, gap-is}
 use Rattle.method.proofs.Verdicts.{Means, verdict-means, within-exactly, beyond-exactly, beyond-carries, spent-carries}
 use Rattle.method.proofs.Running.{stops-at, Stopped, stopped}
 use Rattle.method.proofs.Fractions.{one, integer-value, subtract-value, multiply-value, lt-value, le-exactly, same-value}
-use Rattle.method.proofs.Numerators.{integer-over, Over, over-at, over-fractions, over-difference, over-inner, over-linear-form, over-gap-terms, over-argmin, over-greatest, step-ratio, over-step, over-first}
+use Rattle.method.proofs.Numerators.{integer-over, integers, Over, over-at, over-fractions, over-difference, over-inner, over-linear-form, over-gap-terms, over-argmin, over-active, first-active, over-greatest, step-ratio, over-step, over-first}
 
 -- ---- Shares as integers
-
-integers : List ℕ → List ℤ
-integers [] = []
-integers (q ∷ qs) = pos q ∷ integers qs
 
 integers-at : (qs : List ℕ) (i : ℕ) → getD (integers qs) i (pos 0) ≡ pos (getD qs i 0)
 unfolding integers
@@ -115,13 +112,22 @@ module _ {p : Problem} (wf : Well-formed p) where
   unfolding gradient residual
   over-residual t s = over-difference (s .point) (p .target)
 
-  pick-first : published-pick p 0 ≡ pick p (direction p 0 (iterate p 0))
-  unfolding published-pick minimizer gradient published-iterate direction row pick
-  pick-first = over-argmin (over-linear-form (p .factors) (omega arith) (rw scale-one at (over-difference (over-fractions (getD (p .vertices) 0 [])) (p .target))) (p .vertices))
+  -- before the first step nobody holds shares and the published weight is all at the first vertex: both take the lowest-numbered
+  pick-first : published-pick p 0 ≡ pick p (direction p 0 (iterate p 0)) (iterate p 0)
+  unfolding published-pick minimizer gradient published-iterate direction row pick active-argmin iterate start
+  pick-first =
+      first-active (length (p .vertices)) _
+      ∙ over-argmin (over-linear-form (p .factors) (omega arith) (rw scale-one at (over-difference (over-fractions (getD (p .vertices) 0 [])) (p .target))) (p .vertices))
+      ∙ sym (active-none 0 _ _ (length (p .vertices)) _)
 
-  pick-later : (t : ℕ) → Same t → published-pick p (suc t) ≡ pick p (direction p (suc t) (iterate p (suc t)))
-  unfolding published-pick minimizer direction pick
-  pick-later t s = over-argmin (over-linear-form (p .factors) (above-zero t) (over-residual t s) (p .vertices))
+  pick-later : (t : ℕ) → Same t → published-pick p (suc t) ≡ pick p (direction p (suc t) (iterate p (suc t))) (iterate p (suc t))
+  unfolding published-pick minimizer direction pick active-argmin
+  pick-later t s =
+      let o = over-linear-form (p .factors) (above-zero t) (over-residual t s) (p .vertices) in
+      let z = published-iterate p (suc t) in
+      let xs = linear-form (p .factors) (gradient (p .target) (z .point)) (p .vertices) in
+      ap (λ k. active-minimizer 0 xs k (z .weights) xs) (over-argmin o)
+      ∙ over-active 0 _ (iterate p (suc t) .shares) (above-zero t) (rw (length-scores (p .factors)) (wf .some-row)) o o (s .shares)
 
   first-share : Is-ratio (step-size (p .schedule) 0) (pos (share (p .schedule) 0)) (share (p .schedule) 0)
   first-share = rw (weight-suc (p .schedule) 0, weight-zero (p .schedule), zero-add) at (step-ratio (p .schedule) 0 (above-zero 0))
@@ -152,7 +158,7 @@ module _ {p : Problem} (wf : Well-formed p) where
       k = share (p .schedule) 0
 
       i : ℕ
-      i = pick p (direction p 0 (start p))
+      i = pick p (direction p 0 (start p)) (start p)
 
       none-yet : List ℕ
       none-yet = replicate (length (p .vertices)) 0
@@ -162,7 +168,7 @@ module _ {p : Problem} (wf : Well-formed p) where
   same-later t s =
       let k = share (p .schedule) (suc t) in
       let n = length (p .vertices) in
-      let i = pick p (direction p (suc t) (iterate p (suc t))) in
+      let i = pick p (direction p (suc t) (iterate p (suc t))) (iterate p (suc t)) in
       let qs = iterate p (suc t) .shares in
       let z = published-iterate p (suc t) in
       let g : Is-ratio (step-size (p .schedule) (suc t)) (pos k) (weight (p .schedule) (suc t) + k) =
@@ -182,7 +188,7 @@ module _ {p : Problem} (wf : Well-formed p) where
   same zero = same-first
   same (suc t) = same-later t (same t)
 
-  pub same-pick : (k : ℕ) → published-pick p k ≡ pick p (direction p k (iterate p k))
+  pub same-pick : (k : ℕ) → published-pick p k ≡ pick p (direction p k (iterate p k)) (iterate p k)
   same-pick zero = pick-first
   same-pick (suc k) = pick-later k (same k)
 

@@ -14,7 +14,7 @@ use Rattle.method.specs.Problem.{Problem, share, weight}
 use Rattle.method.specs.Iterates.{Iterate, start, residual, row, direction, pick, with-shares, step, iterate, support}
 use Rattle.method.specs.Bounds.{mixture-iterate}
 use Rattle.method.proofs.Weights.{weight-zero, weight-suc}
-use Rattle.method.proofs.Argmin.{pick-below}
+use Rattle.method.proofs.Picks.{pick-below}
 
 -- ---- One share list
 
@@ -73,9 +73,9 @@ module _ (p : Problem) where
   pub step-mixed : {t : ℕ} {x : Iterate} (g : List ℤ) → 1 ≤ length (p .vertices) → Mixed p t x → Mixed p (suc t) (step p t g x)
   unfolding step with-shares row
   step-mixed {t} {x} g some m =
-      let i = pick p g in
+      let i = pick p g x in
       let k = share (p .schedule) t in
-      let h : i < length (x .shares) = rw (m .count) (pick-below p g some) in
+      let h : i < length (x .shares) = rw (m .count) (pick-below p g x some) in
       record {
         count = length-set (x .shares) i (getD (x .shares) i 0 + k) ∙ m .count;
         total = sum-set (x .shares) i k h ∙ ap (λ w. w + k) (m .total) ∙ sym (weight-suc (p .schedule) t);
@@ -84,9 +84,9 @@ module _ (p : Problem) where
 
   -- r′ = r + k (s - u)
   pub residual-step : (t : ℕ) (g : List ℤ) (x : Iterate) →
-      residual p (suc t) (step p t g x) ≡ add (residual p t x) (scale (share (p .schedule) t) (subtract (row (p .vertices) (pick p g)) (p .target)))
+      residual p (suc t) (step p t g x) ≡ add (residual p t x) (scale (share (p .schedule) t) (subtract (row (p .vertices) (pick p g x)) (p .target)))
   unfolding residual step with-shares
-  residual-step t g x = rw (weight-suc (p .schedule) t) (residual-more (x .point) (row (p .vertices) (pick p g)) (p .target) (weight (p .schedule) t) (share (p .schedule) t))
+  residual-step t g x = rw (weight-suc (p .schedule) t) (residual-more (x .point) (row (p .vertices) (pick p g x)) (p .target) (weight (p .schedule) t) (share (p .schedule) t))
 
   pub residual-start : length (p .target) ≡ p .columns → residual p 0 (start p) ≡ replicate (p .columns) (pos 0)
   unfolding residual start
@@ -102,5 +102,5 @@ module _ (p : Problem) where
   iterate-support zero = omega (arith, support-zero (length (p .vertices)))
   iterate-support (suc t) =
       let x = iterate p t in
-      let i = pick p (direction p t x) in
+      let i = pick p (direction p t x) x in
       omega (arith, iterate-support t, support-set (x .shares) i (getD (x .shares) i 0 + share (p .schedule) t))

@@ -1,15 +1,16 @@
 -- The Frank-Wolfe method in whole numbers: iterates, scores, E and G. Definitions only. Assumes nothing.
 -- Inner products <x, y> and squared lengths have the problem's factors; u is its target. After t steps the shares total W; the sum over
 -- the vertices of share times vertex is y, and the iterate is the point y / W.
-use mathlib.Core.Bool.{cond}
+use mathlib.Core.Bool.{_&&_, cond}
 use mathlib.Core.List.{List, [], _∷_}
 use Prim.Native.Nat.{ℕ, zero, suc, _+_, max}
-use lib.Dec.{eqb}
+use lib.Dec.{eqb, ltb}
 use lib.ListN.{length, getD, set, replicate}
 use lib.IntN.{ℤ, pos, negsuc}
-use lib.Signed.{ltZ}
+use lib.Signed.{ltZ, leZ}
 use Rattle.frank_wolfe.specs.Vectors.{add, subtract, scale, weighted, weighted-norm, sum, combination}
 use Rattle.method.specs.Problem.{Problem, share, weight}
+use Rattle.method.specs.Minimum.{minimum}
 
 -- the shares, one a vertex, and y
 pub record Iterate : Type 0 where
@@ -45,9 +46,19 @@ unfoldable pub argmin : List ℤ → ℕ
 argmin [] = 0
 argmin (p ∷ ps) = argmin-from 1 0 p ps
 
--- the vertex that a step scored with g takes: the lowest-numbered of those of least score
-unfoldable pub pick : Problem → (g : List ℤ) → ℕ
-pick p g = argmin (scores (p .factors) g (p .vertices))
+-- the lowest index at which shares are held and the number is not above `least`, `other` where there is none; `i` is the index of the first number left
+unfoldable pub active-from : (i : ℕ) → (least : ℤ) → (other : ℕ) → (shares : List ℕ) → List ℤ → ℕ
+active-from i least other [] ps = other
+active-from i least other (q ∷ qs) [] = other
+active-from i least other (q ∷ qs) (p ∷ ps) = cond (ltb 0 q && leZ p least) i (active-from (suc i) least other qs ps)
+
+-- among the indices of the least number the lowest of the active set, which is those that hold shares; where none of them holds any, the lowest
+unfoldable pub active-argmin : (shares : List ℕ) → List ℤ → ℕ
+active-argmin qs ps = active-from 0 (minimum ps) (argmin ps) qs ps
+
+-- the vertex that a step from x, scored with g, takes: of those of least score the lowest-numbered that holds shares, else the lowest-numbered
+unfoldable pub pick : Problem → (g : List ℤ) → Iterate → ℕ
+pick p g x = active-argmin (x .shares) (scores (p .factors) g (p .vertices))
 
 -- so many shares more at vertex i
 unfoldable pub with-shares : Problem → (k i : ℕ) → Iterate → Iterate
@@ -56,7 +67,7 @@ with-shares p k i x =
 
 -- step t + 1, scored with g
 unfoldable pub step : Problem → (t : ℕ) → (g : List ℤ) → Iterate → Iterate
-step p t g x = with-shares p (share (p .schedule) t) (pick p g) x
+step p t g x = with-shares p (share (p .schedule) t) (pick p g x) x
 
 -- the iterate after t steps
 unfoldable pub iterate : Problem → (t : ℕ) → Iterate

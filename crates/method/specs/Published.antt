@@ -1,8 +1,9 @@
 -- The Frank-Wolfe method over exact fractions, as published: M. Jaggi, Revisiting Frank-Wolfe: Projection-Free Sparse Convex
 -- Optimization, Algorithm 1, for f(x) = ½ |x - u|² over the convex hull of the vertices, from the first of them on. The inner product
--- is the problem's, with a factor for each column, and so are the length |x| and the gradient.
+-- is the problem's, with a factor for each column, and so are the length |x| and the gradient. Among minimizers the algorithm may take
+-- any; here one that x gives weight to goes first.
 -- Definitions only; nothing of the method in whole numbers is used. Assumes nothing.
-use mathlib.Core.Bool.{Bool, false, _||_, cond}
+use mathlib.Core.Bool.{Bool, false, not, _&&_, _||_, cond}
 use mathlib.Core.List.{List, [], _∷_}
 use Prim.Native.Nat.{ℕ, zero, suc, _+_}
 use lib.ListN.{length, getD, replicate}
@@ -50,16 +51,24 @@ move γ [] s = []
 move γ (p ∷ x) [] = []
 move γ (p ∷ x) (q ∷ s) = ((integer (pos 1) -ℚ γ) *ℚ p +ℚ γ *ℚ q) ∷ move γ x s
 
--- the lowest-numbered vertex at which the linear form of the gradient at x is least
-unfoldable pub minimizer : Problem → (x : List Fraction) → ℕ
-minimizer p x = first-minimizer (linear-form (p .factors) (gradient (p .target) x) (p .vertices))
+-- the lowest index at which the weight is above 0 and no number of `all` is below the number, `other` where there is none
+unfoldable pub active-minimizer : (i : ℕ) → (all : List Fraction) → (other : ℕ) → (weights numbers : List Fraction) → ℕ
+active-minimizer i all other [] xs = other
+active-minimizer i all other (w ∷ ws) [] = other
+active-minimizer i all other (w ∷ ws) (x ∷ xs) = cond (ltQ (integer (pos 0)) w && not (any-below x all)) i (active-minimizer (suc i) all other ws xs)
+
+-- a vertex at which the linear form of the gradient at x is least: the lowest-numbered of weight above 0, else the lowest-numbered
+unfoldable pub minimizer : Problem → Convex-combination → ℕ
+minimizer p z =
+    let xs = linear-form (p .factors) (gradient (p .target) (z .point)) (p .vertices) in
+    active-minimizer 0 xs (first-minimizer xs) (z .weights) xs
 
 -- the iterate after k steps: x and the weights move towards the vertex s
 unfoldable pub published-iterate : Problem → (k : ℕ) → Convex-combination
 published-iterate p zero = record { weights = unit-vector (length (p .vertices)) 0; point = fractions (getD (p .vertices) 0 []) }
 published-iterate p (suc k) =
     let z = published-iterate p k in
-    let s = minimizer p (z .point) in
+    let s = minimizer p z in
     record {
       weights = move (step-size (p .schedule) k) (z .weights) (unit-vector (length (p .vertices)) s);
       point = move (step-size (p .schedule) k) (z .point) (fractions (getD (p .vertices) s []));
@@ -69,7 +78,7 @@ published-iterate p (suc k) =
 
 -- the vertex that the next step moves towards
 unfoldable pub published-pick : Problem → (k : ℕ) → ℕ
-published-pick p k = minimizer p (published-iterate p k .point)
+published-pick p k = minimizer p (published-iterate p k)
 
 -- the squared distance |x - u|²
 unfoldable pub published-distance : Problem → (k : ℕ) → Fraction

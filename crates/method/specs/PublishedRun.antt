@@ -24,8 +24,8 @@ pub record Published-beyond (p : Problem) (k : ℕ) : Type 0 where
 -- that an iterate x in whole numbers and an answer are those of the published method after as many steps as
 -- the answer says. W, E, G: the answer's weight, distance and gap. Verdicts by number: 1 Within, 2 Beyond, 3 Spent.
 pub record Is-published (p : Problem) (x : Iterate) (a : Answer) : Type 0 where
-  -- each step up to there picks the published vertex
-  pub same-pick : (k : ℕ) → k < a .steps → published-pick p k ≡ pick p (direction p k (iterate p k))
+  -- each step up to there picks the published vertex; before the first no vertex holds shares, and the published weight is all at the first vertex
+  pub same-pick : (k : ℕ) → k < a .steps → published-pick p k ≡ pick p (direction p k (iterate p k)) (iterate p k)
   -- each vertex's weight is share / W, each coordinate y / W
   pub weights : (i : ℕ) → Is-ratio (getD (published-iterate p (a .steps) .weights) i (integer (pos 0))) (pos (getD (x .shares) i 0)) (a .weight)
   pub point : (j : ℕ) → Is-ratio (getD (published-iterate p (a .steps) .point) j (integer (pos 0))) (getD (x .point) j (pos 0)) (a .weight)

@@ -2,6 +2,7 @@
 use mathlib.Core.Path.{_≡_, refl, sym, ap, _∙_}
 use mathlib.Core.List.{List, _++_}
 use Prim.Native.Nat.{ℕ, suc, _+_, _*_, _-_, _≤_, _<_}
+use native.Mathlib.Nat.{le-of-lt}
 use native.Mathlib.Omega.{arith}
 use native.Mathlib.Numerals.{add-one}
 use lib.IntN.{ℤ, pos, natAbs}
@@ -12,18 +13,18 @@ use Rattle.files.specs.Book.{boats, columns, rows}
 use Rattle.files.specs.Sheet.{files-refusal}
 use Rattle.frank_wolfe.specs.Vectors.{add, scale, ones}
 use Rattle.method.specs.Problem.{fixed, problem, weight}
-use Rattle.method.specs.Iterates.{iterate, start, residual, direction, argmin, row}
+use Rattle.method.specs.Iterates.{iterate, start, residual, direction, row}
 use Rattle.method.proofs.Weights.{weight-most, weight-more}
 use Rattle.method.proofs.Argmin.{among-row, score-at, length-scores}
 use Rattle.method.proofs.Mixtures.{score-most}
 use Rattle.method.proofs.Accepted.{well-formed, in-range, mixed, share-count}
 use Rattle.method.proofs.Shares.{mixed-share, residual-start}
-use Rattle.sums.specs.Operands.{Rescorable}
-use Rattle.scoring.specs.Scores.{least-of}
+use Rattle.sums.specs.Operands.{Bounded, Rescorable}
+use Rattle.scoring.specs.Scores.{least-of, pick-of, Pickable}
 use Rattle.scoring.specs.declared.Least.{Least}
 use Rattle.iteration.specs.declared.Layout.{Layout}
 use Rattle.iteration.specs.declared.State.{State}
-use Rattle.iteration.specs.States.{file-layout, iterate-of, scores-of, boat-products, fresh-state, Holds}
+use Rattle.iteration.specs.States.{file-layout, iterate-of, scores-of, pick-at, boat-products, fresh-state, Holds}
 use Rattle.iteration.proofs.States.{book-fits, sheet-fits, best-below, rescorable, fresh-holds, next-shares, next-scores, scores-zero}
 use Rattle.runs.specs.Runs.{Going, Shares-at, Scores-at, Products, Remembered, Memory, memory-of, remembering, memory-after}
 use Rattle.runs.proofs.Runs.{going-start}
@@ -42,14 +43,20 @@ module _ (b s : List ℕ) (ok : files-refusal b s ≡ 0) where
   count : (t : ℕ) → length (iterate-of b s t .shares) ≡ boats b
   count t = share-count b s ok t
 
+  shared-front : {t : ℕ} {qs z : List ℕ} → Shared b s t qs z → take (boats b) qs ≡ iterate-of b s t .shares
+  shared-front {t} {z = z} q = ap (take (boats b)) (q .is) ∙ take-at (iterate-of b s t .shares) z (boats b) (count t)
+
+  shared-room : {t : ℕ} {qs z : List ℕ} → Shared b s t qs z → boats b ≤ length qs
+  shared-room {t} q = rw (q .is, length-append, count t) (omega arith)
+
   module _ {t : ℕ} {x : State} (H : Holds b s t x) (few : t < 360) {qs z : List ℕ} (q : Shared b s t qs z) where
     share-is : getD qs (x .best) 0 ≡ getD (iterate-of b s t .shares) (x .best) 0
-    share-is = sym (getD-take (boats b) qs (x .best) 0 (best-below b s ok H)) ∙ ap (λ (l : List ℕ). getD l (x .best) 0) (ap (take (boats b)) (q .is) ∙ take-at (iterate-of b s t .shares) z (boats b) (count t))
+    share-is = sym (getD-take (boats b) qs (x .best) 0 (best-below b s ok H)) ∙ ap (λ (l : List ℕ). getD l (x .best) 0) (shared-front q)
 
     pub share-room : (x .best < length qs) × (getD qs (x .best) 0 + suc t < 65536)
     unfolding problem
     share-room =
-        let n : boats b ≤ length qs = rw (q .is, length-append, count t) (omega arith) in
+        let n : boats b ≤ length qs = shared-room q in
         let m : getD (iterate-of b s t .shares) (x .best) 0 ≤ weight fixed t = mixed-share (mixed b s ok t) (x .best) in
         let w : weight fixed (suc t) ≤ 64980 = weight-most (omega arith) in
         (omega (arith, best-below b s ok H), rw share-is (omega (arith, weight-more t)))
@@ -80,8 +87,8 @@ module _ (b s : List ℕ) (ok : files-refusal b s ≡ 0) where
     pub cleared-shares : Shares-at b s 0 qs
     cleared-shares =
         record {
-          room = rw (cleared .is, length-append, count 0) (omega arith);
-          are = ap (take (boats b)) (cleared .is) ∙ take-at (iterate-of b s 0 .shares) (drop (boats b) old) (boats b) (count 0);
+          room = shared-room cleared;
+          are = shared-front cleared;
         }
 
     -- what stands behind the shares is as it was
@@ -104,26 +111,25 @@ module _ (b s : List ℕ) (ok : files-refusal b s ≡ 0) where
   unfolding file-layout
   scores-for n e h = scores-start n (rw e at h)
 
+  score-sizes : {t : ℕ} → t ≤ 360 → {sc : List ℤ} → Scores-at b s t sc → Bounded 33269760000000 (boats b) sc
+  unfolding problem
+  score-sizes {t} few {sc} S =
+      let f = in-range b s ok in
+      record {
+        long = S .room;
+        each = λ q h. rw (← getD-take (boats b) sc q (pos 0) h, S .are, score-at (ones (columns b)) (residual (problem b s) t (iterate-of b s t)) (rows b) q)
+            (omega (arith, score-most (well-formed b s ok) f (mixed b s ok t) (row (rows b) q) (f .rows-bounded _ (among-row (rows b) q (omega (arith, book-fits b s ok .row-count)))), weight-most few));
+      }
+
   module _ {l : Layout} (e : l ≡ file-layout b s) {x : State} (H : Holds b s (x .steps) x) (few : x .steps < 360) {sc : List ℤ} (S : Scores-at b s (x .steps) sc)
       {ps : List ℤ} (P : Products b s (x .best) ps) where
-    old-score : (q : ℕ) → q < boats b → natAbs (getD sc q (pos 0)) ≤ 33269760000000
-    unfolding problem
-    old-score q h =
-        let f = in-range b s ok in
-        let w : weight fixed (suc (x .steps)) ≤ 64980 = weight-most (omega arith) in
-        rw (← getD-take (boats b) sc q (pos 0) h, S .are, score-at (ones (columns b)) (residual (problem b s) (x .steps) (iterate-of b s (x .steps))) (rows b) q)
-        (omega (arith, score-most (well-formed b s ok) f (mixed b s ok (x .steps)) (row (rows b) q) (f .rows-bounded _ (among-row (rows b) q (omega (arith, book-fits b s ok .row-count)))), w, weight-more (x .steps)))
-
     pub rescorable-here : Rescorable sc (x .steps + 1) ps (l .boats)
     unfolding file-layout
-    rescorable-here = rw e (rescorable b s ok (x .steps + 1) (x .best) (best-below b s ok H) (S .room) (P .room) (P .are) (omega arith) old-score)
+    rescorable-here = rw e (rescorable b s ok (x .steps + 1) (x .best) (best-below b s ok H) (S .room) (P .room) (P .are) (omega arith) (score-sizes (le-of-lt few) S .each))
 
     moved-scores : add (take (l .boats) sc) (scale (x .steps + 1) (take (l .boats) ps)) ≡ scores-of b s (x .steps + 1)
     unfolding file-layout
     moved-scores = rw (e, add-one, S .are, P .are) (next-scores b s ok H)
-
-    pub pick-next : {p : Least} → p ≡ least-of (add (take (l .boats) sc) (scale (x .steps + 1) (take (l .boats) ps))) → p ≡ least-of (scores-of b s (x .steps + 1))
-    pick-next f = f ∙ ap least-of moved-scores
 
     module _ {new : List ℤ} (f : new ≡ add (take (l .boats) sc) (scale (x .steps + 1) (take (l .boats) ps)) ++ drop (l .boats) sc) where
       -- every slot of the scores
@@ -134,13 +140,31 @@ module _ (b s : List ℕ) (ok : files-refusal b s ≡ 0) where
       n : length (scores-of b s (suc (x .steps))) ≡ boats b
       n = length-scores _ _ (rows b) ∙ book-fits b s ok .row-count
 
+      scores-front : take (boats b) new ≡ scores-of b s (suc (x .steps))
+      scores-front = ap (take (boats b)) scores-whole ∙ take-at (scores-of b s (suc (x .steps))) (drop (boats b) sc) (boats b) n
+
       pub scores-behind : drop (boats b) new ≡ drop (boats b) sc
       scores-behind = ap (drop (boats b)) scores-whole ∙ drop-at (scores-of b s (suc (x .steps))) (drop (boats b) sc) (boats b) n
 
       pub scores-next : Scores-at b s (suc (x .steps)) new
       unfolding direction
       scores-next =
-          record { room = rw (scores-whole, length-append, n) (omega arith); are = ap (take (boats b)) scores-whole ∙ take-at (scores-of b s (suc (x .steps))) (drop (boats b) sc) (boats b) n }
+          record { room = rw (scores-whole, length-append, n) (omega arith); are = scores-front }
+
+      -- ---- The pick of the step after it
+
+      pub least-next : {p : Least} → p ≡ least-of (add (take (l .boats) sc) (scale (x .steps + 1) (take (l .boats) ps))) → p ≡ least-of (take (l .boats) new)
+      unfolding file-layout
+      least-next g = g ∙ ap least-of (moved-scores ∙ rw (e, add-one, scores-front))
+
+      module _ {qs z : List ℕ} (q : Shared b s (suc (x .steps)) qs z) where
+        pub pickable-next : Pickable new qs (l .boats)
+        unfolding file-layout
+        pickable-next = rw e (record { some-boats = book-fits b s ok .some-boats; score-sizes = score-sizes few scores-next; in-shares = shared-room q })
+
+        pub pick-next : {p : Least} → p ≡ pick-of (take (l .boats) qs) (take (l .boats) new) → p ≡ pick-of (iterate-of b s (x .steps + 1) .shares) (scores-of b s (x .steps + 1))
+        unfolding file-layout
+        pick-next g = g ∙ rw (e, add-one, scores-front, shared-front q)
 
   -- ---- The first step
 
@@ -149,7 +173,7 @@ module _ (b s : List ℕ) (ok : files-refusal b s ≡ 0) where
   boats-fit e h = rw e h
 
   -- the boat that the first step picks
-  pub picks : {p : Least} → p ≡ least-of (boat-products b s 0) → p .boat ≡ argmin (scores-of b s 0)
+  pub picks : {p : Least} → p ≡ least-of (boat-products b s 0) → p .boat ≡ pick-at b s 0
   unfolding fresh-state
   picks e = fresh-holds b s ok e .best-is
 
@@ -206,8 +230,25 @@ module _ (b s : List ℕ) (ok : files-refusal b s ≡ 0) {x : State} {shares₀ 
   pub best-here : x .best < boats b
   best-here = best-below b s ok (K .going .held)
 
+  shared-next : {qs : List ℕ} → qs ≡ set shares (x .best) (getD shares (x .best) 0 + (x .steps + 1)) → Shared b s (suc (x .steps)) qs (drop (boats b) shares₀)
+  shared-next f = shares-next b s ok (K .going .held) few-here (K .shared) (rw add-one at f)
+
   pub room-here : (x .best < length shares) × (getD shares (x .best) 0 + (x .steps + 1) < 65536)
   room-here = rw add-one (share-room b s ok (K .going .held) few-here (K .shared))
+
+  -- ---- The pick of the step after it
+
+  module _ {l : Layout} (g : l ≡ file-layout b s) {ps : List ℤ} (P : Products b s (x .best) ps)
+      {new : List ℤ} (f : new ≡ add (take (l .boats) scores) (scale (x .steps + 1) (take (l .boats) ps)) ++ drop (l .boats) scores)
+      {qs : List ℕ} (q : qs ≡ set shares (x .best) (getD shares (x .best) 0 + (x .steps + 1))) where
+    pub pickable-here : {p : Least} → p ≡ least-of (add (take (l .boats) scores) (scale (x .steps + 1) (take (l .boats) ps))) → Pickable new qs (l .boats) × (p ≡ least-of (take (l .boats) new))
+    pickable-here h = (
+      pickable-next b s ok g (K .going .held) few-here (K .scored) P f (shared-next q),
+      least-next b s ok g (K .going .held) few-here (K .scored) P f h,
+    )
+
+    pub pick-here : {p : Least} → p ≡ pick-of (take (l .boats) qs) (take (l .boats) new) → p ≡ pick-of (iterate-of b s (x .steps + 1) .shares) (scores-of b s (x .steps + 1))
+    pick-here h = pick-next b s ok g (K .going .held) few-here (K .scored) P f (shared-next q) h
 
   -- ---- What is kept after the step, which leads to n steps
 
@@ -216,7 +257,7 @@ module _ (b s : List ℕ) (ok : files-refusal b s ≡ 0) {x : State} {shares₀ 
     one-more = e ∙ add-one (x .steps)
 
     pub shares-here : {qs : List ℕ} → qs ≡ set shares (x .best) (getD shares (x .best) 0 + (x .steps + 1)) → Shared b s n qs (drop (boats b) shares₀)
-    shares-here f = rw one-more (shares-next b s ok (K .going .held) few-here (K .shared) (rw add-one at f))
+    shares-here f = rw one-more (shared-next f)
 
     module _ {l : Layout} (g : l ≡ file-layout b s) {ps : List ℤ} (P : Products b s (x .best) ps)
         {new : List ℤ} (f : new ≡ add (take (l .boats) scores) (scale (x .steps + 1) (take (l .boats) ps)) ++ drop (l .boats) scores) where

@@ -11,10 +11,10 @@ use Rattle.files.specs.Book.{boats, columns, rows}
 use Rattle.files.specs.Sheet.{sheet}
 use Rattle.frank_wolfe.specs.Vectors.{ones}
 use Rattle.method.specs.Problem.{problem}
-use Rattle.method.specs.Iterates.{scores, residual, argmin}
+use Rattle.method.specs.Iterates.{scores, residual}
 use Rattle.method.specs.Answers.{steps-from, steps-used}
 use Rattle.iteration.specs.declared.State.{State}
-use Rattle.iteration.specs.States.{iterate-of, scores-of, boat-products, Holds}
+use Rattle.iteration.specs.States.{iterate-of, pick-at, boat-products, Holds}
 
 -- the state holds an iterate that did not stop the run, and steps are left
 pub record Going (b s : List ℕ) (x : State) : Type 0 where
@@ -62,4 +62,4 @@ remembering b s i m =
 -- after t steps of a run that starts with these numbers and no boat in a slot
 unfoldable pub memory-after : (b s : List ℕ) → (t : ℕ) → (products : List ℤ) → Memory
 memory-after b s zero ps = memory-of (replicate 64 0) ps
-memory-after b s (suc t) ps = remembering b s (argmin (scores-of b s t)) (memory-after b s t ps)
+memory-after b s (suc t) ps = remembering b s (pick-at b s t) (memory-after b s t ps)

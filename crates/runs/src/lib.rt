@@ -81,7 +81,8 @@ pub fn run_from(
         add_shares(shares, best, k);
         remember(best, book, sheet, layout, &mut tags, memory);
         let at = best % 64 * boats;
-        let pick = scoring::rescored(scores, k, &memory[at..], boats);
+        let least = scoring::rescored(scores, k, &memory[at..], boats);
+        let pick = scoring::picked(least, scores, shares, boats);
         state = state.next(book, sheet, layout, pick);
         let answer = state.answer(sheet, layout);
         let verdict = answer.verdict;

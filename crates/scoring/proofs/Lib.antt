@@ -1,4 +1,5 @@
--- The laws behind the proofs of this crate: passes over the rows, scans for the least number, and moved scores.
+-- The laws behind the proofs of this crate: passes over the rows, scans for the least number, moved scores, and the search for a boat that holds shares.
 pub mod Passes
 pub mod Scans
 pub mod Rescores
+pub mod Picking

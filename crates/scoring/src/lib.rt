@@ -1,4 +1,4 @@
-// The scores of the boats, from the rows of a fleet book or moved from step to step, and the boat of least score.
+// The scores of the boats, from the rows of a fleet book or moved from step to step, the boat of least score, and the boat that a step picks.
 // All functions are helpers for other crates, whose callers prove what they require.
 ghost use mathlib.Core.Path.{_≡_};
 ghost use mathlib.Core.List.{_++_};
@@ -9,15 +9,15 @@ ghost use Rattle.files.specs.Book.{rows-from};
 ghost use Rattle.frank_wolfe.specs.Vectors.{add, scale, ones};
 ghost use Rattle.method.specs.Iterates.{scores};
 ghost use Rattle.sums.specs.Operands.{Bounded, Grid, Rows-bounded, Score-sized, Rescorable};
-ghost use Rattle.scoring.specs.Scores.{least-of};
+ghost use Rattle.scoring.specs.Scores.{least-of, pick-of, Pickable};
 
-// The boat of least score, the lowest number among equals, and its score.
+// A boat of least score, and its score.
 pub struct Least {
     pub boat: usize,
     pub score: i64,
 }
 
-// One pass over the rows at `at`: the boat of least score <r, v>, where v is the boat's row.
+// One pass over the rows at `at`: the boat of least score <r, v>, where v is the boat's row; the lowest-numbered of equals.
 pub fn least_score(r: &[i32], book: &[u8], at: usize, boats: usize, columns: usize) -> Least
     requires { ⌜ Grid (now book) at boats columns ⌝ }
     requires { ⌜ Bounded 260000000 columns (now r) ⌝ }
@@ -109,4 +109,28 @@ pub fn rescored(scores: &mut [i64], k: u32, products: &[i32], boats: usize) -> L
         i += 1;
     }
     Least { boat, score: least }
+}
+
+// The boat that a step picks, by the scores and shares, one a boat. `least` is the lowest-numbered of least score: where it holds no
+// shares, the first later boat that does, of a score not above its own, goes before it.
+pub fn picked(least: Least, scores: &[i64], shares: &[u16], boats: usize) -> Least
+    requires { ⌜ Pickable (now scores) (now shares) boats ⌝ }
+    requires { ⌜ least ≡ least-of (take boats (now scores)) ⌝ }
+    ensures { λ x. ⌜ x ≡ pick-of (take boats (now (shares .entry))) (take boats (now (scores .entry))) ⌝ }
+{
+    let boat = least.boat;
+    let score = least.score;
+    if shares[boat] != 0 {
+        return least;
+    }
+    let mut i = boat + 1;
+    while i < boats {
+        if shares[i] != 0 {
+            if scores[i] <= score {
+                return Least { boat: i, score };
+            }
+        }
+        i += 1;
+    }
+    least
 }

@@ -5,7 +5,7 @@ use native.Mathlib.Omega.{arith}
 use borrow.Author.Needs.{needs}
 use Rattle.iteration.proofs.States.{sheet-fits}
 use Rattle.runs.proofs.Runs.{next-answerable, going-more, going-done}
-use Rattle.runs.proofs.Keeping.{Kept, kept-start, few-here, best-here, room-here, shares-here, shared-end, shared-long, rescorable-here, pick-next, scores-here, rest-here, scores-end, memory-here, memory-end}
+use Rattle.runs.proofs.Keeping.{Kept, kept-start, few-here, best-here, room-here, shares-here, shared-end, shared-long, rescorable-here, pickable-here, pick-here, scores-here, rest-here, scores-end, memory-here, memory-end}
 use Rattle.runs.proofs.Memory.{slot-fits, slot-bytes-fit, slot-starts, slot-part}
 use Rattle.runs.proofs.run_from.Statement.{statement}
 use Rattle.runs.proofs.run_from.Tie as tie
@@ -15,6 +15,7 @@ use Rattle.files.proofs.steps.Reads as steps-reads
 use Rattle.iteration.proofs.State.answer.Reads as answer-reads
 use Rattle.iteration.proofs.State.next.Reads as next-reads
 use Rattle.verdicts.proofs.stops.Reads as stops-reads
+use Rattle.scoring.proofs.picked.Reads as picked-reads
 use Rattle.scoring.proofs.rescored.Reads as rescored-reads
 use Rattle.runs.proofs.add_shares.Reads as add-shares-reads
 use Rattle.runs.proofs.remember.Reads as remember-reads
@@ -88,17 +89,35 @@ rescored-requires c κs =
     let k = at-loop .loop .inv in
     rescorable-here _ _ ok l (k .going .held) (few-here _ _ ok k) (k .scored) (slot-part _ _ ok (at-remember .remember .ensures .0) (best-here _ _ ok k) l (at-remember .remember .ensures .1 .0))
 
+picked-requires : tie.Need-picked-requires Inv-loop μ-loop
+picked-requires c κs =
+    let at-rescored = c .before .before .before in
+    let at-remember = at-rescored .before .before .before .before .before .before in
+    let at-add-shares = at-remember .before .before .before .before .before in
+    let at-loop = at-add-shares .before .before .before in
+    let start = at-loop .before .before .before .before .before in
+    let ok = start .pre .0 in
+    let l = start .pre .1 .0 in
+    let k = at-loop .loop .inv in
+    let p = slot-part _ _ ok (at-remember .remember .ensures .0) (best-here _ _ ok k) l (at-remember .remember .ensures .1 .0) in
+    pickable-here _ _ ok k l p (at-rescored .rescored .ensures .1) (at-add-shares .add-shares .ensures) (at-rescored .rescored .ensures .0)
+
 next-requires : tie.Need-next-requires Inv-loop μ-loop
 next-requires c κs =
-    let ok = c .before .before .before .before .before .before .before .before .before .before .before .before .before .before .before .before .before .before .before .before .pre .0 in
-    let l = c .before .before .before .before .before .before .before .before .before .before .before .before .before .before .before .before .before .before .before .before .pre .1 .0 in
-    let k = c .before .before .before .before .before .before .before .before .before .before .before .before .before .before .before .loop .inv in
-    let p = slot-part _ _ ok (c .before .before .before .before .before .before .before .remember .ensures .0) (best-here _ _ ok k) l (c .before .before .before .before .before .before .before .remember .ensures .1 .0) in
-    (ok, (l, (k .going .held, (few-here _ _ ok k, pick-next _ _ ok l (k .going .held) (few-here _ _ ok k) (k .scored) p (c .before .rescored .ensures .0)))))
+    let at-rescored = c .before .before .before .before in
+    let at-remember = at-rescored .before .before .before .before .before .before in
+    let at-add-shares = at-remember .before .before .before .before .before in
+    let at-loop = at-add-shares .before .before .before in
+    let start = at-loop .before .before .before .before .before in
+    let ok = start .pre .0 in
+    let l = start .pre .1 .0 in
+    let k = at-loop .loop .inv in
+    let p = slot-part _ _ ok (at-remember .remember .ensures .0) (best-here _ _ ok k) l (at-remember .remember .ensures .1 .0) in
+    (ok, (l, (k .going .held, (few-here _ _ ok k, pick-here _ _ ok k l p (at-rescored .rescored .ensures .1) (at-add-shares .add-shares .ensures) (c .picked .ensures)))))
 
 answer-requires : tie.Need-answer-requires Inv-loop μ-loop
 answer-requires c κs =
-    let at-loop = c .before .before .before .before .before .before .before .before .before .before .before .before .before .before .before .before in
+    let at-loop = c .before .before .before .before .before .before .before .before .before .before .before .before .before .before .before .before .before .before .before in
     let start = at-loop .before .before .before .before .before in
     next-answerable _ _ (start .pre .0) (at-loop .loop .inv .going) (c .next .ensures) (start .pre .1 .0)
 
@@ -107,27 +126,27 @@ stops-requires c κs = search needs
 
 same-length : tie.Need-same-length Inv-loop μ-loop
 same-length c =
-    let at-add-shares = c .before .before .before .before .before .before .before .before .before .before .before .before .before .before .before .before in
+    let at-add-shares = c .before .before .before .before .before .before .before .before .before .before .before .before .before .before .before .before .before .before .before in
     let at-loop = at-add-shares .before .before .before in
     let start = at-loop .before .before .before .before .before in
     shared-long _ _ (start .pre .0) _ (start .pre .1 .1 .1 .0 .room) (shares-here _ _ (start .pre .0) (at-loop .loop .inv) (c .before .before .before .next .ensures .steps-are) (at-add-shares .add-shares .ensures))
 
 same-length-2 : tie.Need-same-length-2 Inv-loop μ-loop
 same-length-2 c =
-    let at-rescored = c .before .before .before .before .before in
+    let at-rescored = c .before .before .before .before .before .before .before .before in
     let at-loop = at-rescored .before .before .before .before .before .before .before .before .before .before .before .before .before .before in
     search (needs, at-rescored .rescored .ok, at-loop .loop .inv .scores-long)
 
 same-length-3 : tie.Need-same-length-3 Inv-loop μ-loop
 same-length-3 c =
-    let at-remember = c .before .before .before .before .before .before .before .before .before .before .before in
+    let at-remember = c .before .before .before .before .before .before .before .before .before .before .before .before .before .before in
     let at-loop = at-remember .before .before .before .before .before .before .before .before in
     search (needs, at-remember .remember .ok, at-loop .loop .inv .memory-long)
 
 returns : tie.Need-returns Inv-loop μ-loop
 returns c =
     let at-next = c .before .before .before in
-    let at-rescored = at-next .before .before in
+    let at-rescored = at-next .before .before .before .before .before in
     let at-remember = at-rescored .before .before .before .before .before .before in
     let at-add-shares = at-remember .before .before .before .before .before in
     let at-loop = at-add-shares .before .before .before in
@@ -143,14 +162,14 @@ returns c =
 
 loop-less : tie.Need-loop-less Inv-loop μ-loop
 loop-less c =
-    let at-loop = c .before .before .before .before .before .before .before .before .before .before .before .before .before .before .before .before .before .before .before in
+    let at-loop = c .before .before .before .before .before .before .before .before .before .before .before .before .before .before .before .before .before .before .before .before .before .before in
     let at-steps = at-loop .before in
     omega (arith, c .before .before .before .next .ensures .steps-are, at-loop .loop .inv .going .left, at-steps .steps .ensures)
 
 loop-again : tie.Need-loop-again Inv-loop μ-loop
 loop-again c =
     let at-next = c .before .before .before in
-    let at-rescored = at-next .before .before in
+    let at-rescored = at-next .before .before .before .before .before in
     let at-remember = at-rescored .before .before .before .before .before .before in
     let at-add-shares = at-remember .before .before .before .before .before in
     let at-loop = at-add-shares .before .before .before in
@@ -190,6 +209,7 @@ run-from-spec =
     part-rescored-start
     part-rescored-end
     rescored-requires
+    picked-requires
     next-requires
     answer-requires
     stops-requires
