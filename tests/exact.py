@@ -9,7 +9,8 @@ The problem: the rows of a fleet book are the vertices, the target of a sheet
 is the point u, and f(x) = |x - u|^2 / 2 is minimised over the convex hull of
 the rows.  With x_0 the row of boat 0 and k = 0, 1, 2, ...
 
-    s       = the lowest-numbered row v where <x_k - u, v> is least
+    s       = a row v where <x_k - u, v> is least: the lowest-numbered of
+              those with a weight above 0, else the lowest-numbered
     x_(k+1) = (1 - gamma) x_k + gamma s,   gamma = 2 / (k + 2)
 
 and the weights of the rows move in the same way.  After t steps, with
@@ -86,6 +87,7 @@ import struct
 import sys
 from dataclasses import dataclass
 from fractions import Fraction
+from itertools import islice
 from math import gcd
 from operator import mul
 
@@ -216,9 +218,9 @@ def dot(left, right):
 
 
 def measure(point, rows, target):
-    """Squared distance and duality gap of a point, and its next vertex.
+    """Squared distance and duality gap of a point, and its minimizers.
 
-    The next vertex is the lowest-numbered row v where <x - u, v> is least.
+    The minimizers are the rows v where <x - u, v> is least, by number.
 
     The gradient x - u is put over one common denominator so that the inner
     products with all rows are sums of whole numbers.  This only saves time:
@@ -228,13 +230,19 @@ def measure(point, rows, target):
     slope, d = over_common_denominator(gradient)     # gradient = slope / d
     scores = [dot(slope, row) for row in rows]       # <x - u, v> = score / d
     least = min(scores)
-    vertex = scores.index(least)                     # the first of equal scores
+    minimizers = [i for i, score in enumerate(scores) if score == least]
     # The target is whole, so d is a common denominator of the point as well.
     place = [x.numerator * (d // x.denominator) for x in point]
     squared_distance = Fraction(dot(slope, slope), d * d)
     # The greatest <x - u, x - v> is <x - u, x> less the least <x - u, v>.
     duality_gap = Fraction(dot(slope, place), d * d) - Fraction(least, d)
-    return squared_distance, duality_gap, vertex
+    return squared_distance, duality_gap, minimizers
+
+
+def next_vertex(minimizers, weights):
+    """The first minimizer with a weight above 0, else the first."""
+    active = [i for i in minimizers if weights[i] > 0]
+    return (active or minimizers)[0]
 
 
 def former_test(squared_distance, duality_gap, tolerance):
@@ -263,18 +271,17 @@ def judge(squared_distance, duality_gap, tolerance, step, steps, test=sharper_te
     return 0
 
 
-def frank_wolfe(rows, target, steps, tolerance, test=sharper_test):
-    """The published iteration, judged after each step.
-
-    Gives back steps taken, weights, point, squared distance, duality gap
-    and verdict; all but the first and last are fractions.
+def iterates(rows, target):
+    """The published iteration: the number of steps, weights, point, squared
+    distance and duality gap after each; all but the first are fractions.
     """
     point = [Fraction(value) for value in rows[0]]
     weights = [Fraction(0)] * len(rows)
     weights[0] = Fraction(1)
-    _, _, vertex = measure(point, rows, target)
+    _, _, minimizers = measure(point, rows, target)
     k = 0
     while True:
+        vertex = next_vertex(minimizers, weights)
         gamma = Fraction(2, k + 2)
         rest = 1 - gamma
         point = [rest * x + gamma * s for x, s in zip(point, rows[vertex])]
@@ -282,7 +289,15 @@ def frank_wolfe(rows, target, steps, tolerance, test=sharper_test):
         weights = [rest * w if w else w for w in weights]
         weights[vertex] += gamma
         k += 1
-        squared_distance, duality_gap, vertex = measure(point, rows, target)
+        squared_distance, duality_gap, minimizers = measure(point, rows, target)
+        yield k, weights, point, squared_distance, duality_gap
+
+
+def frank_wolfe(rows, target, steps, tolerance, test=sharper_test):
+    """The published iteration, judged after each step, up to the first verdict,
+    which is given back behind the rest.
+    """
+    for k, weights, point, squared_distance, duality_gap in iterates(rows, target):
         verdict = judge(squared_distance, duality_gap, tolerance, k, steps, test)
         if verdict:
             return k, weights, point, squared_distance, duality_gap, verdict
@@ -295,13 +310,7 @@ def squared_diameter(rows):
 
 def measures(rows, target, steps):
     """Squared distance and duality gap after 1, 2, ..., `steps` steps, with no regard to verdicts."""
-    point = [Fraction(value) for value in rows[0]]
-    _, _, vertex = measure(point, rows, target)
-    for k in range(steps):
-        gamma = Fraction(2, k + 2)
-        point = [(1 - gamma) * x + gamma * s for x, s in zip(point, rows[vertex])]
-        squared_distance, duality_gap, vertex = measure(point, rows, target)
-        yield squared_distance, duality_gap
+    return [(distance, gap) for _, _, _, distance, gap in islice(iterates(rows, target), steps)]
 
 
 def gaps_of(rows, target, steps):

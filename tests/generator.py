@@ -98,6 +98,26 @@ def draw_sheet(draws, plan, book, rows, tolerance):
     return file + b"WSH1"
 
 
+def draw_mirrored(draws):
+    """A book of small values, about one in three of its rows a row before it with one value negated,
+    a target whose first values are 0, and steps: equal scores of different rows are common.
+    """
+    boats = draws.draw(7) + 6
+    columns = draws.draw(2) + 2
+    steps = draws.draw(18) + 3
+    rows = []
+    for i in range(boats):
+        if draws.draw(3) == 0 and i:
+            row = list(rows[draws.draw(i)])
+            column = draws.draw(columns)
+            row[column] = -row[column]
+        else:
+            row = draw_row(draws, columns, 2)
+        rows.append(row)
+    zeros = draws.draw(columns + 1)
+    return rows, [0] * zeros + draw_row(draws, columns - zeros, 2), steps
+
+
 def with_bytes(buffer, at, new):
     """The buffer with bytes replaced; what would fall past its end is left out."""
     changed = bytearray(buffer)

@@ -19,6 +19,7 @@ HERE = os.path.dirname(os.path.abspath(__file__))
 sys.path.insert(0, HERE)
 
 import exact  # noqa: E402
+import generator  # noqa: E402
 import make_data  # noqa: E402
 import printing  # noqa: E402
 from exact import make_book, make_card, make_sheet  # noqa: E402
@@ -524,14 +525,84 @@ def random_books():
 
 
 def ties_and_start():
-    """Equal scores take the lowest boat; step 1 starts from boat 0's row."""
+    """Equal scores take the lowest boat that holds shares; step 1 starts from boat 0's row."""
     # At (0, 0) with target (1, 1), boats 1 and 2 have equal scores.
     agree("tie", exact.run(P, (1, 1), 1, 0)[1], [0, 1, 0])
+    # Step 1 picks boat 2; at r = (1, 0) boats 0 and 1 have the score -1 and no
+    # shares, and boat 0 is picked; at r = (-1, -2) boats 1 and 2 have the
+    # score -1, and boat 2 holds a share. Boat 1 would make it 2 3 1, E = 17.
+    answer, shares = exact.run([(-1, -1), (-1, 1), (1, 0)], (0, 0), 3, 0)
+    agree("tie, one that holds", (shares, answer.distance, answer.gap), ([2, 0, 4], 8, 32))
+    # Steps 1 and 2 pick boats 2 and 0; at r = (0, -5) boats 1 and 2 have the
+    # score -10, and boat 2 holds a share. Steps 4 and 5 pick boats 1 and 3. By
+    # the lowest number boat 1 gets step 3's, and it ends as 7 3 5 0.
+    answer, shares = exact.run([(-1, -2), (-2, 2), (2, 2), (1, -1)], (0, 1), 5, 0)
+    agree("tie, more boats", (shares, answer.distance, answer.gap), ([2, 4, 4, 5], 73, 283))
+    # Steps 1 to 3 pick boats 1, 0 and 2; at r = (2, 0) boats 0 and 2 have the
+    # score 0. Boat 2 has the higher number, more shares and the last step.
+    answer, shares = exact.run([(0, 2), (2, -1), (0, -1)], (0, 0), 4, 0)
+    agree("tie, two that hold", (shares, answer.distance, answer.gap), ([6, 1, 3], 68, 148))
     # All rows alike: boat 0 takes every step.
     agree("all alike", exact.run([(1, 2)] * 4, (1, 2 + 5), 3, 25)[1], [1, 0, 0, 0])
     # From the row 3 the gradient is 3 - 1 > 0 and boat 1 is picked; from the
     # zero row it would be 0 - 1 < 0 and boat 0 would be picked.
     agree("start", exact.run([(3,), (-3,)], (1,), 1, 0)[1], [0, 1])
+
+
+def plain_shares(rows, target, steps, choose):
+    """Shares after so many steps, in whole numbers; `choose` takes one of equals."""
+    shares, last = [0] * len(rows), None
+    slope = [a - u for a, u in zip(rows[0], target)]
+    for k in range(1, steps + 1):
+        scores = [sum(a * b for a, b in zip(slope, row)) for row in rows]
+        least = min(scores)
+        last = choose([i for i, score in enumerate(scores) if score == least], shares, last)
+        shares[last] += k
+        slope = [sum(s * row[j] for s, row in zip(shares, rows)) - k * (k + 1) // 2 * u
+                 for j, u in enumerate(target)]
+    return shares
+
+
+# Which of equals a step takes, given the shares and the boat picked last: the rule, and four others.
+
+
+def first_that_holds(equal, shares, last):
+    return ([i for i in equal if shares[i]] or equal)[0]
+
+
+def lowest_number(equal, shares, last):
+    return equal[0]
+
+
+def last_that_holds(equal, shares, last):
+    return ([i for i in equal if shares[i]] or equal[:1])[-1]
+
+
+def picked_last(equal, shares, last):
+    return last if last in equal else first_that_holds(equal, shares, last)
+
+
+def most_shares(equal, shares, last):
+    return max(equal, key=lambda i: shares[i])
+
+
+# Each other rule, and how many of the drawn cases it changes at least.
+OTHER_RULES = [(lowest_number, 100), (last_that_holds, 50), (picked_last, 5), (most_shares, 25)]
+
+
+def drawn_ties():
+    """The 1,000 drawn books with mirrored rows of random_test tell the tie rule from others."""
+    draws = generator.Draws(6)
+    differ = {choose: 0 for choose, _ in OTHER_RULES}
+    for number in range(1000):
+        rows, target, steps = generator.draw_mirrored(draws)
+        answer, shares = exact.run(rows, target, steps, 0)
+        agree("mirrored book %d" % number, shares,
+              plain_shares(rows, target, answer.steps, first_that_holds))
+        for choose in differ:
+            differ[choose] += shares != plain_shares(rows, target, answer.steps, choose)
+    for choose, least in OTHER_RULES:
+        agree("mirrored books changed by %s" % choose.__name__, differ[choose] >= least, True)
 
 
 def full_size():
@@ -711,7 +782,7 @@ def gap_bounds():
 
 def main():
     for part in (marked_sheets, readers, book_and_sheet_refusals, lent_lists, card_refusals,
-                 two_tests, editions, filed_before, two_faults, ties_and_start, random_books, full_size, damaged_files,
+                 two_tests, editions, filed_before, two_faults, ties_and_start, drawn_ties, random_books, full_size, damaged_files,
                  from_a_shell, whole_numbers, scale_cells, subtractions, gap_bounds):
         part()
     if differences:

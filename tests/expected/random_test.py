@@ -39,7 +39,11 @@ def one(draws, number, plan, out):
     sheet = generator.draw_sheet(draws, plan, book, rows, 0)
     tolerance = tolerance_for(draws, book, sheet)
     sheet = sheet[:-8] + tolerance.to_bytes(4, "little") + sheet[-4:]
-    out.append(b"case %d\n" % number)
+    report(b"case", number, book, sheet, out)
+
+
+def report(word, number, book, sheet, out):
+    out.append(b"%s %d\n" % (word, number))
     refusal, answer, shares = exact.search(book, sheet, [0] * 256)
     if refusal:
         out.append(exact.refused(refusal))
@@ -48,7 +52,7 @@ def one(draws, number, plan, out):
         out.append(b"floor %d\n" % answer.carried)
     if answer.verdict == exact.SPENT:
         out.append(b"shortfall %d\n" % answer.carried)
-    _, steps, _ = exact.read_sheet(sheet)
+    _, steps, tolerance = exact.read_sheet(sheet)
     out.append(exact.listing_lines(exact.read_book(book), steps, tolerance, answer, shares))
 
 
@@ -59,6 +63,10 @@ def main():
         one(draws, number, generator.draw_plan(draws), out)
     one(draws, 3000, generator.Plan(256, 64, 2000, 40, 3), out)
     one(draws, 3001, generator.Plan(256, 64, 2000, 360, 3), out)
+    draws = generator.Draws(6)
+    for number in range(1000):
+        rows, target, steps = generator.draw_mirrored(draws)
+        report(b"mirrored", number, exact.make_book(rows), exact.make_sheet(target, steps, 0), out)
     sys.stdout.buffer.write(b"".join(out))
 
 

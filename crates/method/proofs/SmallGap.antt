@@ -18,7 +18,7 @@ use Rattle.method.specs.Answers.{answer-at}
 use Rattle.method.specs.Fractions.{Fraction, Is-ratio, ratio, _≤ℚ_}
 use Rattle.method.specs.SmallGap.{Small-gap}
 use Rattle.method.proofs.Weights.{weight-positive}
-use Rattle.method.proofs.Argmin.{pick-row, pick-score}
+use Rattle.method.proofs.Picks.{pick-row, pick-score}
 use Rattle.method.proofs.Shares.{iterate-mixed}
 use Rattle.method.proofs.Mixtures.{Well-formed, gap-by-least, gap-is}
 use Rattle.method.proofs.Iterates.{diameter-is, long, residual-total, iterate-run, weight-by}
@@ -47,7 +47,7 @@ module _ {p : Problem} (h : Well-formed p) where
 
   -- the vertex that step t + 1 takes, t above 0
   abbrev taken : ℕ → List ℤ
-  taken t = row (p .vertices) (pick p (residual p t (iterate p t)))
+  taken t = row (p .vertices) (pick p (residual p t (iterate p t)) (iterate p t))
 
   sequence : Sequence S (Among (p .vertices)) (p .target) (share (p .schedule)) (λ t. iterate p t .point) r taken
   unfolding iterate step with-shares direction
@@ -55,9 +55,9 @@ module _ {p : Problem} (h : Well-formed p) where
       record {
         run = iterate-run h;
         residual = residual-total h;
-        argmin = λ t. pick-row p (r (suc t)) (h .some-row);
+        argmin = λ t. pick-row p (r (suc t)) (iterate p (suc t)) (h .some-row);
         move = λ t. plus-is (p .factors) (iterate p (suc t) .point) (share (p .schedule) (suc t)) (taken (suc t))
-            (long h (suc t) ∙ sym (h .wide .each _ (pick-row p (r (suc t)) (h .some-row) .vertex)));
+            (long h (suc t) ∙ sym (h .wide .each _ (pick-row p (r (suc t)) (iterate p (suc t)) (h .some-row) .vertex)));
       }
 
   pub small-gap : p .schedule ≡ fixed → (k : ℕ) → 2 ≤ k → Small-gap p k
@@ -73,7 +73,7 @@ module _ {p : Problem} (h : Well-formed p) where
       let b : 4 * (k + 2) * gap p t (iterate p t) ≤ 27 * diameter p * w =
       ≤ℤ→≤ (rw (
         ← weight-by h e t,
-        pick-score p (residual p t (iterate p t)),
+        pick-score p (residual p t (iterate p t)) (iterate p t),
         ← gap-by-least h t (iterate p t) (long h t) some,
         gap-is h some (iterate-mixed p (h .some-row) (h .wide) t),
       ) at (s .bound)) in

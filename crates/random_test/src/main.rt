@@ -1,5 +1,8 @@
-// Drawn fleet books and sheets, small ones and two of full size, one of these with the most steps, searched and listed.
+// Drawn fleet books and sheets, small ones and two of full size, one of these with the most steps, and books with mirrored rows,
+// searched and listed.
 // The expected output is made by tests/expected/random_test.py.
+mod mirrored;
+
 use iteration::State;
 use method::Answer;
 use method::Searched;
@@ -85,6 +88,29 @@ fn one(seed: &mut u64, number: u64, plan: Plan) {
     run(&book, end, &mut sheet, m, seed);
 }
 
+// One drawn case of mirrored rows, tolerance 0.
+fn mirrored_case(seed: &mut u64, number: u64) {
+    let mut book = [0u8; 84];
+    let mut sheet = [0u8; 22];
+    printing::line(b"mirrored", number);
+    let plan = mirrored::draw_plan(seed);
+    let n = mirrored::put_book(&mut book, seed, plan);
+    let m = mirrored::put_sheet(&mut sheet, seed, plan);
+    report(
+        buffers::between(&book, 0, n),
+        buffers::between(&sheet, 0, m),
+    );
+}
+
+fn mirrored_cases() {
+    let mut seed = 6;
+    let mut number = 0;
+    while number < 1000 {
+        mirrored_case(&mut seed, number);
+        number += 1;
+    }
+}
+
 fn full(steps: u64) -> Plan {
     Plan {
         boats: 256,
@@ -105,4 +131,5 @@ fn main() {
     }
     one(&mut seed, number, full(40));
     one(&mut seed, number + 1, full(State::MOST_STEPS as u64));
+    mirrored_cases();
 }
