@@ -42,7 +42,7 @@ float_answer float_search(const uint8_t *book, size_t book_length, const uint8_t
             double s = 0;
             for (size_t j = 0; j < columns; j++)
                 s += d[j] * rows[i * columns + j];
-            if (i == 0 || s < least) {
+            if (i == 0 || s < least || (s == least && weights[best] == 0 && weights[i] > 0)) {
                 least = s;
                 best = i;
             }

@@ -27,13 +27,13 @@ static int64_t inner(const int32_t *r, const uint8_t *row, size_t columns)
     return sum;
 }
 
-static size_t least(const int32_t *r, const uint8_t *rows, size_t boats, size_t columns, int64_t *score)
+static size_t least(const int32_t *r, const uint8_t *rows, size_t boats, size_t columns, const uint16_t *shares, int64_t *score)
 {
     size_t best = 0;
     *score = INT64_MAX;
     for (size_t i = 0; i < boats; i++) {
         int64_t s = inner(r, rows + 2 * i * columns, columns);
-        if (s < *score) {
+        if (s < *score || (s == *score && shares[best] == 0 && shares[i] != 0)) {
             best = i;
             *score = s;
         }
@@ -82,12 +82,12 @@ dofitrano_reply plain_c_search(const uint8_t *book, size_t book_length, const ui
     int32_t r[64] = { 0 };
     int64_t score;
     step(r, rows, target, columns, 1);
-    size_t best = least(r, rows, boats, columns, &score);
+    size_t best = least(r, rows, boats, columns, shares, &score);
     memset(r, 0, sizeof r);
     for (uint32_t t = 1;; t++) {
         shares[best] += t;
         step(r, rows + 2 * best * columns, target, columns, (int32_t)t);
-        best = least(r, rows, boats, columns, &score);
+        best = least(r, rows, boats, columns, shares, &score);
         int64_t w = (int64_t)t * (t + 1) / 2, e = 0;
         for (size_t j = 0; j < columns; j++)
             e += (int64_t)r[j] * r[j];

@@ -93,13 +93,13 @@ fn inner(r: &[i32], row: &[u8]) -> i64 {
     r.iter().zip(values(row)).map(|(x, v)| i64::from(*x) * i64::from(v)).sum()
 }
 
-/// The lowest-numbered boat of least score, and that score.
-fn least(r: &[i32], book: &Book) -> (usize, i64) {
+/// Of the boats of least score the lowest-numbered that holds shares, else the lowest-numbered; and that score.
+fn least(r: &[i32], book: &Book, shares: &[u16; 256]) -> (usize, i64) {
     let mut best = 0;
     let mut score = i64::MAX;
     for (boat, row) in book.body.chunks_exact(2 * book.columns).enumerate() {
         let s = inner(r, row);
-        if s < score {
+        if s < score || (s == score && shares[best] == 0 && shares[boat] != 0) {
             best = boat;
             score = s;
         }
@@ -133,14 +133,14 @@ pub fn search(book: &[u8], sheet: &[u8], slots: &mut [u16]) -> Reply {
     let r = &mut residual[..book.columns];
     let row = |boat: usize| &book.body[2 * boat * book.columns..2 * (boat + 1) * book.columns];
     step(r, row(0), sheet.body, 1);
-    let (mut best, _) = least(r, &book);
+    let (mut best, _) = least(r, &book, &shares);
     r.fill(0);
     let mut t = 0u32;
     loop {
         t += 1;
         shares[best] += t as u16;
         step(r, row(best), sheet.body, t as i32);
-        let (next, score) = least(r, &book);
+        let (next, score) = least(r, &book, &shares);
         best = next;
         let w = i64::from(t) * i64::from(t + 1) / 2;
         let e: i64 = r.iter().map(|x| i64::from(*x) * i64::from(*x)).sum();

@@ -2,7 +2,12 @@
 //! library. It is written from the definitions of the formats and the method and takes the plainest way: 128-bit integers,
 //! every quantity computed anew after each step from the shares alone.
 
+use std::sync::atomic::{AtomicU64, Ordering};
+
 const MOST_BYTES: usize = 40_000;
+
+/// How many picks went to a boat that held shares before a lower-numbered one of the same score that held none.
+pub static TIES: AtomicU64 = AtomicU64::new(0);
 
 /// The verdict of a run and what it carries.
 #[derive(Clone, Copy, PartialEq, Debug)]
@@ -180,11 +185,16 @@ impl Problem {
         (inner(&r, &r), gap.max().unwrap())
     }
 
-    /// The lowest-numbered boat of least score in some direction.
-    fn pick(&self, direction: &[i128]) -> usize {
+    /// Of the boats of least score in some direction the lowest-numbered that holds shares, else the lowest-numbered.
+    fn pick(&self, direction: &[i128], shares: &[u16]) -> usize {
         let scores: Vec<i128> = self.rows.iter().map(|v| inner(direction, v)).collect();
         let least = scores.iter().min().unwrap();
-        scores.iter().position(|s| s == least).unwrap()
+        let equal: Vec<usize> = (0..scores.len()).filter(|i| scores[*i] == *least).collect();
+        let holding = equal.iter().copied().find(|i| shares[*i] > 0);
+        if holding.is_some_and(|i| i != equal[0]) {
+            TIES.fetch_add(1, Ordering::Relaxed);
+        }
+        holding.unwrap_or(equal[0])
     }
 
     /// The verdict after t steps, none where the search goes on.
@@ -207,7 +217,8 @@ impl Problem {
             1 => self.rows[0].iter().zip(&self.target).map(|(x, u)| x - u).collect(),
             _ => self.point_and_residual(shares).1,
         };
-        shares[self.pick(&direction)] += t as u16;
+        let boat = self.pick(&direction, shares);
+        shares[boat] += t as u16;
     }
 
     /// The shares after t steps, whatever the verdicts are.

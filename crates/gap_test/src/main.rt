@@ -9,7 +9,7 @@ ghost use Rattle.frank_wolfe.specs.Vectors.{subtract, weighted-norm, ones};
 ghost use Rattle.method.specs.Problem.{problem};
 ghost use Rattle.method.specs.Iterates.{row, farthest, diameter};
 ghost use Rattle.iteration.specs.States.{file-layout, Holds};
-ghost use Rattle.runs.specs.Runs.{Scores-at};
+ghost use Rattle.runs.specs.Runs.{Shares-at, Scores-at};
 use iteration::Layout;
 use iteration::State;
 use method::Answer;
@@ -83,21 +83,33 @@ fn diameter(book: &[u8], sheet: &[u8], layout: Layout) -> u64
     most
 }
 
-// One step of the method, with the scores of the boats before it and after it in the first slots.
-fn step(state: State, book: &[u8], sheet: &[u8], layout: Layout, scores: &mut [i64]) -> State
+// One step of the method, with the shares and the scores of the boats before it and after it in the first slots.
+fn step(
+    state: State,
+    book: &[u8],
+    sheet: &[u8],
+    layout: Layout,
+    shares: &mut [u16],
+    scores: &mut [i64],
+) -> State
     requires { ⌜ files-refusal (now book) (now sheet) ≡ 0 ⌝ }
     requires { ⌜ layout ≡ file-layout (now book) (now sheet) ⌝ }
     requires { ⌜ Holds (now book) (now sheet) (state .steps) state ⌝ }
     requires { ⌜ state .steps < 360 ⌝ }
+    requires { ⌜ Shares-at (now book) (now sheet) (state .steps) (now shares) ⌝ }
     requires { ⌜ Scores-at (now book) (now sheet) (state .steps) (now scores) ⌝ }
     ensures { λ r. ⌜ Holds (now (book .entry)) (now (sheet .entry)) (state .steps + 1) r ⌝ }
+    ensures { λ r. ⌜ Shares-at (now (book .entry)) (now (sheet .entry)) (state .steps + 1) (now (shares .exit)) ⌝ }
     ensures { λ r. ⌜ Scores-at (now (book .entry)) (now (sheet .entry)) (state .steps + 1) (now (scores .exit)) ⌝ }
 {
     let best = state.best;
     let k = state.steps + 1;
+    let boats = layout.boats;
     let mut products = [0i32; 256];
     iteration::products_of(best, book, sheet, layout, &mut products);
-    let pick = scoring::rescored(scores, k, &products, layout.boats);
+    runs::add_shares(shares, best, k);
+    let least = scoring::rescored(scores, k, &products, boats);
+    let pick = scoring::picked(least, scores, shares, boats);
     state.next(book, sheet, layout, pick)
 }
 
@@ -161,6 +173,7 @@ fn follow(start: State, book: &[u8], sheet: &[u8], layout: Layout, diameter: u64
     requires { ⌜ Holds (now book) (now sheet) 0 start ⌝ }
 {
     let steps = files::steps(sheet);
+    let mut shares = [0u16; 256];
     let mut scores = [0i64; 256];
     let mut state = start;
     let mut found = Found {
@@ -172,7 +185,7 @@ fn follow(start: State, book: &[u8], sheet: &[u8], layout: Layout, diameter: u64
         every: true,
     };
     while state.steps < steps {
-        state = step(state, book, sheet, layout, &mut scores);
+        state = step(state, book, sheet, layout, &mut shares, &mut scores);
         found = with_step(found, state.answer(sheet, layout), steps, diameter);
     }
     found

@@ -68,8 +68,11 @@ module _ (b s : List ℕ) (ok : files-refusal b s ≡ 0) where
               ∙ ap (λ (l : List ℕ). l ++ z) (next-shares b s ok H));
         }
 
-  pub shares-before : {qs : List ℕ} → Shares-at b s 0 qs → Shared b s 0 qs (drop (boats b) qs)
-  shares-before {qs} h = record { is = sym (take-append-drop (boats b) qs) ∙ rw (h .are) }
+  pub shares-before : {t : ℕ} {qs : List ℕ} → Shares-at b s t qs → Shared b s t qs (drop (boats b) qs)
+  shares-before {qs = qs} h = record { is = sym (take-append-drop (boats b) qs) ∙ rw (h .are) }
+
+  pub shares-at : {t : ℕ} {qs z : List ℕ} → Shared b s t qs z → Shares-at b s t qs
+  shares-at q = record { room = shared-room q; are = shared-front q }
 
   -- the list keeps its length
   pub shared-long : {t : ℕ} (old : List ℕ) {qs : List ℕ} → boats b ≤ length old → Shared b s t qs (drop (boats b) old) → length qs ≡ length old
@@ -79,17 +82,16 @@ module _ (b s : List ℕ) (ok : files-refusal b s ≡ 0) where
   unfolding problem iterate start
   none-yet = rw (book-fits b s ok .row-count)
 
+  pub shares-start : (n : ℕ) → boats b ≤ n → Shares-at b s 0 (replicate n 0)
+  shares-start n h = record { room = rw (length-replicate {A = ℕ} n 0) h; are = take-replicate (boats b) n 0 h ∙ sym none-yet }
+
   module _ {l : Layout} (e : l ≡ file-layout b s) (old : List ℕ) (room : boats b ≤ length old) {qs : List ℕ} (q : qs ≡ replicate (l .boats) 0 ++ drop (l .boats) old) where
     pub cleared : Shared b s 0 qs (drop (boats b) old)
     unfolding file-layout
     cleared = record { is = (rw e at q) ∙ rw none-yet }
 
     pub cleared-shares : Shares-at b s 0 qs
-    cleared-shares =
-        record {
-          room = shared-room cleared;
-          are = shared-front cleared;
-        }
+    cleared-shares = shares-at cleared
 
     -- what stands behind the shares is as it was
     pub cleared-rest : drop (boats b) qs ≡ drop (boats b) old
