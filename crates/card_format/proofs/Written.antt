@@ -11,11 +11,13 @@ use Rattle.files.specs.Sheet.{sheet, files-refusal}
 use Rattle.files.proofs.Accepted.{files-accepted}
 use Rattle.method.specs.declared.Test.{Test}
 use Rattle.method.specs.declared.Test.the-variants.{Former, Sharper}
-use Rattle.method.specs.Problem.{Problem, problem}
-use Rattle.method.specs.Iterates.{iterate, support}
-use Rattle.method.specs.Answers.{verdict-number, stops, answer-at, steps-used, run-iterate, run-answer}
+use Rattle.frank_wolfe.specs.Vectors.{sum}
+use Rattle.method.specs.declared.Answer.{Answer}
+use Rattle.method.specs.Problem.{fixed, problem, weight}
+use Rattle.method.specs.Iterates.{support}
+use Rattle.method.specs.Answers.{verdict-number, stops, answer-at, run-iterate, run-answer}
 use Rattle.method.specs.Bounds.{answer-of, Answer-bounds}
-use Rattle.method.proofs.Shares.{Mixed, mixed-is, iterate-mixed, iterate-support, share-most}
+use Rattle.method.proofs.Shares.{share-most}
 use Rattle.method.proofs.Weights.{weight-most}
 use Rattle.method.proofs.Accepted.{well-formed, in-range, sized}
 use Rattle.method.proofs.Bounds.{run-is, run-bounds}
@@ -51,62 +53,53 @@ module _ (b s : List ℕ) (ok : files-refusal b s ≡ 0) where
       length-append (pairs 0 qs) (trailer-bytes Sharper (answer-fields (run-answer (problem b s)) (length (pairs 0 qs)) (sheet s .tolerance) (boats b) (columns b)))
       ∙ (omega (arith, length-trailer Sharper (answer-fields (run-answer (problem b s)) (length (pairs 0 qs)) (sheet s .tolerance) (boats b) (columns b)), run-pairs-length))
 
--- ---- The card of the answer after t steps, by either test
+-- ---- The card of an answer and its shares, by either test
 
-step-card : Test → (b s : List ℕ) → (t : ℕ) → List ℕ
-step-card test b s t =
-    card-bytes test (answer-at test (problem b s) t (iterate (problem b s) t)) (iterate (problem b s) t .shares) (sheet s .tolerance) (boats b) (columns b)
-
-module _ (b s : List ℕ) (ok : files-refusal b s ≡ 0) (test : Test) (t : ℕ) where
-  mixed : Mixed (problem b s) t (iterate (problem b s) t)
-  unfolding problem
-  mixed = iterate-mixed (problem b s) (well-formed b s ok .some-row) (well-formed b s ok .wide) t
-
-  -- the answer there is that of its shares
-  answer-there : answer-at test (problem b s) t (iterate (problem b s) t) ≡ answer-of test (problem b s) (iterate (problem b s) t .shares) t
-  answer-there = ap (answer-at test (problem b s) t) (mixed-is mixed)
-
-  -- it is true where the test ends a run
-  step-card-true : 1 ≤ t → t ≤ sheet s .steps → stops (sheet s .steps) t (answer-at test (problem b s) t (iterate (problem b s) t) .verdict) ≡ true →
-      (front : List ℕ) → length (front ++ step-card test b s t) ≤ 40000 → Card-true b s (front ++ step-card test b s t)
-  unfolding problem step-card card-bytes answer-fields answer-at
-  step-card-true some most here front h =
-      let x = iterate (problem b s) t in
+module _ (b s : List ℕ) (test : Test) {a : Answer} (qs : List ℕ) (own : a ≡ answer-of test (problem b s) qs (a .steps)) where
+  -- it is true where the test ends a run, of shares that so many steps can give
+  answer-card-true : length qs ≡ boats b → sum qs ≡ weight fixed (a .steps) → support qs ≤ a .steps → 1 ≤ a .steps → a .steps ≤ sheet s .steps → stops (sheet s .steps) (a .steps) (a .verdict) ≡ true →
+      (front : List ℕ) → length (front ++ card-bytes test a qs (sheet s .tolerance) (boats b) (columns b)) ≤ 40000 →
+      Card-true b s (front ++ card-bytes test a qs (sheet s .tolerance) (boats b) (columns b))
+  unfolding problem card-bytes answer-fields
+  answer-card-true count total few some most here front h =
       record {
         front = front;
-        shares = x .shares;
-        own = answer-fields (answer-at test (problem b s) t x) (length (pairs 0 (x .shares))) (sheet s .tolerance) (boats b) (columns b);
+        shares = qs;
+        own = answer-fields a (length (pairs 0 qs)) (sheet s .tolerance) (boats b) (columns b);
         test = test;
         layout = refl;
         most-bytes = h;
         back = refl;
         boats = refl;
         columns = refl;
-        share-count = mixed .count ∙ files-accepted b s ok .0 .row-count;
+        share-count = count;
         truth = record {
-          total = mixed .total;
-          few-boats = iterate-support (problem b s) t;
+          total = total;
+          few-boats = few;
           some-step = some;
           most-steps = most;
-          distance = ap (λ a. a .distance) answer-there;
-          gap = ap (λ a. a .gap) answer-there;
-          verdict = ap (λ a. verdict-number (a .verdict)) answer-there;
-          stops-here = sym (ap (λ a. stops (sheet s .steps) t (a .verdict)) answer-there) ∙ here;
+          distance = ap (λ x. x .distance) own;
+          gap = ap (λ x. x .gap) own;
+          verdict = ap (λ x. verdict-number (x .verdict)) own;
+          stops-here = sym (ap (λ x. stops (sheet s .steps) (a .steps) (x .verdict)) own) ∙ here;
           tolerance = refl;
         };
       }
 
 pub filed-before-true : Filed-before-true
-unfolding Filed-before-true step-card
-filed-before-true b s w ok c = rw (c .layout) (step-card-true b s ok Former (c .steps) (c .some-step) (c .most-steps) (c .stops-here) (c .front) (rw (c .layout) at (c .most-bytes)))
+unfolding Filed-before-true answer-at
+filed-before-true b s w ok c =
+    rw (c .layout)
+    (answer-card-true b s Former (c .shares) refl (c .share-count) (c .total) (c .few-boats) (c .some-step) (c .most-steps) (c .stops-here) (c .front) (rw (c .layout) at (c .most-bytes)))
 
 -- ---- The card of a run
 
 module _ (b s : List ℕ) (ok : files-refusal b s ≡ 0) where
   pub run-card-true : (front : List ℕ) → length front + length (run-card b s) ≤ 40000 → Card-true b s (front ++ run-card b s)
-  unfolding problem run-card run-answer run-iterate step-card answer-at
+  unfolding problem run-card
   run-card-true front h =
-      step-card-true b s ok Sharper (steps-used (problem b s)) (bounds b s ok .some-step) (bounds b s ok .most-steps) (bounds b s ok .stops-here) front
+      let c = bounds b s ok in
+      answer-card-true b s Sharper (run-iterate (problem b s) .shares) (run-is (well-formed b s ok)) (run-shares b s ok) (c .total) (c .few-boats) (c .some-step) (c .most-steps) (c .stops-here) front
       (omega (arith, length-append front (run-card b s)))
 
 pub written-short : Written-short
@@ -114,7 +107,7 @@ unfolding Written-short
 written-short b s ok = omega (arith, run-card-length b s ok, support-most (run-iterate (problem b s) .shares), run-shares b s ok, files-accepted b s ok .0 .most-boats)
 
 pub written-accepted : Written-accepted
-unfolding Written-accepted run-card-true step-card-true run-iterate run-answer answer-at
+unfolding Written-accepted run-card-true answer-card-true
 written-accepted b s front ok h =
     let c = run-card-true b s ok front h in
     let w = front ++ run-card b s in

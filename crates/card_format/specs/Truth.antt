@@ -13,9 +13,9 @@ use Rattle.files.specs.Sheet.{sheet, files-refusal}
 use Rattle.method.specs.declared.Test.{Test}
 use Rattle.method.specs.declared.Test.the-variants.{Former}
 use Rattle.method.specs.declared.Answer.{Answer}
-use Rattle.method.specs.Problem.{Problem, problem, weight}
-use Rattle.method.specs.Iterates.{iterate, gaps, maximum, mixture-distance, support}
-use Rattle.method.specs.Answers.{verdict-number, stops, answer-at, run-answer, run-iterate}
+use Rattle.method.specs.Problem.{fixed, Problem, problem, weight}
+use Rattle.method.specs.Iterates.{gaps, maximum, mixture-distance, support}
+use Rattle.method.specs.Answers.{verdict-number, stops, run-answer, run-iterate}
 use Rattle.method.specs.Bounds.{answer-of, Answer-bounds}
 use Rattle.card_format.specs.Format.{Fields, pairs, trailer-bytes, card-bytes, card-fields, card-test, card-shares, card-answer, run-card}
 use Rattle.card_format.specs.Checks.{card-refusal}
@@ -54,15 +54,18 @@ pub record Card-true (b s w : List ℕ) : Type 0 where
   pub truth : Fields-true test (problem b s) shares own
 
 -- the card w was filed before WCD2: behind front text, the WCD1 card of the answer and the shares after some steps, where the former test
--- ends a run
+-- ends a run. The shares are any that so many steps can give, whichever boat of least score each step took
 pub record Filed-before (b s w : List ℕ) : Type 0 where
   pub front : List ℕ
+  pub shares : List ℕ
   pub steps : ℕ
   pub some-step : 1 ≤ steps
   pub most-steps : steps ≤ sheet s .steps
-  pub stops-here : stops (sheet s .steps) steps (answer-at Former (problem b s) steps (iterate (problem b s) steps) .verdict) ≡ true
-  pub layout : w ≡ front ++ card-bytes Former (answer-at Former (problem b s) steps (iterate (problem b s) steps)) (iterate (problem b s) steps .shares)
-      (sheet s .tolerance) (boats b) (columns b)
+  pub share-count : length shares ≡ boats b
+  pub total : sum shares ≡ weight fixed steps
+  pub few-boats : support shares ≤ steps
+  pub stops-here : stops (sheet s .steps) steps (answer-of Former (problem b s) shares steps .verdict) ≡ true
+  pub layout : w ≡ front ++ card-bytes Former (answer-of Former (problem b s) shares steps) shares (sheet s .tolerance) (boats b) (columns b)
   pub most-bytes : length w ≤ 40000
 
 -- ---- What an accepted card vouches for: a is the answer given back for it, `shares` its shares. The bound by steps is a run's alone.
