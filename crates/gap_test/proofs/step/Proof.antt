@@ -37,8 +37,7 @@ picked-requires c κs =
     let p = at-products-of .before .before .before .before .before .before .pre in
     let q = products-here _ _ (p .0) _ _ (at-products-of .products-of .ensures) in
     let f = at-rescored .rescored .ensures .1 in
-    let g = shared-after _ _ (p .0) (p .1 .1 .0) (p .1 .1 .1 .0) (p .1 .1 .1 .1 .0) (at-add-shares .add-shares .ensures) in
-    (
+    let g = shared-after _ _ (p .0) (p .1 .1 .0) (p .1 .1 .1 .0) (p .1 .1 .1 .1 .0) (at-add-shares .add-shares .ensures) in (
       pickable-next _ _ (p .0) (p .1 .0) (p .1 .1 .0) (p .1 .1 .1 .0) (p .1 .1 .1 .1 .1) q f g,
       least-next _ _ (p .0) (p .1 .0) (p .1 .1 .0) (p .1 .1 .1 .0) (p .1 .1 .1 .1 .1) q f (at-rescored .rescored .ensures .0),
     )
@@ -59,8 +58,7 @@ returns c =
     let at-add-shares = at-rescored .before .before .before .before .before in
     let at-products-of = at-add-shares .before .before .before in
     let p = at-products-of .before .before .before .before .before .before .pre in
-    let q = products-here _ _ (p .0) _ _ (at-products-of .products-of .ensures) in
-    (
+    let q = products-here _ _ (p .0) _ _ (at-products-of .products-of .ensures) in (
       c .next .ensures,
       (
         shares-after _ _ (p .0) (p .1 .1 .0) (p .1 .1 .1 .0) (p .1 .1 .1 .1 .0) (at-add-shares .add-shares .ensures),
