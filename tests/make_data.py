@@ -89,7 +89,7 @@ FOLDERS = {
 }
 
 # edition_test: books and sheets whose cards were filed before WCD2, by the names of the cards. The far targets are ones at which the
-# former test needs more steps than the sharper, or never ends Beyond.
+# former test needs more steps than the sharper, or never ends Beyond. In the last a tie went to the lowest number.
 DRAWS = Draws(31)
 FAR = make_book([draw_row(DRAWS, 16, 20) for _ in range(20)], front=b"twenty boats\n")
 FAR_TARGET = [value + 4 for value in draw_row(DRAWS, 16, 8)]
@@ -101,6 +101,7 @@ FILED_BEFORE = {
     "larger": ("larger.wbk", LARGER, LARGER_SHEET),
     "far": ("far.wbk", FAR, make_sheet(FAR_TARGET, steps=90, tolerance=60)),
     "short": ("far.wbk", FAR, make_sheet(FAR_TARGET, steps=12, tolerance=60)),
+    "tie": ("tie.wbk", make_book([[-1, -1], [-1, 1], [1, 0]]), make_sheet([0, 0], steps=3, tolerance=0)),
 }
 
 # The programs, each in a folder of its own, so that one that does another's work prints something else.

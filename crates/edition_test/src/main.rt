@@ -157,6 +157,7 @@ i: Bh.wbk Si.wsh Ci.wcd
 larger: Blarger.wbk Slarger.wsh Clarger.wcd
 far: Bfar.wbk Sfar.wsh Cfar.wcd
 short: Bfar.wbk Sshort.wsh Cshort.wcd
+tie: Btie.wbk Stie.wsh Ctie.wcd
 ",
     );
 }
