@@ -245,6 +245,11 @@ def next_vertex(minimizers, weights):
     return (active or minimizers)[0]
 
 
+def former_vertex(minimizers, weights):
+    """The first minimizer, which runs took before."""
+    return minimizers[0]
+
+
 def former_test(squared_distance, duality_gap, tolerance):
     """The former test of Beyond."""
     return squared_distance - 2 * duality_gap > tolerance
@@ -271,7 +276,7 @@ def judge(squared_distance, duality_gap, tolerance, step, steps, test=sharper_te
     return 0
 
 
-def iterates(rows, target):
+def iterates(rows, target, choose=next_vertex):
     """The published iteration: the number of steps, weights, point, squared
     distance and duality gap after each; all but the first are fractions.
     """
@@ -281,7 +286,7 @@ def iterates(rows, target):
     _, _, minimizers = measure(point, rows, target)
     k = 0
     while True:
-        vertex = next_vertex(minimizers, weights)
+        vertex = choose(minimizers, weights)
         gamma = Fraction(2, k + 2)
         rest = 1 - gamma
         point = [rest * x + gamma * s for x, s in zip(point, rows[vertex])]
@@ -293,11 +298,11 @@ def iterates(rows, target):
         yield k, weights, point, squared_distance, duality_gap
 
 
-def frank_wolfe(rows, target, steps, tolerance, test=sharper_test):
+def frank_wolfe(rows, target, steps, tolerance, test=sharper_test, choose=next_vertex):
     """The published iteration, judged after each step, up to the first verdict,
     which is given back behind the rest.
     """
-    for k, weights, point, squared_distance, duality_gap in iterates(rows, target):
+    for k, weights, point, squared_distance, duality_gap in iterates(rows, target, choose):
         verdict = judge(squared_distance, duality_gap, tolerance, k, steps, test)
         if verdict:
             return k, weights, point, squared_distance, duality_gap, verdict
@@ -349,10 +354,10 @@ def answer_of(t, squared_distance, duality_gap, verdict, tolerance):
     return Answer(t, w, distance, gap, verdict, carried)
 
 
-def run(rows, target, steps, tolerance, test=sharper_test):
+def run(rows, target, steps, tolerance, test=sharper_test, choose=next_vertex):
     """Answer and shares of one search."""
     t, weights, _, squared_distance, duality_gap, verdict = frank_wolfe(
-        rows, target, steps, tolerance, test)
+        rows, target, steps, tolerance, test, choose)
     answer = answer_of(t, squared_distance, duality_gap, verdict, tolerance)
     return answer, [whole(weight * answer.weight) for weight in weights]
 

@@ -407,10 +407,10 @@ def editions():
 
 
 def filed_before():
-    """The cards of crates/edition_test/data are those of runs by the former test, byte for byte."""
+    """The cards of crates/edition_test/data are those of runs by the former test and tie rule, byte for byte."""
     for name, (_, book, sheet) in make_data.FILED_BEFORE.items():
         rows, (target, steps, tolerance) = exact.read_book(book), exact.read_sheet(sheet)
-        answer, shares = exact.run(rows, target, steps, tolerance, exact.former_test)
+        answer, shares = exact.run(rows, target, steps, tolerance, exact.former_test, exact.former_vertex)
         card = printing.data_file("edition_test", name + ".wcd")
         agree("card %s" % name, card, exact.card_bytes(answer, shares, tolerance, len(rows), len(target), b"WCD1"))
         agree("card %s checked" % name, exact.check_card(book, sheet, card, [0] * len(rows)), (0, answer, shares))
