@@ -38,7 +38,7 @@ def missing(page):
     """The paths that a page names and that are not there, but for those with a word for any name."""
     with open(os.path.join(ROOT, page), encoding="utf-8") as file:
         text = file.read()
-    paths = re.findall(r"`((?:crates|tests|docs|tools|examples|include|compare|bench)/[^`\s]*)`", text)
+    paths = re.findall(r"`((?:crates|tests|docs|tools|examples|include|compare|bench|report)/[^`\s]*)`", text)
     paths += [os.path.join(os.path.dirname(page), link) for link in re.findall(r"\]\(([^)#:\s]+)(?:#[^)]*)?\)", text)]
     return [path for path in paths if not re.search(r"\b(?:NAME|LABEL|F)\b", path) and not os.path.exists(os.path.join(ROOT, path))]
 

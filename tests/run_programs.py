@@ -2,7 +2,7 @@
 """Run the built programs in folders of their own, and compare what they print and leave with the reference.
 
 Use: python3 tests/run_programs.py target/bin
-Runs those of mixlist, mixcard and mixcheck that are built. The last line says how many runs passed.
+Runs those of mixlist, mixcard and mixcheck that are built, and report/mixreport with mixcheck. The last line says how many runs passed.
 """
 import os
 import shutil
@@ -20,6 +20,7 @@ SHEET = exact.make_sheet([1, 1], steps=9, tolerance=1)
 SPENT = exact.make_sheet([1, 1], steps=2, tolerance=1)
 NO_STEPS = exact.make_sheet([1, 1], steps=0, tolerance=1)
 FOLDER = None  # stands for a folder in the place of a file
+MIXREPORT = os.path.join(HERE, "..", "report", "mixreport")
 
 # Name, and the files of the folder.
 FILES = [
@@ -44,7 +45,7 @@ def content(files, name):
     return files.get(name) or b""
 
 
-def run(program, files, read_only=False):
+def run(program, files, read_only=False, arguments=()):
     """Standard output, standard error and the files of the folder afterwards."""
     folder = tempfile.mkdtemp()
     try:
@@ -55,7 +56,7 @@ def run(program, files, read_only=False):
             else:
                 with open(path, "wb") as file:
                     file.write(data)
-        command = [os.path.abspath(program)]
+        command = [os.path.abspath(program), *arguments]
         if read_only:
             command = ["sh", "-c", "ulimit -f 0; trap '' XFSZ; exec " + command[0]]
         done = subprocess.run(command, cwd=folder, stdout=subprocess.PIPE, stderr=subprocess.PIPE, check=False)
@@ -121,19 +122,38 @@ def check_mixcard(program, runs):
     runs.expect("mixcard, card a folder", (out, err, left) == (b"", b"card.wcd: could not be written\n", before))
 
 
-def check_mixcheck(program, runs):
+def card_folders(names):
+    """Those folders of FILES with cards, true ones and others: a name, the files and what mixcheck must print."""
     _, answer, length, written = exact.write_card(BOOK, SHEET, bytes(1060))
     card = written[:length]
     cards = [("its card", card), ("front text", b"front" + card), ("none", None), ("empty", b""), ("a folder", FOLDER),
              ("another share", bytes([0, 0, 2]) + card[3:]), ("40,001 bytes", card.rjust(40001, b"x"))]
-    for name, files in FILES:
+    for name in names:
         for card_name, filed in cards:
-            before = dict(files)
+            before = dict(dict(FILES)[name])
             if card_name != "none":
                 before["card.wcd"] = filed
-            out, err, left = run(program, before)
             listing = exact.card_listing(*(content(before, file) for file in ("fleet.wbk", "sheet.wsh", "card.wcd")))
-            runs.expect("mixcheck, %s, %s" % (name, card_name), (out, err, left) == (listing, unread(before), before))
+            yield "%s, %s" % (name, card_name), before, listing
+
+
+def check_mixcheck(program, runs):
+    for name, before, listing in card_folders([name for name, _ in FILES]):
+        out, err, left = run(program, before)
+        runs.expect("mixcheck, " + name, (out, err, left) == (listing, unread(before), before))
+
+
+def check_report(program, runs):
+    """The report with the program: a refused card gives its line and no file, a true one the two reports with the listing in them."""
+    for name, before, listing in card_folders(("case a", "no book", "book of 40,001 bytes")):
+        out, _, left = run(MIXREPORT, before, arguments=("--mixcheck", os.path.abspath(program)))
+        reports = [left.pop(report, None) for report in ("report.txt", "report.html")]
+        if listing.startswith(b"refused"):
+            runs.expect("mixreport, " + name, (out, left, reports) == (listing, before, [None, None]))
+        else:
+            lines = b"".join(b"    " + line + b"\n" for line in listing.splitlines())
+            right = None not in reports and lines in reports[0] and b"<pre>" + listing.strip() + b"</pre>" in reports[1]
+            runs.expect("mixreport, " + name, right and left == before and len(out.splitlines()) == 2)
 
 
 def main(arguments):
@@ -141,7 +161,7 @@ def main(arguments):
         sys.stderr.write(__doc__)
         return 2
     runs = Runs()
-    for name, check in (("mixlist", check_mixlist), ("mixcard", check_mixcard), ("mixcheck", check_mixcheck)):
+    for name, check in (("mixlist", check_mixlist), ("mixcard", check_mixcard), ("mixcheck", check_mixcheck), ("mixcheck", check_report)):
         program = os.path.join(arguments[0], name)
         if os.path.exists(program):
             check(program, runs)

@@ -1,0 +1,625 @@
+#!/usr/bin/env python3
+"""Checks of the report, report/mixreport: its figures, its names, its picture, its page, and that a card that is not true gets no report.
+
+Use: python3 tests/test_report.py           runs the checks; exit code 1 where one fails
+     python3 tests/test_report.py --write   stores examples/yard's three files, docs/hull-41.svg and the report on docs/report.md anew
+
+The expected figures are worked out by hand. No program is built when the gate runs this, so a mixcheck made of the reference
+implementation tests/exact.py stands for the program; tests/run_programs.py runs the report with the program itself.
+"""
+import csv
+import importlib.machinery
+import importlib.util
+import os
+import random
+import re
+import subprocess
+import sys
+import tempfile
+import unicodedata
+import xml.etree.ElementTree as ElementTree
+from fractions import Fraction
+
+HERE = os.path.dirname(os.path.abspath(__file__))
+ROOT = os.path.dirname(HERE)
+PROGRAM = os.path.join(ROOT, "report", "mixreport")
+YARD = os.path.join(ROOT, "examples", "yard")
+sys.dont_write_bytecode = True
+sys.path[:0] = [HERE, os.path.join(ROOT, "report")]
+import exact  # noqa: E402
+import decimals  # noqa: E402
+import names  # noqa: E402
+import page  # noqa: E402
+import picture  # noqa: E402
+import text  # noqa: E402
+import words  # noqa: E402
+
+LOADER = importlib.machinery.SourceFileLoader("mixreport", PROGRAM)
+mixreport = importlib.util.module_from_spec(importlib.util.spec_from_loader("mixreport", LOADER))
+LOADER.exec_module(mixreport)
+
+DATE = "2026-11-16"
+checks = 0
+differences = 0
+
+
+def agree(label, got, wanted):
+    """Count one check; print it if the two differ."""
+    global checks, differences
+    checks += 1
+    if got != wanted:
+        differences += 1
+        print("%s:\n  got    %r\n  wanted %r" % (label, got, wanted))
+
+
+# ---------------------------------------------------------------- cards by hand
+
+P = [[0, 0], [4, 0], [0, 4]]
+LINE = [[-2000], [2000]]
+WORDS = {1: "within", 2: "beyond", 3: "spent"}
+
+
+def hand_listing(rows, tolerance, steps, verdict, t, shares, e, g):
+    lines = ["fleet %d %d" % (len(rows), len(rows[0])), "sheet %d %d" % (tolerance, steps),
+             "%s %d %d" % (WORDS[verdict], t, sum(shares)), "distance %d" % e, "gap %d" % g]
+    return "\n".join(lines + ["boat %d %d" % pair for pair in enumerate(shares) if pair[1]]) + "\n"
+
+
+def hand_files(rows, target, tolerance, steps, verdict, t, shares, e, g, card=b"WCD1", factors=None, fronts=(b"", b"")):
+    """The three files of a card."""
+    sheet = exact.make_sheet(target, steps, tolerance, fronts[1])
+    if factors:
+        sheet = exact.make_sheet(target, steps, tolerance, fronts[1], back=3 * len(target), letters=b"WSH2")
+        sheet = sheet[:-16] + bytes(factors) + sheet[-16:]
+    pairs = [pair for pair in enumerate(shares) if pair[1]]
+    return {"fleet.wbk": exact.make_book(rows, fronts[0]), "sheet.wsh": sheet,
+            "card.wcd": exact.make_card(pairs, verdict, t, tolerance, e, g, len(rows), len(target), letters=card)}
+
+
+def hand_report(*case, tables=(None, None), **more):
+    rows, _, *numbers = case
+    return mixreport.report_of(hand_files(*case, **more), hand_listing(rows, *numbers), tables, DATE)
+
+
+# The marked sheets, d by either edition of a card, a card that no search finds, and a sheet with factors 2 and 1: rows, target, tolerance, steps,
+# verdict, t, shares, E, G, and the letters and factors where they are others.
+CASES = {
+    "a": ((P, [1, 1], 1, 9, 1, 3, [3, 1, 2], 8, 56), {}),
+    "b": ((P, [1, 1], 1, 3, 1, 3, [3, 1, 2], 8, 56), {}),
+    "c": ((P, [1, 1], 1, 2, 3, 2, [0, 1, 2], 26, 44), {}),
+    "d": ((P, [5, 5], 1, 9, 2, 2, [0, 1, 2], 170, 32), {}),
+    "d, WCD2": ((P, [5, 5], 1, 9, 2, 1, [0, 1, 0], 26, 16), {"card": b"WCD2"}),
+    "e": (([[0, 0]], [3, 4], 25, 1, 1, 1, [1], 25, 0), {}),
+    "f": (([[0, 0]], [3, 4], 24, 1, 2, 1, [1], 25, 0), {}),
+    "g": (([[0, 0], [0, 0]], [0, 0], 0, 1, 1, 1, [1, 0], 0, 0), {}),
+    "h": ((LINE, [2000], 0, 1, 1, 1, [0, 1], 0, 0), {}),
+    "i": ((LINE, [0], 0, 2, 3, 2, [2, 1], 4000000, 16000000), {}),
+    "i, WCD2": ((LINE, [0], 0, 2, 3, 2, [2, 1], 4000000, 16000000), {"card": b"WCD2"}),
+    "by hand": ((P, [1, 1], 1, 9, 1, 3, [2, 2, 2], 8, 32), {}),
+    "factors": ((P, [1, 1], 1, 9, 1, 3, [3, 1, 2], 12, 96), {"factors": [2, 1]}),
+}
+
+# What is printed, worked by hand: asked for, this mixture and no mixture below as distance, squared, each column; nearer by at most, and that in
+# each column; the columns' mixture, difference and part in per cent; the nearest boat and its distance; D² and 4 D² / (t + 2).
+A = ("1.00 1.00 0.71", "0.47 0.22 0.33", "0.00 0.00 0.00", "0.48 0.34", "0.67 -0.33 50.0", "1.33 +0.33 50.0", "0 1.41", "32 25.60")
+PRINTED = {
+    "a": A,
+    "b": A,
+    "c": ("1.00 1.00 0.71", "1.70 2.89 1.20", "0.00 0.00 0.00", "1.70 1.21", "1.33 +0.33 3.8", "2.67 +1.67 96.2", "0 1.41", "32 32.00"),
+    "d": ("1.00 1.00 0.71", "4.35 18.89 3.07", "3.43 11.77 2.42", "0.92 0.65", "1.33 -3.67 71.2", "2.67 -2.33 28.8", "1 5.10", "32 32.00"),
+    "d, WCD2": ("1.00 1.00 0.71", "5.10 26.00 3.61", "1.96 3.84 1.38", "3.14 2.22", "4.00 -1.00 3.8", "0.00 -5.00 96.2", "1 5.10", "32 42.67"),
+    "e": ("5.00 25.00 3.54", "5.00 25.00 3.54", "5.00 25.00 3.53", "0.00 0.00", "0.00 -3.00 36.0", "0.00 -4.00 64.0", "0 5.00", "0 0.00"),
+    "f": ("4.90 24.00 3.46", "5.00 25.00 3.54", "5.00 25.00 3.53", "0.00 0.00", "0.00 -3.00 36.0", "0.00 -4.00 64.0", "0 5.00", "0 0.00"),
+    "g": ("0.00 0.00 0.00", "0.00 0.00 0.00", "0.00 0.00 0.00", "0.00 0.00", "0.00 0.00 0.0", "0.00 0.00 0.0", "0 0.00", "0 0.00"),
+    "h": ("0.00 0.00 0.00", "0.00 0.00 0.00", "0.00 0.00 0.00", "0.00 0.00", "2000.00 0.00 0.0", "1 0.00", "16000000 21333333.34"),
+    "i": ("0.00 0.00 0.00", "666.67 444444.44 666.67", "0.00 0.00 0.00", "666.67 666.67", "-666.67 -666.67 100.0", "0 2000.00",
+          "16000000 16000000.00"),
+    "by hand": ("1.00 1.00 0.71", "0.47 0.22 0.33", "0.00 0.00 0.00", "0.48 0.34", "1.33 +0.33 50.0", "1.33 +0.33 50.0", "0 1.41", "none"),
+    "factors": ("1.00 1.00 0.58", "0.58 0.33 0.33", "0.00 0.00 0.00", "0.58 0.34", "0.67 -0.33 66.7", "1.33 +0.33 33.3", "0 1.73", "48 38.40"),
+}
+PRINTED["i, WCD2"] = PRINTED["i"]
+
+
+def printed(report):
+    """What a report prints of its distances, columns, nearest boat and steps."""
+    f, table = report.figures, words.column_table(report)
+    rows = [" ".join(row[1:]) for row in words.distance_table(report).rows]
+    said = " ".join(block.text for block in words.bound_sentences(report))
+    rows.append(" ".join(re.search(r"by at most ([0-9.]+), in each column by at most ([0-9.]+)\.", said).groups()))
+    rows += [" ".join(row[table.head.index(name)] for name in ("mixture", "difference", "% of squared")) for row in table.rows]
+    rows.append("%s %s" % re.search(r"\(number (\d+)\), at a distance of ([0-9.]+);", words.nearest_sentence(report).text).groups())
+    found = re.search(r"4 D² / \(t \+ 2\) = ([0-9.]+) above the least; D² = (\d+) ", said)
+    agree("steps known", found is not None, f.slack is not None)
+    return tuple(rows + ["%s %s" % (found[2], found[1]) if found else "none"])
+
+
+def marked_sheets():
+    for name, (case, more) in CASES.items():
+        report = hand_report(*case, **more)
+        agree("sheet " + name, printed(report), PRINTED[name])
+        shares = case[6]
+        agree("shares " + name, {row[0]: row[2] for row in words.boat_table(report).rows}, {str(i): str(s) for i, s in enumerate(shares) if s})
+        outside = [j for j, value in enumerate(case[1]) if not min(row[j] for row in case[0]) <= value <= max(row[j] for row in case[0])]
+        agree("outside " + name, [j for j, c in enumerate(report.figures.columns) if c.outside], outside)
+
+
+SENTENCES = [
+    ("a", "WITHIN: this mixture is near enough."),
+    ("a", "after 3 of the 9 steps"),
+    ("b", "after all 3 steps"),
+    ("c", "SPENT: neither was shown."),
+    ("c", "ask for more steps, up to 360, or ask with another tolerance: this mixture meets 3."),
+    ("d", "BEYOND: no mixture of these boats"),
+    ("d", "outside the fleet in column 0, column 1"),
+    ("e", "after the one step"),
+    ("g", "meets the sheet exactly"),
+    ("by hand", "not those that so many steps of the search give"),
+]
+
+
+def sentences():
+    """The verdict, and what to do next."""
+    for name, wanted in SENTENCES:
+        case, more = CASES[name]
+        said = " ".join(block.text for block in words.verdict_sentences(hand_report(*case, **more)))
+        agree("sentence of %s: %s" % (name, wanted), wanted in said, True)
+    # 2000 × (32489 - 32491) = -4000, and no more steps may be asked for.
+    last = hand_report(LINE, [0], 0, 360, 3, 360, [32491, 32489], 16000000, 16000000 + 64980 * 8000000)
+    agree("at 360 steps", words.verdict_sentences(last)[2].text, "Next: ask with another tolerance: this mixture meets 1.")
+
+
+# ---------------------------------------------------------------- the worked example
+
+# The letters that mixcard writes.
+CARD_LETTERS = b"WCD1"
+# Shares of 210 after 20 steps; and 210 times what the mixture has less the sheet, column by column, by adding share × value up by hand.
+SHARES = [11, 0, 0, 18, 0, 0, 27, 24, 42, 0, 63, 25]
+RESIDUAL = [195, 1651, 874, -3682, 901, 583, 253, -233]
+YARD_E = 195 ** 2 + 1651 ** 2 + 874 ** 2 + 3682 ** 2 + 901 ** 2 + 583 ** 2 + 253 ** 2 + 233 ** 2
+YARD_G = 4634884
+YARD_COLUMNS = [
+    "hull weight|‰ D|338|338.93|+0.93|+27 kg|0.2|312|371|",
+    "mach weight|‰ D|163|170.86|+7.86|+231 kg|14.9|139|233|",
+    "outfit weight|‰ D|82|86.16|+4.16|+122 kg|4.2|59|108|",
+    "elec weight|‰ D|59|41.47|-17.53|-515 kg|73.9|29|52|OUTSIDE",
+    "aux weight|‰ D|58|62.29|+4.29|+126 kg|4.4|39|77|",
+    "deck weight|‰ D|56|58.78|+2.78|+82 kg|1.9|18|121|",
+    "LCG moment|‰ D L|-39|-37.80|+1.20|+0.62 t m|0.3|-80|-8|",
+    "VCG moment|‰ D L|74|72.89|-1.11|-0.57 t m|0.3|67|81|",
+]
+YARD_BOATS = ["10|Kittiwake|63|30.0|75.53", "8|Isbjorn|42|20.0|42.18", "6|Gannet|27|12.9|96.33", "11|Lofoten|25|11.9|38.91",
+              "7|Hamnavoe|24|11.4|43.81", "3|Dunlin|18|8.6|89.53", "0|Alka 12|11|5.2|44.02"]
+YARD_DISTANCES = {b"WCD1": ["asked for, at most|14.14|200.00|5.00", "this mixture|20.40|416.21|7.21", "no mixture is below|14.35|206.01|5.07"],
+                  b"WCD2": ["asked for, at most|14.14|200.00|5.00", "this mixture|20.40|416.21|7.21", "no mixture is below|15.24|232.54|5.39"]}
+
+
+def read(*path):
+    with open(os.path.join(ROOT, *path), "rb") as file:
+        return file.read()
+
+
+def yard_case():
+    """The worked example: rows and target from its CSVs, the rest by hand."""
+    fleet, sheet = (list(csv.reader(read("examples", "yard", name).decode("utf-8").splitlines())) for name in ("fleet.csv", "sheet.csv"))
+    rows = [[int(cell) for cell in line[1:]] for line in fleet[2:]]
+    return rows, [int(cell) for cell in sheet[1][1:]], 200, 360, 2, 20, SHARES, YARD_E, YARD_G
+
+
+def yard_files(card=CARD_LETTERS):
+    return hand_files(*yard_case(), card=card, fronts=(read("examples", "yard", "fleet.csv"), read("examples", "yard", "sheet.csv")))
+
+
+def yard_report(card=CARD_LETTERS):
+    rows, _, *numbers = yard_case()
+    return mixreport.report_of(yard_files(card), hand_listing(rows, *numbers), (None, None), DATE)
+
+
+def joined(table):
+    return ["|".join(row) for row in table.rows]
+
+
+# Gannet and Kittiwake are the farthest apart: 44² + 94² + 28² + 3² + 33² + 91² + 72² + 11² = 26240, and 4 × 26240 / 22 = 4770.90...
+YARD_SENTENCES = ["The nearest single boat is Eider II (number 4), at a distance of 28.21; it holds no shares.", "D² = 26240 ", "= 4770.91 above",
+                  "outside the fleet in elec weight,", "1 ‰ D is 29.400 kg; 1 ‰ D L is 0.517 t m", "after 20 of the 360 steps"]
+
+
+def worked_example():
+    rows, target, *_ = yard_case()
+    agree("residual by hand", [sum(s * row[j] for s, row in zip(SHARES, rows)) - 210 * u for j, u in enumerate(target)], RESIDUAL)
+    for letters in (b"WCD1", b"WCD2"):
+        report = yard_report(letters)
+        agree("columns", joined(words.column_table(report)), YARD_COLUMNS)
+        agree("boats", joined(words.boat_table(report)), YARD_BOATS)
+        agree("distances", joined(words.distance_table(report)), YARD_DISTANCES[letters])
+        said = " ".join(block.text for block in words.blocks(report) if isinstance(block, words.Paragraph))
+        for wanted in YARD_SENTENCES:
+            agree("worked example: " + wanted, wanted in said, True)
+
+
+def stored():
+    """What stands in the repository is what is made today."""
+    for name, content in yard_files().items():
+        agree("examples/yard/" + name, read("examples", "yard", name), content)
+    report = yard_report()
+    agree("docs/hull-41.svg", read("docs", "hull-41.svg").decode("utf-8"), picture.pictures(report)[0])
+    agree("the report on docs/report.md", block_of_page(read("docs", "report.md").decode("utf-8"))[1], indented(text.text_of(report)))
+
+
+def indented(lines):
+    return "".join("    " + line + "\n" if line else "\n" for line in lines.splitlines())
+
+
+def block_of_page(text_of_page):
+    """The page before, in and after the report that it shows: from its heading to the next line that is not indented."""
+    found = re.search(r"(?m)^    Hull 41 as a mixture of 7 of 12 boats\n(?:    .*\n|\n(?=(?:\n)*    ))*", text_of_page)
+    return text_of_page[:found.start()], found[0], text_of_page[found.end():]
+
+
+def write():
+    for name, content in yard_files().items():
+        with open(os.path.join(YARD, name), "wb") as file:
+            file.write(content)
+    report = yard_report()
+    before, _, after = block_of_page(read("docs", "report.md").decode("utf-8"))
+    for name, content in (("hull-41.svg", picture.pictures(report)[0]), ("report.md", before + indented(text.text_of(report)) + after)):
+        with open(os.path.join(ROOT, "docs", name), "w", encoding="utf-8") as file:
+            file.write(content)
+
+
+# ---------------------------------------------------------------- numbers and names
+
+
+WAYS = (decimals.NEAREST, decimals.DOWN, decimals.UP)
+
+
+def rounding():
+    """Nearest, down and up, of fractions and of roots."""
+    third = Fraction(1, 3)
+    agree("thirds", [decimals.decimal(2 * third, 2, way) for way in WAYS], ["0.67", "0.66", "0.67"])
+    agree("below zero", [decimals.decimal(-third, 1, way) for way in WAYS], ["-0.3", "-0.4", "-0.3"])
+    agree("sign", [decimals.decimal(x, 0, sign=True) for x in (Fraction(7), Fraction(0), Fraction(-7))], ["+7", "0", "-7"])
+    agree("roots of 2", [decimals.root(2, 3, way) for way in WAYS], ["1.414", "1.414", "1.415"])
+    agree("root of 9/4", [decimals.root(Fraction(9, 4), 1, way) for way in WAYS], ["1.5", "1.5", "1.5"])
+    agree("root of 3", decimals.root(3, 2), "1.73")
+    pairs = ((25, 16), (3, 2), (3, 3))
+    agree("difference of roots", [decimals.root_difference(*pair) for pair in pairs], ["1.00", "0.32", "0.00"])
+
+
+FLEET = "boat,length,beam\nunit,m,m\nTern,0,0\n\"Gull, the \"\"old\"\"\",4,0\nAuk,0,4\n"
+SHEET = "boat,beam,length\nHull 7,1,1\nsteps,9\ntolerance,1\n"
+SERVE = {
+    "commas": FLEET,
+    "CR LF": FLEET.replace("\n", "\r\n"),
+    "empty lines": FLEET + "\n\n",
+    "spaces and plus": FLEET.replace(",4,0", ", +4 , 0"),
+    "semicolons": FLEET.replace(",", ";").replace("Gull;", "Gull,"),
+    "tabs": FLEET.replace(",", "\t").replace("Gull\t", "Gull,"),
+    "names alone": re.sub(r",-?[0-9]+", "", FLEET),
+}
+DO_NOT_SERVE = {
+    "none": b"",
+    "no table": b"twelve boats\n",
+    "other values": FLEET.replace("4,0", "4,1").encode(),
+    "a boat less": FLEET[:-8].encode(),
+    "a column more": FLEET.replace("beam", "beam,draught").encode(),
+    "an open quote": FLEET.encode() + b'"',
+    "bytes": bytes(range(256)),
+}
+
+
+def names_for(fleet=b"", sheet=b"", fleet_csv=None, sheet_csv=None, target=(1, 1)):
+    """The names of a book of P and a sheet with these front texts and CSVs."""
+    files = hand_files(P, list(target), 1, 9, 1, 3, [3, 1, 2], 8, 56, fronts=(fleet, sheet))
+    return names.names_of(mixreport.read_book("b", files["fleet.wbk"]), mixreport.read_sheet("s", files["sheet.wsh"]), fleet_csv, sheet_csv)
+
+
+def names_of_things():
+    gull = ["Tern", 'Gull, the "old"', "Auk"]
+    for label, fleet in SERVE.items():
+        for content in (fleet.encode(), b"\xef\xbb\xbf" + fleet.encode()):
+            found = names_for(content)
+            agree("names, " + label, (found.boats, found.columns, found.units), (gull, ["length", "beam"], ["m", "m"]))
+    numbers = (["boat 0", "boat 1", "boat 2"], ["column 0", "column 1"], ["", ""])
+    for label, content in DO_NOT_SERVE.items():
+        found = names_for(content)
+        agree("by number, " + label, (found.boats, found.columns, found.units), numbers)
+    agree("why not", names_for(DO_NOT_SERVE["other values"]).notes,
+          ["The front text of fleet.wbk is not used for names: its values of Gull, the \"old\" are not the book's."])
+    agree("from the CSV", names_for(b"text\n", b"", FLEET.encode(), SHEET.encode()).boats, gull)
+    agree("front text first", names_for(FLEET.encode(), b"", FLEET.replace("Auk", "Puffin").encode()).boats, gull)
+    agree("another alphabet", names_for(FLEET.replace("Tern", "Крачка").encode()).boats[0], "Крачка")
+    agree("Windows", names_for(FLEET.replace("Tern", "Sjöfågel").encode("cp1252")).boats[0], "Sjöfågel")
+    agree("controls", names_for(FLEET.replace("Tern", "\"T\x1b[31me\u202ern\n\x00\t x\"").encode()).boats[0], "T[31mern x")
+
+
+def names_of_sheets():
+    both = names_for(FLEET.encode(), SHEET.encode())
+    agree("by name, in another order", both.hull, "Hull 7")
+    agree("other order, other values", names_for(FLEET.encode(), SHEET.encode(), target=(1, 2)).hull, "The sheet")
+    agree("matched by name", names_for(FLEET.encode(), SHEET.replace("1,1", "2,1").encode(), target=(1, 2)).hull, "Hull 7")
+    agree("unknown column", names_for(FLEET.encode(), SHEET.replace("beam", "draught").encode()).hull, "The sheet")
+    agree("columns by the sheet", names_for(b"", SHEET.encode()).columns, ["beam", "length"])
+    sizes = names_for(FLEET.encode(), (SHEET + "displacement t,29.4\nlength m,\"17,6\"\n").encode())
+    agree("sizes", (sizes.displacement, sizes.length), (Fraction(147, 5), Fraction(88, 5)))
+    for wrong in ("0", "-3", "29.4 t", "1e3", ""):
+        agree("no size: " + wrong, names_for(FLEET.encode(), (SHEET + "displacement t,%s\n" % wrong).encode()).displacement, None)
+
+
+# ---------------------------------------------------------------- pictures
+
+SVG = "{http://www.w3.org/2000/svg}"
+
+
+def quoted(line):
+    return ",".join('"%s"' % str(cell).replace('"', '""') for cell in line) + "\n"
+
+
+def drawn_report(columns, boats=9, spread=300, seed=1, name="%d", hull="Hull"):
+    """A report of drawn values; the sheet lies outside the fleet in one column."""
+    draw = random.Random(seed)
+    rows = [[draw.randint(-spread, spread) for _ in range(columns)] for _ in range(boats)]
+    target = [draw.randint(-spread // 3, spread // 3) for _ in range(columns)]
+    target[-1] = min(2000, spread + 20)
+    answer, shares = exact.run(rows, target, 12, 10 * columns)
+    header = ["boat"] + [name % j for j in range(columns)]
+    fleet = quoted(header) + quoted(["unit"] + ["‰ D" if j % 2 else "‰ D L" for j in range(columns)])
+    fleet += "".join(quoted(["Boat <%d> & \"sons\"" % i] + row) for i, row in enumerate(rows))
+    sheet = quoted(header) + quoted([hull] + target) + "displacement t,812.5\nlength m,61\n"
+    return hand_report(rows, target, 10 * columns, 12, answer.verdict, answer.steps, shares, answer.distance, answer.gap,
+                       fronts=(fleet.encode(), sheet.encode()))
+
+
+def letters_width(content, size, bold):
+    """How wide a text is at most, roughly: by the widths of a wide typeface."""
+    wide = sum(1.0 if c in "MW%…‰" or unicodedata.east_asian_width(c) in "WF" else 0.4 if c in " .,ilj" else 0.64 for c in content)
+    return wide * size * (1.1 if bold else 1)
+
+
+def text_boxes(svg):
+    """Left, top, right and bottom of each text."""
+    for node in svg.iter(SVG + "text"):
+        kinds = node.get("class", "").split()
+        size = 16 if "head" in kinds else 12
+        content = (node.text or "") + "".join(child.tail or "" for child in node)
+        width = letters_width(content, size, "head" in kinds or "out" in kinds)
+        x, y = float(node.get("x")), float(node.get("y"))
+        left = x - width if "end" in kinds else x - width / 2 if "mid" in kinds else x
+        yield left, y - 0.8 * size, left + width, y + 0.25 * size, content
+
+
+def mark_boxes(svg):
+    """Left, top, right and bottom of each mark that belongs into the frame; those of the legend stand below it."""
+    for node in svg.iter():
+        kind = node.get("class")
+        if kind in ("range", "band"):
+            x, y, width, height = (float(node.get(name)) for name in ("x", "y", "width", "height"))
+            yield kind, x, y, x + width, y + height
+        elif kind == "mix":
+            x, y, r = (float(node.get(name)) for name in ("cx", "cy", "r"))
+            yield kind, x - r, y - r, x + r, y + r
+        elif kind == "tick":
+            x, y, height = map(float, re.fullmatch(r"M([\d.]+) ([\d.]+)v(\d+)", node.get("d")).groups())
+            half = float(node.get("stroke-width")) / 2
+            yield kind, x - half, y, x + half, y + height
+        elif kind == "off":
+            x, y, end = map(float, re.fullmatch(r"M([\d.]+) ([\d.]+)H([\d.]+)", node.get("d")).groups())
+            yield kind, min(x, end), y - 1.5, max(x, end), y + 1.5
+
+
+def frame_of(svg):
+    frame = next(node for node in svg.iter(SVG + "rect") if node.get("class") == "frame")
+    x, y, width, height = (float(frame.get(name)) for name in ("x", "y", "width", "height"))
+    return x, y, x + width, y + height
+
+
+def overlap(a, b):
+    return a[0] < b[2] and b[0] < a[2] and a[1] < b[3] and b[1] < a[3]
+
+
+def check_picture(label, source, rows, holding):
+    """A picture: it parses, its marks lie inside the frame, its texts inside the picture and beside one another."""
+    svg = ElementTree.fromstring(source)
+    _, _, width, height = map(float, svg.get("viewBox").split())
+    frame = frame_of(svg)
+    marks = [box for box in mark_boxes(svg) if box[2] < frame[3]]
+    counts = [sum(1 for box in marks if box[0] == kind) for kind in ("band", "range", "tick", "mix", "off")]
+    agree(label + ", marks", counts, [1, rows, rows * holding, rows, rows])
+    outside = [box for box in marks if box[1] < frame[0] or box[2] < frame[1] or box[3] > frame[2] or box[4] > frame[3]]
+    agree(label + ", marks outside the frame", outside, [])
+    texts = list(text_boxes(svg))
+    agree(label + ", texts outside", [box for box in texts if box[0] < 0 or box[1] < 0 or box[2] > width or box[3] > height], [])
+    agree(label + ", texts that meet", [(a, b) for i, a in enumerate(texts) for b in texts[:i] if overlap(a, b)], [])
+    inside = [box for box in texts if overlap(box, frame)]
+    agree(label + ", texts in the frame", inside, [])
+    return svg
+
+
+LONG = "the weight of the machinery with all that belongs to it, as far as known, %d"
+
+
+def picture_cases():
+    for columns in (1, 8, 30, 32, 33, 64):
+        for label, name, hull in (("short", "c%d", "Hull 9"), ("long", LONG, "Hull " + 40 * "MW"), ("wide", 12 * "船" + "%d", 60 * "船")):
+            report = drawn_report(columns, name=name, hull=hull)
+            drawn = picture.pictures(report)
+            agree("pictures of %d columns" % columns, len(drawn), -(-columns // 32))
+            for k, source in enumerate(drawn):
+                rows = min(32, columns - 32 * k)
+                svg = check_picture("%d columns, %s, %d" % (columns, label, k), source, rows, sum(1 for share in report.figures.shares if share))
+                if label == "long":
+                    titles = [node.findtext(SVG + "title") or "" for node in svg.iter(SVG + "text")]
+                    agree("full names", sum(1 for j in range(32 * k, 32 * k + rows) if any(title.endswith(LONG % j) for title in titles)), rows)
+
+
+EXTREMES = {
+    "widest": ((LINE, [0], 0, 2, 3, 2, [2, 1], 4000000, 16000000), {}),
+    "all alike": (([[0, 0], [0, 0]], [0, 0], 0, 1, 1, 1, [1, 0], 0, 0), {}),
+    "tolerance": ((P, [1, 1], 1024000000, 9, 1, 1, [0, 1, 0], 10, 16), {}),
+    "farthest sheet": (([[-2000]], [2000], 0, 1, 2, 1, [1], 16000000, 0), {}),
+    "factors": CASES["factors"],
+}
+
+
+def extreme_pictures():
+    """The widest values, all boats alike and equal to the sheet, a tolerance past the frame, the sheet farthest from the fleet, factors."""
+    for label, (case, more) in EXTREMES.items():
+        source = picture.pictures(hand_report(*case, **more))[0]
+        check_picture(label, source, len(case[1]), sum(1 for share in case[6] if share))
+        agree("past the frame: " + label, "past the frame" in source, label == "tolerance")
+    agree("the factor at its column", ">column 0 × 2<" in source, True)
+
+
+def near(got, wanted):
+    return len(got) == len(wanted) and all(abs(a - b) < 0.2 for a, b in zip(got, wanted))
+
+
+def places():
+    """Where marks stand, read off by the axis' own labels: the mixture, the boats of it, the fleet's range, the tolerance."""
+    rows, target, *_ = yard_case()
+    svg = ElementTree.fromstring(picture.pictures(yard_report())[0])
+    axis = {0 if node.text == "sheet" else int(node.text): float(node.get("x")) for node in svg.iter(SVG + "text")
+            if node.get("class") == "mid" and re.fullmatch(r"sheet|[+-]\d+", node.text)}
+    low, high = min(axis), max(axis)
+    unit = (axis[high] - axis[low]) / (high - low)
+
+    def value(x):
+        return (x - axis[low]) / unit + low
+
+    agree("axis", near([value(axis[mark]) for mark in axis], list(axis)), True)
+    boxes = [box for box in mark_boxes(svg) if box[2] < frame_of(svg)[3]]
+    middle = {kind: [value((box[1] + box[3]) / 2) for box in boxes if box[0] == kind] for kind in ("mix", "tick")}
+    agree("the mixture's places", near(middle["mix"], [r / 210 for r in RESIDUAL]), True)
+    agree("the boats' places", near(middle["tick"], [row[j] - u for j, u in enumerate(target) for s, row in zip(SHARES, rows) if s]), True)
+    ranges = [(value(box[1]), value(box[3])) for box in boxes if box[0] == "range"]
+    wanted = [(min(row[j] for row in rows) - u, max(row[j] for row in rows) - u) for j, u in enumerate(target)]
+    agree("ranges", all(near(a, b) for a, b in zip(ranges, wanted)), True)
+    band = next(box for box in boxes if box[0] == "band")
+    agree("tolerance", near([value(band[1]), value(band[3])], [-5, 5]), True)
+    widths = [float(node.get("stroke-width")) for node in svg.iter(SVG + "path") if node.get("class") == "tick"][:7]
+    agree("wider for more shares", sorted(range(7), key=lambda i: widths[i]), sorted(range(7), key=lambda i: [s for s in SHARES if s][i]))
+    bold = [node.text for node in svg.iter(SVG + "text") if "out" in node.get("class", "").split()]
+    agree("outside the fleet", bold, ["* elec weight", "*"])
+
+
+# ---------------------------------------------------------------- the page
+
+
+def pages():
+    """A page is one whole: it parses, has no script, fetches nothing, and names its files."""
+    reports = [drawn_report(columns, name=name) for columns, name in ((1, "%d"), (30, "a <b> & \"c\" ]]> %d"), (64, LONG))]
+    for report in reports + [yard_report(), hand_report(*CASES["a"][0])]:
+        source, plain = page.page_of(report), text.text_of(report)
+        tree = ElementTree.fromstring(source)
+        tags = {node.tag.split("}")[-1] for node in tree.iter()}
+        agree("tags", tags & {"script", "link", "img", "iframe", "object", "embed", "base", "form", "a"}, set())
+        agree("attributes", {name for node in tree.iter() for name in node.attrib} & {"src", "href", "onload", "style", "action"}, set())
+        agree("fetched", re.findall(r"https?:(?!//www\.w3\.org/2000/svg\")|url\(|@import", source), [])
+        agree("pictures", len(list(tree.iter(SVG + "svg"))), -(-len(report.figures.columns) // 32))
+        for name, content in report.files.items():
+            line = "%s +%d +W.... +%s" % (re.escape(name), len(content), sha256(content))
+            agree("named in the text", len(re.findall(line, plain)), 1)
+            agree("named on the page", sha256(content) in source and ">%d<" % len(content) in source, True)
+        for said in ("docs/formats.md", "docs/card.md", DATE, "mixcheck", "not checked"):
+            agree("said: " + said, said in source and said in " ".join(plain.split()), True)
+
+
+def sha256(content):
+    """By another program than the report's."""
+    return subprocess.run(["sha256sum"], input=content, stdout=subprocess.PIPE, check=True).stdout.split()[0].decode()
+
+
+# ---------------------------------------------------------------- runs
+
+STANDS_FOR_MIXCHECK = """#!%s
+import sys
+sys.path.insert(0, %r)
+import exact
+sys.stdout.buffer.write(exact.card_listing(*(exact.read_file(name) for name in ("fleet.wbk", "sheet.wsh", "card.wcd"))))
+""" % (sys.executable, HERE)
+PRINTS = "#!%s\nprint(%%r, end='')\n" % sys.executable
+
+
+def run(files, mixcheck, *arguments):
+    """Exit code, standard output, standard error and the folder afterwards; the program given is what is run as mixcheck."""
+    with tempfile.TemporaryDirectory() as folder, tempfile.TemporaryDirectory() as other:
+        program = os.path.join(other, "mixcheck")
+        with open(program, "w", encoding="utf-8") as file:
+            file.write(mixcheck)
+        os.chmod(program, 0o755)
+        for name, content in files.items():
+            with open(os.path.join(folder, name), "wb") as file:
+                file.write(content)
+        done = subprocess.run([sys.executable, PROGRAM, "--mixcheck", program, "--date", DATE, *arguments, folder],
+                              stdout=subprocess.PIPE, stderr=subprocess.PIPE, check=False)
+        left = {name: exact.read_file(os.path.join(folder, name)) for name in os.listdir(folder)}
+        return done.returncode, done.stdout.decode().replace(folder, "FOLDER"), done.stderr.decode(), left
+
+
+def runs():
+    files = yard_files(b"WCD1")
+    true = exact.card_listing(*files.values()).decode()
+    code, out, err, left = run(files, STANDS_FOR_MIXCHECK)
+    agree("a report", (code, out, err), (0, "FOLDER/report.txt\nFOLDER/report.html\n", ""))
+    agree("its files", sorted(left), sorted([*files, *mixreport.REPORTS]))
+    report = mixreport.report_of(files, true, (None, None), DATE)
+    agree("what is written", [left[name].decode() for name in mixreport.REPORTS], [text.text_of(report), page.page_of(report)])
+    tampered = dict(files, **{"card.wcd": files["card.wcd"][:2] + b"\x0c" + files["card.wcd"][3:]})
+    without = {name: files[name] for name in ("fleet.wbk", "sheet.wsh")}
+    for label, these, mixcheck, line, said in (
+            ("a share more", tampered, STANDS_FOR_MIXCHECK, "refused 37\n", "the card is refused"),
+            ("no card", without, STANDS_FOR_MIXCHECK, "refused 31\n", "the card is refused"),
+            ("an older report", dict(tampered, **{"report.html": b"older"}), STANDS_FOR_MIXCHECK, "refused 37\n", "report.html is as it was"),
+            ("a mixcheck that accepts everything", tampered, PRINTS % true, "", "do not total"),
+            ("another gap", files, PRINTS % true.replace("gap 4", "gap 5"), "", "other figures"),
+            ("no listing", files, PRINTS % "", "", "other figures"),
+            ("no program", files, "", "", "could not be run")):
+        code, out, err, left = run(these, mixcheck)
+        agree("no report: " + label, (code, out, said in err, left), (1, line, True, these))
+    code, out, err, left = run(files, STANDS_FOR_MIXCHECK, "--other")
+    agree("usage", (code, out, err.startswith("usage: mixreport"), left), (2, "", True, files))
+
+
+def outcome(files, checked):
+    """The line that mixcheck printed where there is no report for that, 'other' for another reason, None for a report."""
+    try:
+        mixreport.report_of(files, checked, (None, None), DATE)
+        return None
+    except mixreport.NoReport as fault:
+        return fault.line or "other"
+
+
+def tampering():
+    """Each byte of a card changed: no report by the reference's line, nor where mixcheck is replaced by one that accepts everything."""
+    for case, more in (CASES["a"], CASES["c"], CASES["d"]):
+        files = hand_files(*case, **more)
+        true, card = hand_listing(case[0], *case[2:]), files["card.wcd"]
+        agree("true", outcome(files, true), None)
+        for at in range(len(card)):
+            for change in (1, 2, 128):
+                changed = card[:at] + bytes([card[at] ^ change]) + card[at + 1:]
+                damaged = dict(files, **{"card.wcd": changed})
+                line = exact.card_listing(*damaged.values()).decode()
+                known = changed[-4:] in (b"WCD1", b"WCD2")
+                agree("damage is refused", line.startswith("refused") or known, True)
+                if line.startswith("refused"):
+                    agree("byte %d of a card" % at, outcome(damaged, line), line)
+                if not known or at < len(card) - 4:
+                    agree("byte %d of a card, accepted" % at, outcome(damaged, true), "other")
+
+
+def main(arguments):
+    if arguments == ["--write"]:
+        write()
+        return 0
+    for part in (rounding, marked_sheets, sentences, worked_example, stored, names_of_things, names_of_sheets, picture_cases, extreme_pictures,
+                 places, pages, runs, tampering):
+        part()
+    if differences:
+        print("report: %d of %d checks differ" % (differences, checks))
+        return 1
+    print("report: %d checks agree" % checks)
+    return 0
+
+
+if __name__ == "__main__":
+    sys.exit(main(sys.argv[1:]))
