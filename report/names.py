@@ -1,4 +1,5 @@
-"""Names of boats and columns, units, and the new hull's name, displacement and length, from a table in a front text or a CSV beside the files.
+"""Names of boats and columns, units, and the new hull's name, displacement and length, from a table in a front text or a CSV beside the
+files.
 
 Nothing proves a name. But where a table has values as well they are compared with those of the file, and the names of one with other values are
 not used. Where no table serves, boats and columns go by their numbers.
@@ -25,6 +26,7 @@ class Names:
     hull: str = "The sheet"
     displacement: object = None  # in tonnes
     length: object = None        # in metres
+    sizes: str = ""              # where these two were read
     notes: list = field(default_factory=list)  # sentences: which table was used, or why not
 
 
@@ -151,8 +153,9 @@ def first_that_serves(sources, read):
     return None, None, notes
 
 
-def names_of(book, sheet, fleet_csv, sheet_csv):
-    """The names for a book and a sheet, from their front texts or else from the CSVs beside them (None where there is none)."""
+def names_of(book, sheet, fleet_csv, sheet_csv, displacement=None, length=None):
+    """The names for a book and a sheet, from their front texts or else from the CSVs beside them (None where there is none). A displacement or a
+    length that is given goes before one of a table."""
     names = Names(["boat %d" % i for i in range(len(book.rows))], ["column %d" % j for j in range(len(sheet.target))], [""] * len(sheet.target))
     fleet = [("the front text of fleet.wbk", book.front), ("fleet.csv", fleet_csv)]
     found, place, notes = first_that_serves(fleet, lambda lines: fleet_table(lines, book.rows))
@@ -164,9 +167,11 @@ def names_of(book, sheet, fleet_csv, sheet_csv):
     sheets = [("the front text of sheet.wsh", sheet.front), ("sheet.csv", sheet_csv)]
     said, place, more = first_that_serves(sheets, lambda lines: sheet_table(lines, sheet, known))
     if said:
-        names.hull, names.displacement, names.length = said[0] or names.hull, said[1], said[2]
+        names.hull, names.displacement, names.length, names.sizes = said[0] or names.hull, said[1], said[2], "by %s" % place
         more.append("The new hull is named by %s." % place)
         if not found:
             names.columns = said[3]
+    if displacement or length:
+        names.displacement, names.length, names.sizes = displacement or names.displacement, length or names.length, "as given to mixreport"
     names.notes = notes + more
     return names

@@ -10,21 +10,26 @@ h1{font-size:1.5em;margin:0 0 .6em}h1,p{overflow-wrap:anywhere}h2{font-size:1.15
 p{margin:.5em 0;max-width:48em}.verdict{border:2px solid #222;padding:.4em .8em;font-weight:bold;font-size:1.1em;display:inline-block}
 .wide{overflow-x:auto;margin:.6em 0}table{border-collapse:collapse;font-size:.92em}
 th,td{padding:.2em .6em;border-bottom:1px solid #bbb;text-align:right;font-variant-numeric:tabular-nums;white-space:nowrap;vertical-align:top}
-th{border-bottom:2px solid #555}.left{text-align:left}td.left{white-space:normal;overflow-wrap:anywhere}td.left:first-child{min-width:7em}
-td.sum{font-family:"DejaVu Sans Mono",monospace;font-size:.85em}pre{margin:.6em 0 .6em 1.5em}
+th{border-bottom:2px solid #555}.left{text-align:left}.long{white-space:normal;overflow-wrap:anywhere;min-width:14em}
+.code{font-family:"DejaVu Sans Mono",monospace;font-size:.85em}pre{margin:.6em 0 .6em 1.5em}
 svg{display:block;max-width:100%;min-width:700px;height:auto}tr,svg{break-inside:avoid}thead{display:table-header-group}
-@media print{@page{margin:14mm}body{font-size:9.5pt;max-width:none;margin:0;padding:0}.wide{overflow:visible}svg{min-width:0;width:100%}
-table{font-size:8.5pt}th,td{padding:.15em .4em}}"""
+@media print{@page{size:A4;margin:14mm}body{font-size:9.5pt;max-width:none;margin:0;padding:0}p{max-width:none}
+.wide{overflow:visible}svg{min-width:0;width:100%}table{font-size:8.5pt}th,td{padding:.15em .4em}}"""
 
 
-def cell(tag, text, left):
-    kinds = (["left"] if left else []) + (["sum"] if len(text) == 64 else [])
+LONG = 24  # letters of a cell, from which on it may take several lines
+
+
+def cell(table, i, tag, text):
+    """Cell i of a row of a table."""
+    kinds = [kind for kind, is_so in (("left", i in table.left), ("code", i in table.code and tag == "td"),
+                                      ("long", len(text) > LONG and i not in table.code)) if is_so]
     return "<%s%s>%s</%s>" % (tag, ' class="%s"' % " ".join(kinds) if kinds else "", escape(text), tag)
 
 
 def table_part(table):
     def row(tag, cells):
-        return "<tr>%s</tr>" % "".join(cell(tag, text, i in table.left) for i, text in enumerate(cells))
+        return "<tr>%s</tr>" % "".join(cell(table, i, tag, text) for i, text in enumerate(cells))
     body = "\n".join(row("td", cells) for cells in table.rows)
     return '<div class="wide"><table>\n<thead>%s</thead>\n<tbody>\n%s\n</tbody></table></div>' % (row("th", table.head), body)
 

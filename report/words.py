@@ -22,11 +22,12 @@ class Paragraph:
 
 @dataclass(frozen=True)
 class Table:
-    """Columns in `left` are words, the others numbers."""
+    """Columns in `left` are words, the others numbers; those in `code` are in letters of one width."""
 
     head: list
     rows: list
     left: tuple
+    code: tuple = ()
 
 
 @dataclass(frozen=True)
@@ -133,21 +134,25 @@ def distance_table(report):
     return Table(["", "distance", "squared", "each column"], rows, (0,))
 
 
-def bound_sentences(report):
-    """How much nearer another mixture could come, by the gap and by the steps."""
+def nearer_sentence(report):
+    """How much nearer another mixture could come."""
     f, floor = report.figures, best_floor(report.figures)
-    w2 = f.weight ** 2
-    yield Paragraph("So another mixture is nearer by at most %s, in each column by at most %s." % (
+    return Paragraph("So another mixture is nearer by at most %s, in each column by at most %s." % (
         root_difference(f.squared, floor), root_difference(f.squared / f.count, floor / f.count)))
+
+
+def bound_sentences(report):
+    """What a distance is, and what no mixture is below, by the gap and by the steps."""
+    f = report.figures
+    weighed = "each column counted as often as its factor says, " if report.sheet.edition.factor_bytes else ""
+    yield Paragraph("A distance is the root of the sum over the columns of the squared differences, %sin the columns' own units. "
+                    "“Each column” is the root mean square: a difference of that size in every column gives the distance." % weighed)
     yield Paragraph("By the gap no squared distance is below %s, which is %s with E = %d, G = %d and W² = %d." % (
-        decimal(f.floor, 2, DOWN), report.card.edition.bound, f.distance, f.gap, w2))
+        decimal(f.floor, 2, DOWN), report.card.edition.bound, f.distance, f.gap, f.weight ** 2))
     if f.slack is not None:
         yield Paragraph("By the steps none is below %s: these are the shares of %s of the search, whose squared distance is at most "
                         "4 D² / (t + 2) = %s above the least; D² = %d is the largest squared distance between two boats." % (
                             decimal(f.by_steps, 2, DOWN), counted(report.card.steps, "step"), decimal(f.slack, 2, UP), f.diameter))
-    weighed = "each column counted as often as its factor says, " if report.sheet.edition.factor_bytes else ""
-    yield Paragraph("Distances are the root of the sum over the columns of the squared differences, %sin the columns' own units. "
-                    "“Each column” is the root mean square: a difference of that size in every column gives the distance." % weighed)
 
 
 # ---------------------------------------------------------------- boats
@@ -219,7 +224,7 @@ def scale_sentences(report):
     if scales:
         said = "; ".join("1 %s is %s %s" % (unit, decimal(scale[0], 3), scale[1]) for unit, scale in scales.items())
         length = ", length %s m" % decimal(names.length) if names.length else ""
-        yield Paragraph("%s, by the sheet's table (displacement %s t%s)." % (said, decimal(names.displacement), length))
+        yield Paragraph("%s (displacement %s t%s, %s)." % (said, decimal(names.displacement), length, names.sizes))
     yield Paragraph("Difference is the mixture less the sheet; “% of squared” is the column's part of the squared distance; the fleet's range is "
                     "over all boats of the book, with shares or without.")
 
@@ -230,7 +235,7 @@ def scale_sentences(report):
 def file_table(report):
     letters = {"fleet.wbk": report.book.letters, "sheet.wsh": report.sheet.letters, "card.wcd": report.card.letters}
     rows = [[name, str(len(content)), letters[name], hashlib.sha256(content).hexdigest()] for name, content in report.files.items()]
-    return Table(["file", "bytes", "letters", "SHA-256"], rows, (0, 2, 3))
+    return Table(["file", "bytes", "letters", "SHA-256"], rows, (0, 2, 3), (3,))
 
 
 def file_blocks(report):
@@ -270,7 +275,7 @@ def blocks(report):
     yield trust_sentence(report)
     yield Heading("How near")
     yield distance_table(report)
-    yield from bound_sentences(report)
+    yield nearer_sentence(report)
     yield Pictures()
     yield Heading("Boats")
     yield boat_table(report)
@@ -278,5 +283,7 @@ def blocks(report):
     yield Heading("Columns")
     yield column_table(report)
     yield from scale_sentences(report)
+    yield Heading("What the distances and bounds are")
+    yield from bound_sentences(report)
     yield Heading("The files, and how to check this again")
     yield from file_blocks(report)

@@ -124,7 +124,7 @@ def printed(report):
     """What a report prints of its distances, columns, nearest boat and steps."""
     f, table = report.figures, words.column_table(report)
     rows = [" ".join(row[1:]) for row in words.distance_table(report).rows]
-    said = " ".join(block.text for block in words.bound_sentences(report))
+    said = words.nearer_sentence(report).text + " ".join(block.text for block in words.bound_sentences(report))
     rows.append(" ".join(re.search(r"by at most ([0-9.]+), in each column by at most ([0-9.]+)\.", said).groups()))
     rows += [" ".join(row[table.head.index(name)] for name in ("mixture", "difference", "% of squared")) for row in table.rows]
     rows.append("%s %s" % re.search(r"\(number (\d+)\), at a distance of ([0-9.]+);", words.nearest_sentence(report).text).groups())
@@ -170,6 +170,8 @@ def sentences():
 
 # ---------------------------------------------------------------- the worked example
 
+# Displacement in tonnes and length in metres.
+SIZES = (Fraction("29.4"), Fraction("17.6"))
 # The letters that mixcard writes.
 CARD_LETTERS = b"WCD1"
 # Shares of 210 after 20 steps; and 210 times what the mixture has less the sheet, column by column, by adding share × value up by hand.
@@ -211,7 +213,7 @@ def yard_files(card=CARD_LETTERS):
 
 def yard_report(card=CARD_LETTERS):
     rows, _, *numbers = yard_case()
-    return mixreport.report_of(yard_files(card), hand_listing(rows, *numbers), (None, None), DATE)
+    return mixreport.report_of(yard_files(card), hand_listing(rows, *numbers), (None, None), DATE, *SIZES)
 
 
 def joined(table):
@@ -307,10 +309,11 @@ DO_NOT_SERVE = {
 }
 
 
-def names_for(fleet=b"", sheet=b"", fleet_csv=None, sheet_csv=None, target=(1, 1)):
+def names_for(fleet=b"", sheet=b"", fleet_csv=None, sheet_csv=None, target=(1, 1), **sizes):
     """The names of a book of P and a sheet with these front texts and CSVs."""
     files = hand_files(P, list(target), 1, 9, 1, 3, [3, 1, 2], 8, 56, fronts=(fleet, sheet))
-    return names.names_of(mixreport.read_book("b", files["fleet.wbk"]), mixreport.read_sheet("s", files["sheet.wsh"]), fleet_csv, sheet_csv)
+    book, sheet = mixreport.read_book("book", files["fleet.wbk"]), mixreport.read_sheet("sheet", files["sheet.wsh"])
+    return names.names_of(book, sheet, fleet_csv, sheet_csv, **sizes)
 
 
 def names_of_things():
@@ -340,7 +343,9 @@ def names_of_sheets():
     agree("unknown column", names_for(FLEET.encode(), SHEET.replace("beam", "draught").encode()).hull, "The sheet")
     agree("columns by the sheet", names_for(b"", SHEET.encode()).columns, ["beam", "length"])
     sizes = names_for(FLEET.encode(), (SHEET + "displacement t,29.4\nlength m,\"17,6\"\n").encode())
-    agree("sizes", (sizes.displacement, sizes.length), (Fraction(147, 5), Fraction(88, 5)))
+    agree("sizes", (sizes.displacement, sizes.length, sizes.sizes), (Fraction(147, 5), Fraction(88, 5), "by the front text of sheet.wsh"))
+    given = names_for(FLEET.encode(), (SHEET + "displacement t,29.4\nlength m,9\n").encode(), length=Fraction(7))
+    agree("sizes given", (given.displacement, given.length, given.sizes), (Fraction(147, 5), 7, "as given to mixreport"))
     for wrong in ("0", "-3", "29.4 t", "1e3", ""):
         agree("no size: " + wrong, names_for(FLEET.encode(), (SHEET + "displacement t,%s\n" % wrong).encode()).displacement, None)
 
@@ -558,10 +563,10 @@ def run(files, mixcheck, *arguments):
 def runs():
     files = yard_files(b"WCD1")
     true = exact.card_listing(*files.values()).decode()
-    code, out, err, left = run(files, STANDS_FOR_MIXCHECK)
+    code, out, err, left = run(files, STANDS_FOR_MIXCHECK, "--displacement", "29.4", "--length", "17.6")
     agree("a report", (code, out, err), (0, "FOLDER/report.txt\nFOLDER/report.html\n", ""))
     agree("its files", sorted(left), sorted([*files, *mixreport.REPORTS]))
-    report = mixreport.report_of(files, true, (None, None), DATE)
+    report = mixreport.report_of(files, true, (None, None), DATE, *SIZES)
     agree("what is written", [left[name].decode() for name in mixreport.REPORTS], [text.text_of(report), page.page_of(report)])
     tampered = dict(files, **{"card.wcd": files["card.wcd"][:2] + b"\x0c" + files["card.wcd"][3:]})
     without = {name: files[name] for name in ("fleet.wbk", "sheet.wsh")}
@@ -575,8 +580,9 @@ def runs():
             ("no program", files, "", "", "could not be run")):
         code, out, err, left = run(these, mixcheck)
         agree("no report: " + label, (code, out, said in err, left), (1, line, True, these))
-    code, out, err, left = run(files, STANDS_FOR_MIXCHECK, "--other")
-    agree("usage", (code, out, err.startswith("usage: mixreport"), left), (2, "", True, files))
+    for wrong in (["--other"], ["--length", "0"], ["--date", "today"]):
+        code, out, err, left = run(files, STANDS_FOR_MIXCHECK, *wrong)
+        agree("usage: " + wrong[0], (code, out, err.startswith("usage: mixreport"), left), (2, "", True, files))
 
 
 def outcome(files, checked):
