@@ -31,25 +31,16 @@ import decimals  # noqa: E402
 import names  # noqa: E402
 import page  # noqa: E402
 import picture  # noqa: E402
+import test_exact  # noqa: E402
 import text  # noqa: E402
 import words  # noqa: E402
+from test_exact import agree  # noqa: E402
 
 LOADER = importlib.machinery.SourceFileLoader("mixreport", PROGRAM)
 mixreport = importlib.util.module_from_spec(importlib.util.spec_from_loader("mixreport", LOADER))
 LOADER.exec_module(mixreport)
 
 DATE = "2026-11-16"
-checks = 0
-differences = 0
-
-
-def agree(label, got, wanted):
-    """Count one check; print it if the two differ."""
-    global checks, differences
-    checks += 1
-    if got != wanted:
-        differences += 1
-        print("%s:\n  got    %r\n  wanted %r" % (label, got, wanted))
 
 
 # ---------------------------------------------------------------- cards by hand
@@ -67,12 +58,12 @@ def hand_listing(rows, tolerance, steps, verdict, t, shares, e, g):
 
 def hand_files(rows, target, tolerance, steps, verdict, t, shares, e, g, card=b"WCD1", factors=None, fronts=(b"", b"")):
     """The three files of a card."""
-    sheet = exact.make_sheet(target, steps, tolerance, fronts[1])
+    sheet = exact.make_sheet(target, steps, tolerance, front=fronts[1], letters=b"WSH1")
     if factors:
-        sheet = exact.make_sheet(target, steps, tolerance, fronts[1], back=3 * len(target), letters=b"WSH2")
+        sheet = exact.make_sheet(target, steps, tolerance, front=fronts[1], back=3 * len(target), letters=b"WSH2")
         sheet = sheet[:-16] + bytes(factors) + sheet[-16:]
     pairs = [pair for pair in enumerate(shares) if pair[1]]
-    return {"fleet.wbk": exact.make_book(rows, fronts[0]), "sheet.wsh": sheet,
+    return {"fleet.wbk": exact.make_book(rows, front=fronts[0]), "sheet.wsh": sheet,
             "card.wcd": exact.make_card(pairs, verdict, t, tolerance, e, g, len(rows), len(target), letters=card)}
 
 
@@ -81,7 +72,8 @@ def hand_report(*case, tables=(None, None), **more):
     return mixreport.report_of(hand_files(*case, **more), hand_listing(rows, *numbers), tables, DATE)
 
 
-# The marked sheets, d by either edition of a card, a card that no search finds, and a sheet with factors 2 and 1: rows, target, tolerance, steps,
+# The marked sheets, d and i by either edition of a card; a card that no search finds; a sheet with factors 2 and 1; and two steps of which the
+# second has all scores 0, so that the boat picked is the lowest, or the one that holds shares. Given are rows, target, tolerance, steps,
 # verdict, t, shares, E, G, and the letters and factors where they are others.
 CASES = {
     "a": ((P, [1, 1], 1, 9, 1, 3, [3, 1, 2], 8, 56), {}),
@@ -97,6 +89,8 @@ CASES = {
     "i, WCD2": ((LINE, [0], 0, 2, 3, 2, [2, 1], 4000000, 16000000), {"card": b"WCD2"}),
     "by hand": ((P, [1, 1], 1, 9, 1, 3, [2, 2, 2], 8, 32), {}),
     "factors": ((P, [1, 1], 1, 9, 1, 3, [3, 1, 2], 12, 96), {"factors": [2, 1]}),
+    "lowest": (([[-1], [0]], [0], 1, 9, 1, 2, [2, 1], 4, 4), {}),
+    "holding": (([[-1], [0]], [0], 1, 9, 1, 2, [0, 3], 0, 0), {}),
 }
 
 # What is printed, worked by hand: asked for, this mixture and no mixture below as distance, squared, each column; nearer by at most, and that in
@@ -115,6 +109,8 @@ PRINTED = {
     "i": ("0.00 0.00 0.00", "666.67 444444.44 666.67", "0.00 0.00 0.00", "666.67 666.67", "-666.67 -666.67 100.0", "0 2000.00",
           "16000000 16000000.00"),
     "by hand": ("1.00 1.00 0.71", "0.47 0.22 0.33", "0.00 0.00 0.00", "0.48 0.34", "1.33 +0.33 50.0", "1.33 +0.33 50.0", "0 1.41", "none"),
+    "lowest": ("1.00 1.00 1.00", "0.67 0.44 0.67", "0.00 0.00 0.00", "0.67 0.67", "-0.67 -0.67 100.0", "1 0.00", "1 1.00"),
+    "holding": ("1.00 1.00 1.00", "0.00 0.00 0.00", "0.00 0.00 0.00", "0.00 0.00", "0.00 0.00 0.0", "1 0.00", "1 1.00"),
     "factors": ("1.00 1.00 0.58", "0.58 0.33 0.33", "0.00 0.00 0.00", "0.58 0.34", "0.67 -0.33 66.7", "1.33 +0.33 33.3", "0 1.73", "48 38.40"),
 }
 PRINTED["i, WCD2"] = PRINTED["i"]
@@ -359,19 +355,29 @@ def quoted(line):
     return ",".join('"%s"' % str(cell).replace('"', '""') for cell in line) + "\n"
 
 
+def drawn_card(rows, target, shares):
+    """E, G and the least tolerance that the shares are Within."""
+    w = sum(shares)
+    total = [sum(share * row[j] for share, row in zip(shares, rows)) for j in range(len(target))]
+    residual = [y - w * u for y, u in zip(total, target)]
+    e = sum(r * r for r in residual)
+    g = max(sum(r * (y - w * v) for r, y, v in zip(residual, total, row)) for row in rows)
+    return e, g, -(-e // (w * w))
+
+
 def drawn_report(columns, boats=9, spread=300, seed=1, name="%d", hull="Hull"):
-    """A report of drawn values; the sheet lies outside the fleet in one column."""
+    """A report of drawn values and shares; the sheet lies outside the fleet in one column."""
     draw = random.Random(seed)
     rows = [[draw.randint(-spread, spread) for _ in range(columns)] for _ in range(boats)]
     target = [draw.randint(-spread // 3, spread // 3) for _ in range(columns)]
-    target[-1] = min(2000, spread + 20)
-    answer, shares = exact.run(rows, target, 12, 10 * columns)
+    target[-1] = spread + 20
+    shares = [20, 0, 1, 30, 0, 0, 5, 10, 12][:boats]
+    e, g, tolerance = drawn_card(rows, target, shares)
     header = ["boat"] + [name % j for j in range(columns)]
     fleet = quoted(header) + quoted(["unit"] + ["‰ D" if j % 2 else "‰ D L" for j in range(columns)])
     fleet += "".join(quoted(["Boat <%d> & \"sons\"" % i] + row) for i, row in enumerate(rows))
     sheet = quoted(header) + quoted([hull] + target) + "displacement t,812.5\nlength m,61\n"
-    return hand_report(rows, target, 10 * columns, 12, answer.verdict, answer.steps, shares, answer.distance, answer.gap,
-                       fronts=(fleet.encode(), sheet.encode()))
+    return hand_report(rows, target, tolerance, 12, 1, 12, shares, e, g, fronts=(fleet.encode(), sheet.encode()))
 
 
 def letters_width(content, size, bold):
@@ -490,7 +496,7 @@ def places():
     def value(x):
         return (x - axis[low]) / unit + low
 
-    agree("axis", near([value(axis[mark]) for mark in axis], list(axis)), True)
+    agree("axis", near([value(axis[mark]) for mark in axis], list(axis)) and unit > 0, True)
     boxes = [box for box in mark_boxes(svg) if box[2] < frame_of(svg)[3]]
     middle = {kind: [value((box[1] + box[3]) / 2) for box in boxes if box[0] == kind] for kind in ("mix", "tick")}
     agree("the mixture's places", near(middle["mix"], [r / 210 for r in RESIDUAL]), True)
@@ -613,6 +619,10 @@ def tampering():
                     agree("byte %d of a card, accepted" % at, outcome(damaged, true), "other")
 
 
+    early = (P, [1, 1], 1, 3, 3, 2, [0, 1, 2], 26, 44)
+    agree("Spent before the last step", outcome(hand_files(*early), hand_listing(P, *early[2:])), "other")
+
+
 def main(arguments):
     if arguments == ["--write"]:
         write()
@@ -620,10 +630,10 @@ def main(arguments):
     for part in (rounding, marked_sheets, sentences, worked_example, stored, names_of_things, names_of_sheets, picture_cases, extreme_pictures,
                  places, pages, runs, tampering):
         part()
-    if differences:
-        print("report: %d of %d checks differ" % (differences, checks))
+    if test_exact.differences:
+        print("report: %d of %d checks differ" % (test_exact.differences, test_exact.checks))
         return 1
-    print("report: %d checks agree" % checks)
+    print("report: %d checks agree" % test_exact.checks)
     return 0
 
 
