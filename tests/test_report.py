@@ -169,7 +169,7 @@ def sentences():
 # Displacement in tonnes and length in metres.
 SIZES = (Fraction("29.4"), Fraction("17.6"))
 # The letters that mixcard writes.
-CARD_LETTERS = b"WCD1"
+CARD_LETTERS = b"WCD2"
 # Shares of 210 after 20 steps; and 210 times what the mixture has less the sheet, column by column, by adding share × value up by hand.
 SHARES = [11, 0, 0, 18, 0, 0, 27, 24, 42, 0, 63, 25]
 RESIDUAL = [195, 1651, 874, -3682, 901, 583, 253, -233]
