@@ -1,0 +1,113 @@
+// The better of two cards, handed back as a part of the caller's own bytes.
+//
+// Entries, which ask nothing of their caller: choose, better_card.
+// Helper for other crates, whose callers prove what it requires: part_of.
+ghost use mathlib.Core.Path.{_≡_};
+ghost use Prim.Native.Nat.{_+_, _≤_};
+ghost use lib.ListN.{length};
+ghost use Rattle.method.specs.Answers.{outcome};
+ghost use Rattle.card_format.specs.Format.{card-fields, card-answer};
+ghost use Rattle.card_format.specs.Checks.{check-refusal};
+ghost use Rattle.card_choice.specs.Choices.{better-refusal, nearer, numbered, better-part, part-of, bare-choice, no-choice, choice};
+ghost use Rattle.card_choice.specs.Promise.{Better-right};
+use card_choice::Choice;
+use method::Answer;
+use method::Searched;
+
+// The check of a card with a share list of its own: 256 slots serve any book, so 21 never applies.
+fn checked(book: &[u8], sheet: &[u8], card: &[u8]) -> Searched
+    ensures { λ r. ⌜ r ≡ outcome (check-refusal (now (book .entry)) (now (sheet .entry)) (now (card .entry)) 256) (card-answer (now (book .entry)) (now (sheet .entry)) (now (card .entry))) ⌝ }
+{
+    let mut shares = [0u16; 256];
+    card::check_card(book, sheet, card, &mut shares)
+}
+
+// Whether an answer's squared distance E / W² is less than another's, by products of up to 128 bits: E₁ W₂² < E₂ W₁².
+fn nearer(a: Answer, c: Answer) -> bool
+    ensures { λ r. ⌜ r ≡ nearer a c ⌝ }
+{
+    let v = a.weight as u64;
+    let w = c.weight as u64;
+    wide::product_below(a.distance, w * w, c.distance, v * v)
+}
+
+// A refusal by `n`: no bytes of the first card.
+fn refused(n: u32) -> Choice
+    ensures { λ r. ⌜ r ≡ no-choice n ⌝ }
+{
+    Choice {
+        refusal: n,
+        card: 1,
+        offset: 0,
+        len: 0,
+    }
+}
+
+// Body and trailer of the card of this number.
+fn behind_front(card: &[u8], number: u32) -> Choice
+    requires { ⌜ card-fields (now card) .back + 36 ≤ length (now card) ⌝ }
+    ensures { λ r. ⌜ r ≡ bare-choice number (now (card .entry)) ⌝ }
+{
+    let room = card.len() - 36;
+    let back = files::u32_at(card, room) as usize;
+    Choice {
+        refusal: 0,
+        card: number,
+        offset: room - back,
+        len: back + 36,
+    }
+}
+
+// ENTRY. The better of two cards for one book and sheet, by number, offset and length: the one with the lesser exact squared distance,
+// of equal ones the first. Refuses the files (1 to 17), then the first card, then the second (31 to 39). The second clause says what
+// holds of the part that is named (Better-right), the third that it lies inside its card.
+pub fn choose(book: &[u8], sheet: &[u8], first: &[u8], second: &[u8]) -> Choice
+    ensures { λ r. ⌜ r ≡ choice (now (book .entry)) (now (sheet .entry)) (now (first .entry)) (now (second .entry)) ⌝ }
+    ensures { λ r. ⌜ Better-right (now (book .entry)) (now (sheet .entry)) (now (first .entry)) (now (second .entry)) (r .refusal) (part-of r (now (first .entry)) (now (second .entry))) ⌝ }
+    ensures { λ r. ⌜ r .offset + r .len ≤ length (numbered (r .card) (now (first .entry)) (now (second .entry))) ⌝ }
+{
+    match checked(book, sheet, first) {
+        Searched::Refused(n) => refused(n),
+        Searched::Answered(a) => match checked(book, sheet, second) {
+            Searched::Refused(n) => refused(n),
+            Searched::Answered(c) => {
+                if nearer(c, a) {
+                    return behind_front(second, 2);
+                }
+                behind_front(first, 1)
+            }
+        },
+    }
+}
+
+// The part of two cards that a choice names.
+pub fn part_of<'a>(first: &'a [u8], second: &'a [u8], chosen: Choice) -> &'a [u8]
+    requires { ⌜ chosen .offset + chosen .len ≤ length (numbered (chosen .card) (now first) (now second)) ⌝ }
+    ensures { λ r. ⌜ now r ≡ part-of chosen (now (first .entry)) (now (second .entry)) ⌝ }
+{
+    let offset = chosen.offset;
+    let end = offset + chosen.len;
+    if chosen.card == 2 {
+        return &second[offset..end];
+    }
+    &first[offset..end]
+}
+
+// ENTRY. The better of two cards as a part of the caller's own bytes, body and trailer without front text; `number` is left 0. A refusal
+// hands back an empty part of the first card and leaves its number, in the order of `choose`. The third clause says that the part is the
+// end of the card, that the check reads the same answer and shares from it, and that no card of the two is nearer (Better-right).
+pub fn better_card<'a>(
+    book: &[u8],
+    sheet: &[u8],
+    first: &'a [u8],
+    second: &'a [u8],
+    number: &mut u32,
+) -> &'a [u8]
+    ensures { λ _. ⌜ now (number .exit) ≡ better-refusal (now (book .entry)) (now (sheet .entry)) (now (first .entry)) (now (second .entry)) ⌝ }
+    ensures { λ r. ⌜ now r ≡ better-part (now (book .entry)) (now (sheet .entry)) (now (first .entry)) (now (second .entry)) ⌝ }
+    ensures { λ r. ⌜ Better-right (now (book .entry)) (now (sheet .entry)) (now (first .entry)) (now (second .entry)) (now (number .exit)) (now r) ⌝ }
+{
+    let chosen = choose(book, sheet, first, second);
+    *number = chosen.refusal;
+    part_of(first, second, chosen)
+}
