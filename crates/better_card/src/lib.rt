@@ -23,12 +23,12 @@ fn checked(book: &[u8], sheet: &[u8], card: &[u8]) -> Searched
 }
 
 // Whether an answer's squared distance E / W² is less than another's, by products of up to 128 bits: E₁ W₂² < E₂ W₁².
-fn nearer(a: Answer, c: Answer) -> bool
-    ensures { λ r. ⌜ r ≡ nearer a c ⌝ }
+fn nearer(a: Answer, b: Answer) -> bool
+    ensures { λ r. ⌜ r ≡ nearer a b ⌝ }
 {
     let v = a.weight as u64;
-    let w = c.weight as u64;
-    wide::product_below(a.distance, w * w, c.distance, v * v)
+    let w = b.weight as u64;
+    wide::product_below(a.distance, w * w, b.distance, v * v)
 }
 
 // A refusal by `n`: no bytes of the first card.
@@ -70,8 +70,8 @@ pub fn choose(book: &[u8], sheet: &[u8], first: &[u8], second: &[u8]) -> Choice
         Searched::Refused(n) => refused(n),
         Searched::Answered(a) => match checked(book, sheet, second) {
             Searched::Refused(n) => refused(n),
-            Searched::Answered(c) => {
-                if nearer(c, a) {
+            Searched::Answered(b) => {
+                if nearer(b, a) {
                     return behind_front(second, 2);
                 }
                 behind_front(first, 1)

@@ -233,12 +233,24 @@ module _ (b s x y : List ℕ) (ax : all-bytes x ≡ true) (ay : all-bytes y ≡ 
   fits-by (suc n) e = rw (eqb·suc-zero n) (omega arith)
 
   -- the part lies inside its card
-  pub choice-fits : {c : Choice} → c ≡ choice b s x y → c .offset + c .len ≤ length (numbered (c .card) x y)
+  choice-fits : {c : Choice} → c ≡ choice b s x y → c .offset + c .len ≤ length (numbered (c .card) x y)
   unfolding choice
   choice-fits e = rw e (fits-by (better-refusal b s x y) refl)
 
-  pub choice-right : {c : Choice} → c ≡ choice b s x y → Better-right b s x y (c .refusal) (part-of c x y)
+  choice-right : {c : Choice} → c ≡ choice b s x y → Better-right b s x y (c .refusal) (part-of c x y)
   choice-right e = rw e (better-right refusal-is part-is)
+
+  -- all that is promised of a choice, and of the number and the part that it gives
+  pub promised : {c : Choice} → c ≡ choice b s x y →
+      (c ≡ choice b s x y) × (Better-right b s x y (c .refusal) (part-of c x y) × (c .offset + c .len ≤ length (numbered (c .card) x y)))
+  promised e = (e, (choice-right e, choice-fits e))
+
+  pub handed : {c : Choice} {part : List ℕ} → c ≡ choice b s x y → part ≡ part-of c x y →
+      (c .refusal ≡ better-refusal b s x y) × ((part ≡ better-part b s x y) × Better-right b s x y (c .refusal) part)
+  handed e f =
+      let n = ap (λ c. c .refusal) e ∙ refusal-is in
+      let q = f ∙ ap (λ c. part-of c x y) e ∙ part-is in
+      (n, (q, better-right n q))
 
 -- ---- The ways of a choice, by what the two checks gave
 
