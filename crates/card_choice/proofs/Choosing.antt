@@ -46,7 +46,7 @@ module _ (b s x y : List ℕ) where
   unfolding better-refusal check-refusal
   as-checked = simp (same-refusal b s) (in-turn (files-refusal b s) (card-refusal b s x) (card-refusal b s y))
 
-  accepted : better-refusal b s x y ≡ 0 → (files-refusal b s ≡ 0) × ((card-refusal b s x ≡ 0) × (card-refusal b s y ≡ 0))
+  pub accepted : better-refusal b s x y ≡ 0 → (files-refusal b s ≡ 0) × ((card-refusal b s x ≡ 0) × (card-refusal b s y ≡ 0))
   unfolding better-refusal
   accepted e =
       let p = both (files-refusal b s) (cond (eqb (card-refusal b s x) 0) (card-refusal b s y) (card-refusal b s x)) e in
@@ -71,6 +71,14 @@ module _ (b s x y : List ℕ) where
   by-number : better-refusal b s x y ≡ 0 → choice b s x y ≡ bare-choice (better-number b s x y) (better b s x y)
   unfolding choice
   by-number e = rw e
+
+  pub refusal-is : choice b s x y .refusal ≡ better-refusal b s x y
+  unfolding choice bare-choice no-choice
+  refusal-is = by (better-refusal b s x y)
+    where
+      by : (n : ℕ) → cond (eqb n 0) (bare-choice (better-number b s x y) (better b s x y)) (no-choice n) .refusal ≡ n
+      by zero = refl
+      by (suc n) = rw (eqb·suc-zero n)
 
 -- ---- The answers compared
 
@@ -195,14 +203,6 @@ module _ (b s x y : List ℕ) (ax : all-bytes x ≡ true) (ay : all-bytes y ≡ 
 
   -- ---- The same of a choice
 
-  refusal-is : choice b s x y .refusal ≡ better-refusal b s x y
-  unfolding choice bare-choice no-choice
-  refusal-is = by (better-refusal b s x y)
-    where
-      by : (n : ℕ) → cond (eqb n 0) (bare-choice (better-number b s x y) (better b s x y)) (no-choice n) .refusal ≡ n
-      by zero = refl
-      by (suc n) = rw (eqb·suc-zero n)
-
   module _ (z : better-refusal b s x y ≡ 0) where
     right : Part-right b s x y (bare (better b s x y))
     right = let a = accepted b s x y z in chosen b s x y (a .0) ax ay (a .1 .0) (a .1 .1)
@@ -238,7 +238,7 @@ module _ (b s x y : List ℕ) (ax : all-bytes x ≡ true) (ay : all-bytes y ≡ 
   choice-fits e = rw e (fits-by (better-refusal b s x y) refl)
 
   choice-right : {c : Choice} → c ≡ choice b s x y → Better-right b s x y (c .refusal) (part-of c x y)
-  choice-right e = rw e (better-right refusal-is part-is)
+  choice-right e = rw e (better-right (refusal-is b s x y) part-is)
 
   -- all that is promised of a choice, and of the number and the part that it gives
   pub promised : {c : Choice} → c ≡ choice b s x y →
@@ -248,7 +248,7 @@ module _ (b s x y : List ℕ) (ax : all-bytes x ≡ true) (ay : all-bytes y ≡ 
   pub handed : {c : Choice} {part : List ℕ} → c ≡ choice b s x y → part ≡ part-of c x y →
       (c .refusal ≡ better-refusal b s x y) × ((part ≡ better-part b s x y) × Better-right b s x y (c .refusal) part)
   handed e f =
-      let n = ap (λ c. c .refusal) e ∙ refusal-is in
+      let n = ap (λ c. c .refusal) e ∙ refusal-is b s x y in
       let q = f ∙ ap (λ c. part-of c x y) e ∙ part-is in
       (n, (q, better-right n q))
 

@@ -1,0 +1,39 @@
+// The work of mixbetter, in a folder that the caller names. What the system reads and writes no contract can say; program_test holds
+// what is printed and filed to the reference.
+// Of each file one byte more is read than it may have, so that a longer file is refused and not cut.
+
+// Files a card under this path unless something was refused; what is in the way goes to standard error. Whether there is a listing to print.
+fn file(path: &[u8], part: &[u8], refusal: u32) -> bool {
+    if refusal != 0 {
+        file_io::tell(path, b": not written, a file is refused\n");
+        return true;
+    }
+    if file_io::replace_file(path, part) {
+        return true;
+    }
+    file_io::tell(path, b": could not be written\n");
+    false
+}
+
+// Files the better of first.wcd and second.wcd, for fleet.wbk and sheet.wsh of a folder, there as better.wcd without front text, and
+// prints its listing. The current folder has no name. Where a file is refused or the card cannot be written, an older better.wcd
+// stays as it was, and standard error says so.
+pub fn file_better(folder: &[u8]) {
+    let mut book = [0u8; 40001];
+    let mut sheet = [0u8; 40001];
+    let mut first = [0u8; 40001];
+    let mut second = [0u8; 40001];
+    let n = file_io::read_in(folder, b"fleet.wbk", &mut book);
+    let m = file_io::read_in(folder, b"sheet.wsh", &mut sheet);
+    let k = file_io::read_in(folder, b"first.wcd", &mut first);
+    let l = file_io::read_in(folder, b"second.wcd", &mut second);
+    let chosen = better_listing::better_text(&book[..n], &sheet[..m], &first[..k], &second[..l]);
+    let choice = chosen.choice;
+    let part = better_card::part_of(&first[..k], &second[..l], choice);
+    let path = paths::path_in(folder, b"better.wcd");
+    let bytes = path.bytes;
+    let name = file_io::first_bytes(&bytes, path.len);
+    if file(name, part, choice.refusal) {
+        file_io::print(chosen.text);
+    }
+}

@@ -1,0 +1,46 @@
+-- The listing of the part that is handed back is that of the better card. Assumes nothing.
+use mathlib.Core.Path.{_≡_, refl, sym, ap, _∙_}
+use mathlib.Core.Bool.{cond}
+use mathlib.Core.List.{List}
+use Prim.Native.Nat.{ℕ, zero, suc}
+use borrow.Author.Tests.{eq-eqb, ne-eqb}
+use lib.Dec.{eqb, eqb·suc-zero}
+use Rattle.files.specs.Sheet.{files-refusal}
+use Rattle.method.specs.declared.Searched.the-variants.{Refused}
+use Rattle.method.specs.Answers.{outcome}
+use Rattle.card_format.specs.Checks.{card-refusal, check-refusal}
+use Rattle.listing.specs.Lines.{refused-line, outcome-listing}
+use Rattle.listing.proofs.Outcomes.{same-refusal}
+use Rattle.text.specs.Texts.{Holds}
+use Rattle.text.specs.declared.Text.{Text}
+use Rattle.card_listing.specs.Cards.{card-listing}
+use Rattle.card_choice.specs.declared.Choice.{Choice}
+use Rattle.card_choice.specs.Choices.{better-refusal, choice, part-of}
+use Rattle.card_choice.specs.Promise.{Better-right}
+use Rattle.card_choice.proofs.Choosing.{accepted, refusal-is}
+use Rattle.better_listing.specs.Listings.{better-listing, part-listing}
+
+module _ (b s w slots : List ℕ) {n : ℕ} {t : Text} where
+  pub refused-text : (n ≡ 0 → ⊥) → Holds (outcome-listing b s (Refused n) slots) t → Holds (part-listing b s w n) t
+  unfolding part-listing outcome-listing
+  refused-text h k = rw (ne-eqb n 0 h) k
+
+  pub card-text : n ≡ 0 → Holds (card-listing b s w) t → Holds (part-listing b s w n) t
+  unfolding part-listing
+  card-text h k = rw (eq-eqb n 0 h) k
+
+module _ (b s x y part : List ℕ) where
+  -- the part is listed as the better card
+  listed : (n : ℕ) → n ≡ better-refusal b s x y → Better-right b s x y n part → part-listing b s part n ≡ better-listing b s x y
+  unfolding part-listing better-listing card-listing check-refusal outcome outcome-listing
+  listed zero e h =
+      let r = h .chosen refl .reads-back in
+      rw (same-refusal b s, ← e, accepted b s x y (sym e) .0, r .accepted, r .answer, r .shares)
+  listed (suc n) e h = rw (← e, eqb·suc-zero n)
+
+  pub better-listed : {c : Choice} {t : Text} → c ≡ choice b s x y → Better-right b s x y (c .refusal) (part-of c x y) → part ≡ part-of c x y →
+      Holds (part-listing b s part (c .refusal)) t → Holds (better-listing b s x y) t
+  better-listed {c} e h f k =
+      let n = ap (λ d. d .refusal) e ∙ refusal-is b s x y in
+      let right : Better-right b s x y (c .refusal) part = rw f h in
+      rw (← listed (c .refusal) n right) k

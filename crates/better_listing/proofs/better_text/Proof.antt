@@ -1,0 +1,29 @@
+-- `better_listing::better_text` meets its contract.
+use Rattle.better_listing.proofs.Listings.{better-listed}
+use borrow.Author.Needs.{needs}
+use Rattle.better_listing.proofs.better_text.Statement.{statement}
+use Rattle.better_listing.proofs.better_text.Tie as tie
+use Rattle.better_listing.proofs.better_text.Reads as reads
+use Rattle.better_listing.proofs.better_text.Lts as lts
+use Rattle.better_card.proofs.choose.Reads as choose-reads
+use Rattle.better_card.proofs.part_of.Reads as part-of-reads
+use Rattle.better_listing.proofs.part_text.Reads as part-text-reads
+
+choose-requires : tie.Need-choose-requires
+choose-requires c κs = search needs
+
+part-of-requires : tie.Need-part-of-requires
+part-of-requires c κs = search needs
+
+part-text-requires : tie.Need-part-text-requires
+part-text-requires c κs = search needs
+
+returns : tie.Need-returns
+returns c =
+    let at-part = c .before in
+    let at-choose = at-part .before in
+    let given = at-choose .choose .ensures in
+    (given .0, (better-listed _ _ _ _ _ (given .0) (given .1 .0) (at-part .part-of .ensures) (c .part-text .ensures), given .1 .1))
+
+pub better-text-spec : {M : Type 1} → statement M
+better-text-spec = tie.close (tie.spec choose-requires part-of-requires part-text-requires returns)

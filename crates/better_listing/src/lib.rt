@@ -1,0 +1,41 @@
+// The listing of the better of two cards.
+//
+// Entry, which asks nothing of its caller: better_text.
+ghost use mathlib.Core.Path.{_≡_};
+ghost use Prim.Native.Nat.{_+_, _≤_};
+ghost use lib.ListN.{length};
+ghost use Rattle.text.specs.Texts.{Holds};
+ghost use Rattle.card_choice.specs.Choices.{numbered, choice};
+ghost use Rattle.better_listing.specs.Listings.{part-listing, better-listing};
+use card_choice::Choice;
+use method::Searched;
+use text::Text;
+
+// The listing of a card that was not refused, or of the number that refuses.
+fn part_text(book: &[u8], sheet: &[u8], part: &[u8], refusal: u32) -> Text
+    ensures { λ r. ⌜ Holds (part-listing (now (book .entry)) (now (sheet .entry)) (now (part .entry)) refusal) r ⌝ }
+{
+    if refusal != 0 {
+        return listing::outcome_listing(book, sheet, Searched::Refused(refusal), [0u16; 256]);
+    }
+    card_listing::card_text(book, sheet, part)
+}
+
+// What two cards leave to be filed and to be said: the choice, and the listing of the card that was chosen.
+pub struct Chosen {
+    pub choice: Choice,
+    pub text: Text,
+}
+
+// ENTRY. The better of two cards, as `choose` gives it, and the listing of its answer and shares, or of the number that refuses the files
+// or a card. The third clause says that the part lies inside its card.
+pub fn better_text<'a>(book: &[u8], sheet: &[u8], first: &'a [u8], second: &'a [u8]) -> Chosen
+    ensures { λ r. ⌜ r .choice ≡ choice (now (book .entry)) (now (sheet .entry)) (now (first .entry)) (now (second .entry)) ⌝ }
+    ensures { λ r. ⌜ Holds (better-listing (now (book .entry)) (now (sheet .entry)) (now (first .entry)) (now (second .entry))) (r .text) ⌝ }
+    ensures { λ r. ⌜ r .choice .offset + r .choice .len ≤ length (numbered (r .choice .card) (now (first .entry)) (now (second .entry))) ⌝ }
+{
+    let choice = better_card::choose(book, sheet, first, second);
+    let part = better_card::part_of(first, second, choice);
+    let text = part_text(book, sheet, part, choice.refusal);
+    Chosen { choice, text }
+}
