@@ -108,6 +108,22 @@ dofitrano_reply dofitrano_check_card(const uint8_t *book, size_t book_length,
                                      const uint8_t *card, size_t card_length,
                                      uint16_t *shares, size_t slots);
 
+/* A part of one of two cards: its body and trailer, without front text. Where the call is refused, an empty part of the first. */
+typedef struct dofitrano_choice {
+    uint32_t refusal; /* the number that refuses the call, 0 for a choice */
+    uint32_t card;    /* 1 the first card, 2 the second */
+    size_t offset;    /* where the part starts in that card */
+    size_t length;    /* its bytes, up to the card's end */
+} dofitrano_choice;
+
+/* The better of two cards for one book and sheet: the one whose squared distance E / W^2 is the lesser, compared exactly; of equal
+ * ones the first. Refuses by 1 to 17, then 31 to 39 of the first card, then 31 to 39 of the second. Where it chooses, the part is a
+ * card that dofitrano_check_card accepts, with the same answer and shares. */
+dofitrano_choice dofitrano_better_card(const uint8_t *book, size_t book_length,
+                                       const uint8_t *sheet, size_t sheet_length,
+                                       const uint8_t *first, size_t first_length,
+                                       const uint8_t *second, size_t second_length);
+
 /* A listing has at most so many bytes. */
 #define DOFITRANO_LISTING_MOST 4096
 

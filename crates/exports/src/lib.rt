@@ -1,13 +1,13 @@
 // The library for programs in other languages: thin exported functions over the entries of the other crates.
 //
 // Entries, which ask nothing of their caller: dofitrano_search, dofitrano_write_card, dofitrano_check_card, dofitrano_listing,
-// dofitrano_sheet_values, dofitrano_scale_sheet.
+// dofitrano_sheet_values, dofitrano_scale_sheet, dofitrano_better_card.
 // A slice passes as a pointer and a length; include/dofitrano.h declares the functions for C and says what a caller in another
 // language must see to. The first clause of a contract gives the reply, the second every slot or byte that was lent, the third
 // what the entry behind it promises of both.
 ghost use mathlib.Core.Path.{_≡_};
 ghost use mathlib.Core.List.{_++_};
-ghost use Prim.Native.Nat.{_≤_};
+ghost use Prim.Native.Nat.{_+_, _≤_};
 ghost use lib.ListN.{length, take, drop};
 ghost use Rattle.method.specs.Problem.{problem};
 ghost use Rattle.method.specs.Answers.{outcome, search-refusal, slots-after, run-answer, run-iterate};
@@ -25,6 +25,9 @@ ghost use Rattle.cells.specs.Promise.{Conversion-right};
 ghost use Rattle.scale_sheet.specs.Sheets.{scale-sheet};
 ghost use Rattle.scale_sheet.specs.Promise.{Sheet-right};
 ghost use Rattle.cell_lists.specs.Lists.{flat-cells};
+ghost use Rattle.card_choice.specs.Choices.{numbered, part-of, choice};
+ghost use Rattle.card_choice.specs.Promise.{Better-right};
+use card_choice::Choice;
 use cells::SheetValues;
 use replies::CardReply;
 use replies::Reply;
@@ -129,4 +132,20 @@ pub extern "C" fn dofitrano_scale_sheet(
 {
     let cells = cell_lists::cells_of(kinds, first, second, units);
     scale_sheet::scale_sheet(book, cells, steps, tolerance)
+}
+
+// ENTRY. The better of two cards for other languages: which card, offset and length of its body and trailer, or the refusal, as `choose`
+// gives them.
+#[no_mangle]
+pub extern "C" fn dofitrano_better_card(
+    book: &[u8],
+    sheet: &[u8],
+    first: &[u8],
+    second: &[u8],
+) -> Choice
+    ensures { λ r. ⌜ r ≡ choice (now (book .entry)) (now (sheet .entry)) (now (first .entry)) (now (second .entry)) ⌝ }
+    ensures { λ r. ⌜ Better-right (now (book .entry)) (now (sheet .entry)) (now (first .entry)) (now (second .entry)) (r .refusal) (part-of r (now (first .entry)) (now (second .entry))) ⌝ }
+    ensures { λ r. ⌜ r .offset + r .len ≤ length (numbered (r .card) (now (first .entry)) (now (second .entry))) ⌝ }
+{
+    better_card::choose(book, sheet, first, second)
 }
