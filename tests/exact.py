@@ -46,6 +46,10 @@ that was not weighed.  A reading is the 64-bit pattern of a double.  Gross less
 tare is rounded once, as IEEE 754 subtraction is; the net's exact value is
 rounded to whole kilograms, those over the unit to the value, halves to even.
 
+The better of two cards for one book and sheet is the one whose squared
+distance is the lesser fraction, of equal ones the first; what is handed back
+is its body and trailer, without front text.
+
 A refusal is a number; 0 stands for accepted.  The first that applies, in the
 call's own order, is the one given back: in number order, but a sheet made of
 cells has 41 to 43, cell by cell, right after 6 and before 14 and 15.
@@ -459,6 +463,30 @@ def card_bytes(answer: Answer, shares: list[int], tolerance: int,
                      answer.distance, answer.gap, boats, columns, letters=letters)
 
 
+def better_card(book: bytes, sheet: bytes, first: bytes, second: bytes):
+    """Refusal, and the part that is handed back: card 1 or 2, offset, length.
+
+    The first card is checked before the second; a refusal names an empty part
+    of the first.
+    """
+    distances = []
+    for card in (first, second):
+        refusal, answer, _ = check_card(book, sheet, card, [0] * MOST_BOATS)
+        if refusal:
+            return refusal, 1, 0, 0
+        distances.append(Fraction(answer.distance, answer.weight ** 2))
+    number = 2 if distances[1] < distances[0] else 1
+    card = (first, second)[number - 1]
+    (back, *_), before = split(card, CARD_TRAILER)
+    return 0, number, len(before) - back, back + CARD_TRAILER.size
+
+
+def better_part(book: bytes, sheet: bytes, first: bytes, second: bytes):
+    """Refusal and the bytes that are handed back."""
+    refusal, number, offset, length = better_card(book, sheet, first, second)
+    return refusal, (first, second)[number - 1][offset:offset + length]
+
+
 # ---------------------------------------------------------- the scale cells
 
 
@@ -581,6 +609,12 @@ def card_listing(book: bytes, sheet: bytes, card: bytes) -> bytes:
     return listing_lines(read_book(book), steps, tolerance, answer, shares)
 
 
+def better_listing(book: bytes, sheet: bytes, first: bytes, second: bytes) -> bytes:
+    """The listing of the better of two cards, or the one line of the refusal."""
+    refusal, part = better_part(book, sheet, first, second)
+    return refused(refusal) if refusal else card_listing(book, sheet, part)
+
+
 # ------------------------------------------------------- builders for tests
 #
 # Fields left at None follow from the body; any field may be given another
@@ -616,6 +650,21 @@ def make_card(entries, verdict: int, steps: int, tolerance: int, distance: int,
     return front + body + CARD_TRAILER.pack(
         len(body) if back is None else back,
         verdict, steps, tolerance, distance, gap, boats, columns, letters)
+
+
+def true_card(book: bytes, sheet: bytes, shares, steps: int, front: bytes = b"",
+              letters: bytes = b"WCD1") -> bytes:
+    """The card of these shares with the E, G and verdict that are true of them; Spent where none is due yet."""
+    rows = read_book(book)
+    target, most, tolerance = read_sheet(sheet)
+    w = total_of_steps(steps)
+    point = [Fraction(dot(shares, column), w) for column in zip(*rows)]
+    squared_distance, duality_gap, _ = measure(point, rows, target)
+    verdict = judge(squared_distance, duality_gap, tolerance, steps, most) or SPENT
+    answer = answer_of(steps, squared_distance, duality_gap, verdict, tolerance)
+    entries = [(boat, share) for boat, share in enumerate(shares) if share]
+    return make_card(entries, verdict, steps, tolerance, answer.distance, answer.gap,
+                     len(rows), len(target), front=front, letters=letters)
 
 
 # ------------------------------------------------------------ from a shell

@@ -10,6 +10,7 @@ HERE = os.path.dirname(os.path.abspath(__file__))
 sys.path.insert(0, HERE)
 from exact import make_book, make_card, make_sheet, write_card  # noqa: E402
 from generator import Draws, draw_row  # noqa: E402
+import pairs  # noqa: E402
 
 CRATES = os.path.join(HERE, "..", "crates")
 
@@ -120,7 +121,7 @@ def write(crate, name, content):
 
 
 def main():
-    data = {"search_test": FILES, **PROGRAMS}
+    data = {"search_test": FILES, "better_test": {"pairs.dat": pairs.file_of(pairs.cases())}, **PROGRAMS}
     data["edition_test"] = {name: content for card, (book, rows, sheet) in FILED_BEFORE.items()
                             for name, content in ((book, rows), (card + ".wsh", sheet))}
     data["program_test"] = {os.path.join(name, file): content for name, files in FOLDERS.items() for file, content in files.items()}

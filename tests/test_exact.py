@@ -780,10 +780,50 @@ def gap_bounds():
     agree("equal rows", (exact.squared_diameter([[5], [5]]), exact.gaps_of([[5], [5]], [7], 3)), (0, [0, 0, 0]))
 
 
+def better_of_two():
+    """The better of two cards: the rows worked out by hand, and the two where 64 bits or doubles decide wrongly."""
+    book, sheet = make_book(P), make_sheet((1, 1), steps=9, tolerance=100)
+    one = exact.true_card(book, sheet, [1, 0, 0], 1)                      # 2 / 1
+    mixed = exact.true_card(book, sheet, [3, 1, 2], 3)                    # 8 / 36
+    third = exact.true_card(book, sheet, [0, 1, 2], 2, front=b"front")    # 26 / 9
+    equal = exact.true_card(book, sheet, [6, 0, 0], 3, front=b"xy")       # 72 / 36
+    agree("a greater E, a lesser distance", exact.better_card(book, sheet, one, mixed), (0, 2, 0, 48))
+    agree("the other way round", exact.better_card(book, sheet, mixed, one), (0, 1, 0, 48))
+    agree("26 / 9 and 2", exact.better_card(book, sheet, third, one), (0, 2, 0, 40))
+    agree("2 and 26 / 9", exact.better_card(book, sheet, one, third), (0, 1, 0, 40))
+    agree("behind front text", exact.better_card(book, sheet, third, third), (0, 1, 5, 44))
+    agree("equal", exact.better_card(book, sheet, one, equal), (0, 1, 0, 40))
+    agree("equal, swapped", exact.better_card(book, sheet, equal, one), (0, 1, 2, 40))
+    agree("the part", exact.better_part(book, sheet, equal, one), (0, equal[2:]))
+    agree("the listing", exact.better_listing(book, sheet, one, mixed), exact.card_listing(book, sheet, mixed))
+    letters = one[:-1] + b"9"
+    agree("the first's letters, the second short", exact.better_card(book, sheet, letters, one[:30]), (32, 1, 0, 0))
+    agree("the second short", exact.better_card(book, sheet, one, one[:30]), (31, 1, 0, 0))
+    agree("the sheet first", exact.better_card(book, make_sheet((1, 1), 0, 100), b"", b""), (14, 1, 0, 0))
+    agree("a refusal hands back nothing", exact.better_part(book, sheet, one, b""), (31, b""))
+    agree("its listing", exact.better_listing(book, sheet, one, b""), b"refused 31\n")
+
+    book = make_book([[2000] * 64, [-2000] * 64])
+    sheet = make_sheet([2000] * 64, steps=360, tolerance=1024000000)
+    first = exact.true_card(book, sheet, [19, 64601], 359)
+    second = exact.true_card(book, sheet, [20, 64960], 360)
+    agree("past 64 bits", exact.better_card(book, sheet, first, second)[:2], (0, 2))
+    left, right = 64 * (4000 * 64601) ** 2 * 64980 ** 2, 64 * (4000 * 64960) ** 2 * 64620 ** 2
+    agree("its products, and wrapped", (right < left, right % 2 ** 64 < left % 2 ** 64), (True, False))
+
+    book = make_book([[0] * 5] + [[2000 * (i == j) for j in range(5)] for i in range(5)])
+    sheet = make_sheet([0] * 5, steps=360, tolerance=1024000000)
+    first = exact.true_card(book, sheet, [48855, 16004, 112, 6, 2, 1], 360)
+    second = exact.true_card(book, sheet, [48092, 15739, 64, 5, 2, 1], 357)
+    agree("past a double", exact.better_card(book, sheet, first, second)[:2], (0, 2))
+    left, right = 1024562404000000, 990880988000000
+    agree("its products, and as doubles", (left * 63903 ** 2 - right * 64980 ** 2, right / 63903 ** 2 < left / 64980 ** 2), (36000000, False))
+
+
 def main():
     for part in (marked_sheets, readers, book_and_sheet_refusals, lent_lists, card_refusals,
                  two_tests, editions, filed_before, two_faults, ties_and_start, drawn_ties, random_books, full_size, damaged_files,
-                 from_a_shell, whole_numbers, scale_cells, subtractions, gap_bounds):
+                 from_a_shell, whole_numbers, scale_cells, subtractions, gap_bounds, better_of_two):
         part()
     if differences:
         print("exact.py: %d of %d checks differ" % (differences, checks))
