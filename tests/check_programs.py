@@ -13,6 +13,7 @@ PROGRAMS = {
     "mixlist": "search_folder::list_search",
     "mixcard": "card_folder::file_card",
     "mixcheck": "card_folder::check_card",
+    "mixbetter": "better_folder::file_better",
 }
 
 

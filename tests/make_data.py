@@ -8,7 +8,7 @@ import sys
 
 HERE = os.path.dirname(os.path.abspath(__file__))
 sys.path.insert(0, HERE)
-from exact import make_book, make_card, make_sheet, write_card  # noqa: E402
+from exact import make_book, make_card, make_sheet, true_card, write_card  # noqa: E402
 from generator import Draws, draw_row  # noqa: E402
 import pairs  # noqa: E402
 
@@ -55,9 +55,9 @@ def searched_card(book, sheet):
     return written[:length]
 
 
-def folder(book=None, sheet=None, card=None):
-    """The files of a folder, under the names that the programs read."""
-    files = {"fleet.wbk": book, "sheet.wsh": sheet, "card.wcd": card}
+def folder(book=None, sheet=None, card=None, first=None, second=None, better=None):
+    """The files of a folder, under the names that the programs read and write."""
+    files = {"fleet.wbk": book, "sheet.wsh": sheet, "card.wcd": card, "first.wcd": first, "second.wcd": second, "better.wcd": better}
     return {name: content for name, content in files.items() if content is not None}
 
 
@@ -70,6 +70,13 @@ HAND_CARD = make_card([(0, 2), (1, 2), (2, 2)], verdict=1, steps=3, tolerance=1,
 WRONG_CARD = make_card([(0, 2), (1, 2), (2, 3)], verdict=1, steps=3, tolerance=1, distance=8, gap=32, boats=3, columns=2)
 LARGER = make_book([[(i * i * 37 + j * 101 + i * j * 7) % 331 - 165 for j in range(5)] for i in range(12)], front=b"twelve boats\n")
 LARGER_SHEET = make_sheet([3, -20, 15, 0, 40], steps=40, tolerance=9, front=b"five columns\n")
+
+# Two cards of PAIR_SHEET: boat 0 alone, of squared distance 2, and HAND_CARD's shares, of 2 / 9, though its E is the greater. Three
+# steps on boat 0 are as near as one.
+PAIR_SHEET = make_sheet([1, 1], steps=9, tolerance=100)
+FARTHER = true_card(BOOK, PAIR_SHEET, [1, 0, 0], 1)
+NEARER = true_card(BOOK, PAIR_SHEET, [2, 2, 2], 3, front=b"front text")
+AS_FAR = true_card(BOOK, PAIR_SHEET, [6, 0, 0], 3, front=b"more front text")
 
 # program_test: folders by their names. The current folder has no name. In `long` each file is replaced by longer ones.
 FOLDERS = {
@@ -87,6 +94,14 @@ FOLDERS = {
     "no_sheet": folder(BOOK, None, CARD),
     "card_a_folder": {**folder(BOOK, SHEET), "card.wcd/inside": b"a folder stands in the place of the card\n"},
     "long": folder(BOOK, SHEET),
+    "pair_second": folder(BOOK, PAIR_SHEET, None, FARTHER, NEARER, b"an older card"),
+    "pair_first": folder(BOOK, PAIR_SHEET, None, NEARER, FARTHER),
+    "pair_equal": folder(BOOK, PAIR_SHEET, None, AS_FAR, FARTHER),
+    "pair_first_damaged": folder(BOOK, PAIR_SHEET, None, FARTHER[:-1] + b"9", NEARER[:-37], b"an older card"),
+    "pair_second_damaged": folder(BOOK, PAIR_SHEET, None, FARTHER, NEARER[:-37]),
+    "pair_sheet_refused": folder(BOOK, FILES["j.wsh"], None, FARTHER, NEARER),
+    "pair_no_second": folder(BOOK, PAIR_SHEET, None, FARTHER),
+    "pair_better_a_folder": {**folder(BOOK, PAIR_SHEET, None, FARTHER, NEARER), "better.wcd/inside": b"a folder stands in the place of the card\n"},
 }
 
 # edition_test: books and sheets whose cards were filed before WCD2, by the names of the cards. The far targets are ones at which the
@@ -110,6 +125,7 @@ PROGRAMS = {
     "mixlist": folder(LARGER, LARGER_SHEET),
     "mixcard": folder(BOOK, FILES["d.wsh"], b"an older card"),
     "mixcheck": folder(BOOK, SHEET, HAND_CARD),
+    "mixbetter": folder(BOOK, PAIR_SHEET, None, FARTHER, NEARER, b"an older card"),
 }
 
 

@@ -2,7 +2,7 @@
 """Run the built programs in folders of their own, and compare what they print and leave with the reference.
 
 Use: python3 tests/run_programs.py target/bin
-Runs those of mixlist, mixcard and mixcheck that are built, and report/mixreport with mixcheck. The last line says how many runs passed.
+Runs those of mixlist, mixcard, mixcheck and mixbetter that are built, and report/mixreport with mixcheck. The last line says how many runs passed.
 """
 import os
 import shutil
@@ -87,7 +87,7 @@ class Runs:
 def unread(files):
     """What standard error says of files that cannot be read."""
     return b"".join(name.encode() + b": could not be read whole\n"
-                    for name in ("fleet.wbk", "sheet.wsh", "card.wcd") if name in files and files[name] is FOLDER)
+                    for name in ("fleet.wbk", "sheet.wsh", "card.wcd", "first.wcd", "second.wcd") if name in files and files[name] is FOLDER)
 
 
 def check_mixlist(program, runs):
@@ -156,12 +156,38 @@ def check_report(program, runs):
             runs.expect("mixreport, " + name, right and left == before and len(out.splitlines()) == 2)
 
 
+def check_mixbetter(program, runs):
+    sheet = exact.make_sheet([1, 1], steps=9, tolerance=100)
+    farther = exact.true_card(BOOK, sheet, [1, 0, 0], 1)
+    nearer = exact.true_card(BOOK, sheet, [2, 2, 2], 3, front=b"front")
+    cards = [("farther", farther), ("nearer", nearer), ("none", None), ("empty", b""), ("a folder", FOLDER),
+             ("40,000 bytes", nearer.rjust(40000, b"x")), ("40,001 bytes", nearer.rjust(40001, b"x")), ("cut", nearer[:-1])]
+    for name, book in (("its book", BOOK), ("no book", b""), ("book of 40,001 bytes", BOOK.rjust(40001, b"x"))):
+        for first_name, first in cards:
+            for second_name, second in cards:
+                before = {"fleet.wbk": book, "sheet.wsh": sheet, "better.wcd": b"older card"}
+                before.update({file: card for file, card_name, card in (("first.wcd", first_name, first), ("second.wcd", second_name, second))
+                               if card_name != "none"})
+                four = [content(before, file) for file in ("fleet.wbk", "sheet.wsh", "first.wcd", "second.wcd")]
+                refusal, part = exact.better_part(*four)
+                faults = unread(before) + (b"better.wcd: not written, a file is refused\n" if refusal else b"")
+                after = before if refusal else dict(before, **{"better.wcd": part})
+                runs.expect("mixbetter, %s, %s, %s" % (name, first_name, second_name),
+                            run(program, before) == (exact.better_listing(*four), faults, after))
+    # The file system takes no byte, and a folder in the card's place: an older card stays, and no other file is left.
+    files = {"fleet.wbk": BOOK, "sheet.wsh": sheet, "first.wcd": farther, "second.wcd": nearer}
+    for name, older, read_only in (("no room", b"older card", True), ("card a folder", FOLDER, False)):
+        before = dict(files, **{"better.wcd": older})
+        runs.expect("mixbetter, " + name, run(program, before, read_only) == (b"", b"better.wcd: could not be written\n", before))
+
+
 def main(arguments):
     if len(arguments) != 1:
         sys.stderr.write(__doc__)
         return 2
     runs = Runs()
-    for name, check in (("mixlist", check_mixlist), ("mixcard", check_mixcard), ("mixcheck", check_mixcheck), ("mixcheck", check_report)):
+    for name, check in (("mixlist", check_mixlist), ("mixcard", check_mixcard), ("mixcheck", check_mixcheck), ("mixcheck", check_report),
+                        ("mixbetter", check_mixbetter)):
         program = os.path.join(arguments[0], name)
         if os.path.exists(program):
             check(program, runs)

@@ -1,5 +1,5 @@
 #!/usr/bin/env python3
-"""What program_test prints: the three programs in one folder after another, each as the reference has it."""
+"""What program_test prints: the four programs in one folder after another, each as the reference has it."""
 import os
 import sys
 
@@ -10,12 +10,19 @@ from printing import checksum  # noqa: E402
 
 # In the program's order. The folder `none` does not stand in data/.
 NAMES = ["larger", "beyond", "spent", "by_hand", "other_tolerance", "other_target", "book_refused", "sheet_refused", "card_refused",
-         "no_book", "no_sheet", "card_a_folder", "none"]
+         "no_book", "no_sheet", "card_a_folder", "none", "pair_second", "pair_first", "pair_equal", "pair_first_damaged",
+         "pair_second_damaged", "pair_sheet_refused", "pair_no_second", "pair_better_a_folder"]
 
 
-def contents(files):
-    """Book, sheet and card: a file that is missing, or a folder in its place, counts as empty."""
-    return [files.get(name, b"") for name in ("fleet.wbk", "sheet.wsh", "card.wcd")]
+def contents(files, cards=("card.wcd",)):
+    """Book, sheet and cards: a file that is missing, or a folder in its place, counts as empty."""
+    return [files.get(name, b"") for name in ("fleet.wbk", "sheet.wsh", *cards)]
+
+
+def left(files, name):
+    """The lines of the card that stands in the folder."""
+    card = files.get(name, b"")
+    return b"bytes %d\nsum %d\n" % (len(card), checksum(card))
 
 
 def mixcard(files):
@@ -29,14 +36,25 @@ def mixcard(files):
     return exact.listing(book, sheet)
 
 
+def mixbetter(files):
+    """The same of the better of two cards."""
+    four = contents(files, ("first.wcd", "second.wcd"))
+    refusal, part = exact.better_part(*four)
+    if not refusal:
+        if any(name.startswith("better.wcd/") for name in files):
+            return b""
+        files["better.wcd"] = part
+    return exact.better_listing(*four)
+
+
 def programs(title, files):
-    """The four runs in a folder, of which the third may change the card."""
+    """The five runs in a folder, of which the third may change the card and the last files the better of two."""
     yield title + b"\nmixlist\n" + exact.listing(*contents(files)[:2])
     yield b"mixcheck\n" + exact.card_listing(*contents(files))
     yield b"mixcard\n" + mixcard(files)
-    card = contents(files)[2]
-    yield b"bytes %d\nsum %d\n" % (len(card), checksum(card))
+    yield left(files, "card.wcd")
     yield b"mixcheck\n" + exact.card_listing(*contents(files))
+    yield b"mixbetter\n" + mixbetter(files) + left(files, "better.wcd")
 
 
 def long(name, length):

@@ -1,15 +1,16 @@
-// The work of the three programs in one folder after another: what each prints, and the card that is left. The files of data/
+// The work of the four programs in one folder after another: what each prints, and the cards that are left. The files of data/
 // are made by tests/make_data.py, the expected output by tests/expected/program_test.py.
 
-// Prints how many bytes a folder's card has, at most 40,001, and a sum over them.
-fn card_left(folder: &[u8]) {
+// Prints how many bytes a card of a folder has, at most 40,001, and a sum over them.
+fn card_left(folder: &[u8], name: &[u8]) {
     let mut filed = [0u8; 40001];
-    let n = file_io::read_in(folder, b"card.wcd", &mut filed);
+    let n = file_io::read_in(folder, name, &mut filed);
     printing::line(b"bytes", n as u64);
     printing::line(b"sum", buffers::checksum(&filed[..n]));
 }
 
-// Lists the search of a folder, checks the card that stands there, files the card of the search, and checks again.
+// Lists the search of a folder, checks the card that stands there, files the card of the search, and checks again; then files the
+// better of the folder's two cards.
 fn programs(folder: &[u8]) {
     printing::title(b"mixlist");
     search_folder::list_search(folder);
@@ -17,9 +18,12 @@ fn programs(folder: &[u8]) {
     card_folder::check_card(folder);
     printing::title(b"mixcard");
     card_folder::file_card(folder);
-    card_left(folder);
+    card_left(folder, b"card.wcd");
     printing::title(b"mixcheck");
     card_folder::check_card(folder);
+    printing::title(b"mixbetter");
+    better_folder::file_better(folder);
+    card_left(folder, b"better.wcd");
 }
 
 // The same in each folder of a table, whose lines are names.
@@ -73,6 +77,14 @@ no_book
 no_sheet
 card_a_folder
 none
+pair_second
+pair_first
+pair_equal
+pair_first_damaged
+pair_second_damaged
+pair_sheet_refused
+pair_no_second
+pair_better_a_folder
 ",
     );
     long(b"card.wcd", 40000);
