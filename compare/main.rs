@@ -1,11 +1,12 @@
 //! The volume comparison: random and damaged files through the exported functions of the library and through the reference
 //! implementation in reference.rs. Replies, share lists, cards, listings and what must stay untouched are compared bit for bit;
-//! cells.rs does the same of scale cells.
+//! cells.rs does the same of scale cells, pairs.rs of two cards.
 //!
 //! Use: compare [COUNT [SEED]]. The last line has the count; the exit status is 1 where a case differs, and the case is printed.
 
 mod cells;
 mod encode;
+mod pairs;
 mod random;
 mod reference;
 
@@ -596,29 +597,32 @@ fn refusals(call: &str) -> Vec<u32> {
         "search" => numbers.push(21),
         "write_card" => numbers.push(22),
         "check_card" => numbers.extend([21].into_iter().chain(31..=39)),
+        "better_card" => numbers.extend(31..=39),
         _ => {}
     }
     numbers
 }
 
-const CALLS: [&str; 6] = ["search", "write_card", "check_card", "listing", "sheet_values", "scale_sheet"];
+const CALLS: [&str; 7] = ["search", "write_card", "check_card", "better_card", "listing", "sheet_values", "scale_sheet"];
 
 /// How a call goes that is not refused.
 fn answers(call: &str) -> &'static [&'static str] {
     match call {
         "sheet_values" | "scale_sheet" => &["accepted"],
+        "better_card" => &["first", "second"],
         _ => &["within", "beyond", "spent"],
     }
 }
 
 fn one_case(rng: &mut Random) -> Compared {
-    match rng.below(10) {
+    match rng.below(13) {
         0 | 1 => compare_search(rng),
         2 | 3 => compare_write_card(rng),
         4..=6 => compare_check_card(rng),
         7 => compare_listing(rng),
         8 => cells::compare_values(rng),
-        _ => cells::compare_sheet(rng),
+        9 => cells::compare_sheet(rng),
+        _ => pairs::compare_better_card(rng),
     }
 }
 

@@ -375,6 +375,18 @@ pub fn check_card(book: &[u8], sheet: &[u8], card: &[u8], slots: &mut [u16]) -> 
     Ok(answer)
 }
 
+/// The better of two cards, or the refusal: the number of the card, and offset and length of its body and trailer.
+pub fn better_card(book: &[u8], sheet: &[u8], first: &[u8], second: &[u8]) -> Result<(u32, usize, usize), u32> {
+    let a = check_card(book, sheet, first, &mut [0; 256])?;
+    let b = check_card(book, sheet, second, &mut [0; 256])?;
+    // E is below 2^62 and W² below 2^32, so the products are exact.
+    let nearer = b.distance * a.weight * a.weight < a.distance * b.weight * b.weight;
+    let (number, card) = if nearer { (2, second) } else { (1, first) };
+    let trailer = card.len() - 36;
+    let back = u32::from_le_bytes(card[trailer..trailer + 4].try_into().unwrap()) as usize;
+    Ok((number, trailer - back, back + 36))
+}
+
 /// The listing of a search, or the one line of its refusal.
 pub fn listing(book: &[u8], sheet: &[u8]) -> Vec<u8> {
     let problem = match read_files(book, sheet) {
