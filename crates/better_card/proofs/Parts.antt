@@ -16,8 +16,11 @@ use Rattle.card_choice.specs.declared.Choice.{Choice}
 use Rattle.card_choice.specs.Choices.{nearer, numbered, bare-choice, part-of}
 
 -- the square of a number of 32 bits fits 64
-pub square-fits : (w : ℕ) → w < 2 ^ 32 → w * w < 2 ^ 64
+square-fits : (w : ℕ) → w < 2 ^ 32 → w * w < 2 ^ 64
 square-fits w h = let m : w ≤ 4294967295 = omega arith in let k = mul-le-mul m m in omega arith
+
+pub squares-fit : (a b : Answer) → a .weight < 2 ^ 32 → b .weight < 2 ^ 32 → (a .weight * a .weight < 2 ^ 64) × (b .weight * b .weight < 2 ^ 64)
+squares-fit a b h k = (square-fits (a .weight) h, square-fits (b .weight) k)
 
 pub nearer-by : (a b : Answer) {r : Bool} → r ≡ ltb (a .distance * (b .weight * b .weight)) (b .distance * (a .weight * a .weight)) → r ≡ nearer a b
 unfolding nearer

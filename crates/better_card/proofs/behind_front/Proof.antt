@@ -1,5 +1,6 @@
 -- `better_card::behind_front` meets its contract.
 use denote.Ref.{now}
+use native.Mathlib.Omega.{arith}
 use Rattle.better_card.proofs.Parts.{back-room, bare-by}
 use borrow.Author.Needs.{needs}
 use Rattle.better_card.proofs.behind_front.Statement.{statement}
@@ -18,7 +19,7 @@ cast-back : tie.Need-cast-back
 cast-back c = search needs
 
 sub-t5 : tie.Need-sub-t5
-sub-t5 c = let start = c .before .before in back-room (now (start .args .card)) (start .pre) (c .u32-at .ensures)
+sub-t5 c = let start = c .before .before in omega (arith, back-room (now (start .args .card)) (start .pre) (c .u32-at .ensures))
 
 add-t7 : tie.Need-add-t7
 add-t7 c = search needs

@@ -1,7 +1,6 @@
 -- `better_card::nearer` meets its contract.
-use Prim.Native.Nat.{_^_, _<_}
 use native.Mathlib.Omega.{arith}
-use Rattle.better_card.proofs.Parts.{square-fits, nearer-by}
+use Rattle.better_card.proofs.Parts.{squares-fit, nearer-by}
 use borrow.Author.Needs.{needs}
 use Rattle.better_card.proofs.nearer.Statement.{statement}
 use Rattle.better_card.proofs.nearer.Tie as tie
@@ -16,10 +15,10 @@ cast-w : tie.Need-cast-w
 cast-w c = search needs
 
 mul-product-below : tie.Need-mul-product-below
-mul-product-below c = let h : c .before .before .args .b .weight < 2 ^ 32 = search needs in omega (arith, square-fits (c .before .before .args .b .weight) h)
+mul-product-below c = let h = squares-fit (c .before .before .args .a) (c .before .before .args .b) (search needs) (search needs) in omega arith
 
 mul-product-below-2 : tie.Need-mul-product-below-2
-mul-product-below-2 c = let h : c .before .before .args .a .weight < 2 ^ 32 = search needs in omega (arith, square-fits (c .before .before .args .a .weight) h)
+mul-product-below-2 c = let h = squares-fit (c .before .before .args .a) (c .before .before .args .b) (search needs) (search needs) in omega arith
 
 product-below-requires : tie.Need-product-below-requires
 product-below-requires c κs = search needs
