@@ -32,13 +32,13 @@ module _ (b s w : List ℕ) (ok : files-refusal b s ≡ 0) (all : all-bytes w �
   fields-are = accepted-exactly b s w ok all .1 is-true .1
 
   abbrev rest : List ℕ
-  rest = pairs 0 (is-true .shares) ++ trailer-bytes (is-true .own)
+  rest = pairs 0 (is-true .shares) ++ trailer-bytes (is-true .test) (is-true .own)
 
   back-is : card-fields w .back ≡ length (pairs 0 (is-true .shares))
   back-is = ap (λ f. f .back) fields-are ∙ is-true .back
 
   whole : length w ≡ length (is-true .front) + (length (pairs 0 (is-true .shares)) + 36)
-  whole = ap length (is-true .layout) ∙ file-length (is-true .front) (pairs 0 (is-true .shares)) (trailer-bytes (is-true .own)) (length-trailer (is-true .own))
+  whole = ap length (is-true .layout) ∙ file-length (is-true .front) (pairs 0 (is-true .shares)) (trailer-bytes (is-true .test) (is-true .own)) (length-trailer (is-true .test) (is-true .own))
 
   pub inside : card-fields w .back + 36 ≤ length w
   inside = omega (arith, whole, back-is)
@@ -58,7 +58,7 @@ module _ (b s w : List ℕ) (ok : files-refusal b s ≡ 0) (all : all-bytes w �
   ends = rw bare-is (sym (is-true .layout))
 
   pub size : length (bare w) ≡ card-fields w .back + 36
-  size = omega (arith, ap length bare-is, length-append (pairs 0 (is-true .shares)) (trailer-bytes (is-true .own)), length-trailer (is-true .own), back-is)
+  size = omega (arith, ap length bare-is, length-append (pairs 0 (is-true .shares)) (trailer-bytes (is-true .test) (is-true .own)), length-trailer (is-true .test) (is-true .own), back-is)
 
   bare-bytes : all-bytes (bare w) ≡ true
   unfolding bare
@@ -72,6 +72,7 @@ module _ (b s w : List ℕ) (ok : files-refusal b s ≡ 0) (all : all-bytes w �
         front = [];
         shares = t .shares;
         own = t .own;
+        test = t .test;
         layout = bare-is;
         most-bytes = omega (arith, t .most-bytes, size, inside);
         back = t .back;
@@ -86,7 +87,7 @@ module _ (b s w : List ℕ) (ok : files-refusal b s ≡ 0) (all : all-bytes w �
   reads-back =
       let t = accepted-exactly b s w ok all .1 is-true in
       let u = accepted-exactly b s (bare w) ok bare-bytes .1 bare-true in
-      record { accepted = u .0; answer = u .3 ∙ sym (t .3); shares = u .2 ∙ sym (t .2) }
+      record { accepted = u .0; answer = u .4 ∙ sym (t .4); shares = u .2 ∙ sym (t .2) }
 
   some-weight : 1 ≤ card-answer b s w .weight
   unfolding Accepted-vouches problem
