@@ -521,23 +521,27 @@ fn other_shares(rng: &mut Random, boats: usize, t: usize) -> Vec<u16> {
     shares
 }
 
-/// A card for accepted files, of either edition: of their search, or of another mixture with its true numbers; one in eight has the
-/// letters of the other edition. Front text and damage as for the others.
-fn card_for(rng: &mut Random, problem: &reference::Problem) -> Vec<u8> {
+/// The card of these shares after t steps with its true numbers, of either edition, behind some front text; one in eight may have the
+/// letters of the other edition.
+fn true_card(rng: &mut Random, problem: &reference::Problem, t: usize, shares: &[u16]) -> Vec<u8> {
     let test = rng.of(&[Test::Former, Test::Sharper, Test::Sharper]);
+    let (distance, gap) = problem.distance_and_gap(shares);
+    // Where no verdict is due, the card says Spent too early.
+    let spent = Answer { steps: t, weight: 0, distance, gap, verdict: Verdict::Spent(0) };
+    let answer = problem.answer_of(test, t, shares).unwrap_or(spent);
+    let letters = if rng.one_in(8) { rng.of(&[Test::Former, Test::Sharper]) } else { test };
+    with_front(rng, problem.answer_card(letters, &answer, shares))
+}
+
+/// A card for accepted files: of their search, or of another mixture; one in two damaged.
+fn card_for(rng: &mut Random, problem: &reference::Problem) -> Vec<u8> {
     let (run, mut shares) = problem.run();
     let mut t = run.steps;
     if rng.one_in(2) {
         t = if rng.one_in(2) { problem.steps } else { 1 + rng.below(problem.steps) };
         shares = other_shares(rng, problem.rows.len(), t);
     }
-    let (distance, gap) = problem.distance_and_gap(&shares);
-    // Where no verdict is due, the card says Spent too early.
-    let spent = Answer { steps: t, weight: 0, distance, gap, verdict: Verdict::Spent(0) };
-    let answer = problem.answer_of(test, t, &shares).unwrap_or(spent);
-    let letters = if rng.one_in(8) { rng.of(&[Test::Former, Test::Sharper]) } else { test };
-    let plain = problem.answer_card(letters, &answer, &shares);
-    let mut card = with_front(rng, plain);
+    let mut card = true_card(rng, problem, t, &shares);
     if rng.one_in(2) {
         damage_card(rng, &mut card, problem.rows.len());
         if rng.one_in(4) {

@@ -1,9 +1,9 @@
-//! The better of two cards through the library and through the reference: cards of one problem that are near one another, equal, behind
-//! front text, damaged.
+//! The better of two cards through the library and through the reference: cards of one problem and either edition that are near one
+//! another, equal, behind front text, damaged.
 
 use crate::random::Random;
-use crate::reference::{self, Answer, Problem, Verdict};
-use crate::{card_for, compared, damage_card, files, lent, other_shares, with_front, Compared};
+use crate::reference::{self, Problem};
+use crate::{card_for, compared, damage_card, files, lent, other_shares, true_card, Compared};
 
 /// dofitrano_choice of include/dofitrano.h.
 #[repr(C)]
@@ -42,14 +42,6 @@ fn library_better_card(book: &[u8], sheet: &[u8], first: &[u8], second: &[u8]) -
             second.len(),
         )
     }
-}
-
-/// The card of these shares after t steps, with its true numbers; Spent where no verdict is due.
-fn true_card(rng: &mut Random, problem: &Problem, t: usize, shares: &[u16]) -> Vec<u8> {
-    let (distance, gap) = problem.distance_and_gap(shares);
-    let spent = Answer { steps: t, weight: 0, distance, gap, verdict: Verdict::Spent(0) };
-    let answer = problem.answer_of(t, shares).unwrap_or(spent);
-    with_front(rng, problem.answer_card(&answer, shares))
 }
 
 /// A mixture with one share moved from its first boat to another.

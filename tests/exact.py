@@ -653,14 +653,14 @@ def make_card(entries, verdict: int, steps: int, tolerance: int, distance: int,
 
 
 def true_card(book: bytes, sheet: bytes, shares, steps: int, front: bytes = b"",
-              letters: bytes = b"WCD1") -> bytes:
-    """The card of these shares with the E, G and verdict that are true of them; Spent where none is due yet."""
+              letters: bytes = b"WCD2") -> bytes:
+    """The card of these shares with the E, G and verdict that are true of them by the test of the letters; Spent where none is due yet."""
     rows = read_book(book)
     target, most, tolerance = read_sheet(sheet)
     w = total_of_steps(steps)
     point = [Fraction(dot(shares, column), w) for column in zip(*rows)]
     squared_distance, duality_gap, _ = measure(point, rows, target)
-    verdict = judge(squared_distance, duality_gap, tolerance, steps, most) or SPENT
+    verdict = judge(squared_distance, duality_gap, tolerance, steps, most, TESTS[letters]) or SPENT
     answer = answer_of(steps, squared_distance, duality_gap, verdict, tolerance)
     entries = [(boat, share) for boat, share in enumerate(shares) if share]
     return make_card(entries, verdict, steps, tolerance, answer.distance, answer.gap,

@@ -72,11 +72,11 @@ LARGER = make_book([[(i * i * 37 + j * 101 + i * j * 7) % 331 - 165 for j in ran
 LARGER_SHEET = make_sheet([3, -20, 15, 0, 40], steps=40, tolerance=9, front=b"five columns\n")
 
 # Two cards of PAIR_SHEET: boat 0 alone, of squared distance 2, and HAND_CARD's shares, of 2 / 9, though its E is the greater. Three
-# steps on boat 0 are as near as one.
+# steps on boat 0, on a card of the edition before, are as near as one.
 PAIR_SHEET = make_sheet([1, 1], steps=9, tolerance=100)
 FARTHER = true_card(BOOK, PAIR_SHEET, [1, 0, 0], 1)
 NEARER = true_card(BOOK, PAIR_SHEET, [2, 2, 2], 3, front=b"front text")
-AS_FAR = true_card(BOOK, PAIR_SHEET, [6, 0, 0], 3, front=b"more front text")
+AS_FAR = true_card(BOOK, PAIR_SHEET, [6, 0, 0], 3, b"more front text", b"WCD1")
 
 # program_test: folders by their names. The current folder has no name. In `long` each file is replaced by longer ones.
 FOLDERS = {

@@ -1,4 +1,4 @@
-"""Pairs of cards for one book and sheet, written by hand and drawn: near one another, equal, behind front text, damaged.
+"""Pairs of cards for one book and sheet, of either edition, written by hand and drawn: near one another, equal, behind front text, damaged.
 
 A file of cases has, for each, the lengths of book, sheet, first and second card in 2 bytes each, then the four files.
 """
@@ -10,7 +10,7 @@ from generator import Draws
 
 P = [[0, 0], [4, 0], [0, 4]]
 MOST = exact.MOST_TOLERANCE
-EDITIONS = [b"WCD1"]
+EDITIONS = [b"WCD1", b"WCD2"]
 
 
 def by_hand():
@@ -19,7 +19,7 @@ def by_hand():
     one = exact.true_card(book, sheet, [1, 0, 0], 1)
     mixed = exact.true_card(book, sheet, [3, 1, 2], 3)
     third = exact.true_card(book, sheet, [0, 1, 2], 2, front=b"front")
-    equal = exact.true_card(book, sheet, [6, 0, 0], 3, front=b"xy")
+    equal = exact.true_card(book, sheet, [6, 0, 0], 3, b"xy", b"WCD1")
     letters = one[:-1] + b"9"
     other_tolerance = exact.make_card([(0, 1)], 1, 1, 99, 2, 8, 3, 2)
     for first, second in ((one, mixed), (mixed, one), (third, one), (one, third), (third, third), (one, equal), (equal, one), (one, one),
@@ -29,6 +29,11 @@ def by_hand():
     yield book, exact.make_sheet([1, 1], 0, 100), letters, b""
     yield book[:-1], sheet, letters, b""
     yield b"", b"", one, mixed
+    # One mixture that the two tests judge otherwise: Spent on a WCD1 card, Beyond on a WCD2 card; with the other's letters it is untrue.
+    sheet = exact.make_sheet([5, 5], 1, 1)
+    former, sharper = (exact.true_card(book, sheet, [0, 1, 0], 1, letters, letters) for letters in EDITIONS)
+    for first, second in ((former, sharper), (sharper, former), (former, former[:-1] + b"2"), (sharper[:-1] + b"1", former)):
+        yield book, sheet, first, second
 
     book = exact.make_book([[2000] * 64, [-2000] * 64])
     sheet = exact.make_sheet([2000] * 64, 360, MOST)

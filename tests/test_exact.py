@@ -786,7 +786,7 @@ def better_of_two():
     one = exact.true_card(book, sheet, [1, 0, 0], 1)                      # 2 / 1
     mixed = exact.true_card(book, sheet, [3, 1, 2], 3)                    # 8 / 36
     third = exact.true_card(book, sheet, [0, 1, 2], 2, front=b"front")    # 26 / 9
-    equal = exact.true_card(book, sheet, [6, 0, 0], 3, front=b"xy")       # 72 / 36
+    equal = exact.true_card(book, sheet, [6, 0, 0], 3, b"xy", b"WCD1")    # 72 / 36, of the edition before
     agree("a greater E, a lesser distance", exact.better_card(book, sheet, one, mixed), (0, 2, 0, 48))
     agree("the other way round", exact.better_card(book, sheet, mixed, one), (0, 1, 0, 48))
     agree("26 / 9 and 2", exact.better_card(book, sheet, third, one), (0, 2, 0, 40))
@@ -802,6 +802,14 @@ def better_of_two():
     agree("the sheet first", exact.better_card(book, make_sheet((1, 1), 0, 100), b"", b""), (14, 1, 0, 0))
     agree("a refusal hands back nothing", exact.better_part(book, sheet, one, b""), (31, b""))
     agree("its listing", exact.better_listing(book, sheet, one, b""), b"refused 31\n")
+
+    sheet = make_sheet((5, 5), steps=1, tolerance=1)
+    former = make_card([(1, 1)], verdict=3, steps=1, tolerance=1, distance=26, gap=16, boats=3, columns=2, letters=b"WCD1")
+    sharper = make_card([(1, 1)], verdict=2, steps=1, tolerance=1, distance=26, gap=16, boats=3, columns=2, letters=b"WCD2")
+    agree("true by their letters", tuple(exact.true_card(book, sheet, [0, 1, 0], 1, letters=x) for x in (b"WCD1", b"WCD2")), (former, sharper))
+    agree("one of each edition", exact.better_card(book, sheet, former, sharper), (0, 1, 0, 40))
+    agree("swapped", exact.better_part(book, sheet, sharper, former), (0, sharper))
+    agree("the other's letters", exact.better_card(book, sheet, former, former[:-1] + b"2"), (38, 1, 0, 0))
 
     book = make_book([[2000] * 64, [-2000] * 64])
     sheet = make_sheet([2000] * 64, steps=360, tolerance=1024000000)

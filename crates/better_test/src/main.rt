@@ -48,5 +48,5 @@ fn each(cases: &[u8], count: u64) {
 fn main() {
     let mut cases = [0u8; 100000];
     let n = file_io::read_file(b"pairs.dat", &mut cases);
-    each(&cases[..n], 265);
+    each(&cases[..n], 269);
 }
