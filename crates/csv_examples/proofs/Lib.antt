@@ -1,0 +1,2 @@
+-- The texts and their tokens.
+pub mod Examples
