@@ -1,0 +1,2 @@
+-- The laws of repeated columns that other crates use.
+pub mod Repeating
