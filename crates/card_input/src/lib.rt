@@ -16,10 +16,10 @@ fn is_lettered(card: &[u8]) -> bool
     requires { ⌜ 36 ≤ length (now card) ⌝ }
     ensures { λ r. ⌜ r ≡ lettered Former (now (card .entry)) || lettered Sharper (now (card .entry)) ⌝ }
 {
-    if file_parts::ends_with(card, b"WCD1") {
+    if files::ends_with(card, b"WCD1") {
         return true;
     }
-    file_parts::ends_with(card, b"WCD2")
+    files::ends_with(card, b"WCD2")
 }
 
 // The test that judges a card's verdict, by its letters.
@@ -27,7 +27,7 @@ pub fn test_of(card: &[u8]) -> Test
     requires { ⌜ 36 ≤ length (now card) ⌝ }
     ensures { λ r. ⌜ r ≡ card-test (now (card .entry)) ⌝ }
 {
-    if file_parts::ends_with(card, b"WCD2") {
+    if files::ends_with(card, b"WCD2") {
         return Test::Sharper;
     }
     Test::Former

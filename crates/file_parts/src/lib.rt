@@ -1,10 +1,10 @@
-// Tests of the parts of a file: a count or a length between two bounds, the letters at its end, a body of values.
+// Tests of the parts of a file: a count or a length between two bounds, a body of values.
 //
-// Helpers for other crates, whose callers prove what they require: ends_with, is_between, body_refusal.
+// Helpers for other crates, whose callers prove what they require: is_between, body_refusal.
 ghost use mathlib.Core.Path.{_≡_};
-ghost use Prim.Native.Nat.{_+_, _-_, _*_, _≤_, _<_};
+ghost use Prim.Native.Nat.{_+_, _*_, _≤_, _<_};
 ghost use lib.ListN.{length, drop};
-ghost use Rattle.files.specs.Bytes.{value, values, in-range, all-in-range, same, between, body-refusal};
+ghost use Rattle.files.specs.Bytes.{value, values, in-range, all-in-range, between, body-refusal};
 
 // Whether 16 bits hold a value in range: from -2,000 they count 0 to 4,000.
 fn value_in_range(v: u32) -> bool
@@ -30,22 +30,6 @@ fn values_in_range(b: &[u8], at: usize, count: usize) -> bool
     good
 }
 
-// Whether a file ends with these letters.
-pub fn ends_with(b: &[u8], letters: &[u8]) -> bool
-    requires { ⌜ length (now letters) ≤ length (now b) ⌝ }
-    ensures { λ r. ⌜ r ≡ same (drop (length (now (b .entry)) - length (now (letters .entry))) (now (b .entry))) (now (letters .entry)) ⌝ }
-{
-    let at = b.len() - letters.len();
-    let mut i = 0;
-    while i < letters.len() {
-        if b[at + i] != letters[i] {
-            return false;
-        }
-        i += 1;
-    }
-    true
-}
-
 // Whether `x` is from `least` to `most`.
 pub fn is_between(least: usize, most: usize, x: usize) -> bool
     ensures { λ r. ⌜ r ≡ between least most x ⌝ }
@@ -56,21 +40,28 @@ pub fn is_between(least: usize, most: usize, x: usize) -> bool
     x <= most
 }
 
-// The number that refuses a body of `count` values before a trailer of `size` bytes, or 0:
+// The number that refuses a body that is to have `back` bytes and begins with `count` values, before a trailer of `size` bytes, or 0:
 // `place` where the back count is wrong or reaches too far, `range` where a value is out of range.
-pub fn body_refusal(b: &[u8], size: usize, count: usize, place: u32, range: u32) -> u32
-    requires { ⌜ (4 ≤ size) × (size ≤ length (now b)) × (count < 65536) ⌝ }
-    ensures { λ r. ⌜ r ≡ body-refusal size count place range (now (b .entry)) ⌝ }
+pub fn body_refusal(
+    b: &[u8],
+    size: usize,
+    back: usize,
+    count: usize,
+    place: u32,
+    range: u32,
+) -> u32
+    requires { ⌜ (4 ≤ size) × (size ≤ length (now b)) × (2 * count ≤ back) ⌝ }
+    ensures { λ r. ⌜ r ≡ body-refusal size back count place range (now (b .entry)) ⌝ }
 {
     let room = b.len() - size;
-    let back = files::u32_at(b, room) as usize;
-    if back != 2 * count {
+    let own = files::u32_at(b, room) as usize;
+    if own != back {
         return place;
     }
-    if room < back {
+    if room < own {
         return place;
     }
-    if values_in_range(b, room - back, count) {
+    if values_in_range(b, room - own, count) {
         0
     } else {
         range

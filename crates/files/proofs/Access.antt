@@ -11,9 +11,9 @@ use mir.Val.{toZ, ofZ}
 use mir.Facts.{toZ-ofZ}
 use Rattle.files.specs.Bytes.{number, value, values, body}
 use Rattle.files.specs.Book.{boats, columns, Book-whole, rows-offset, rows-from, rows}
-use Rattle.files.specs.Sheet.{sheet-columns, target-offset, sheet}
+use Rattle.files.specs.Sheet.{sheet-columns, sheet-back, target-offset, sheet}
 use Rattle.files.proofs.Values.{value-fits}
-use Rattle.files.proofs.Rows.{values-take-all, rows-take, value-of-values, row-of-rows}
+use Rattle.files.proofs.Rows.{values-take-some, rows-take, value-of-values, row-of-rows}
 
 -- the cell of row i and column j is inside n rows of c columns
 pub cell-inside : (n c i j : ℕ) → i < n → j < c → i * c + j < n * c
@@ -33,7 +33,7 @@ entry-at b i j h k =
 
 pub target-at : (s : List ℕ) → sheet s .target ≡ values (sheet-columns s) (drop (target-offset s) s)
 unfolding sheet body
-target-at s = values-take-all (sheet-columns s) _
+target-at s = values-take-some (sheet-columns s) (sheet-back s) _ (omega arith)
 
 pub target-value-at : (s : List ℕ) (j : ℕ) → j < sheet-columns s → getD (sheet s .target) j (pos 0) ≡ value (number (target-offset s + 2 * j) 2 s)
 target-value-at s j h = rw (target-at, value-of-values (sheet-columns s) j (target-offset s) s h)

@@ -10,7 +10,7 @@ use lib.ListN.{length, drop, length-append}
 use lib.Seq.{drop-append-add}
 use Rattle.files.specs.Bytes.{number, between, length-in-range, trailer, body, reaches, body-refusal}
 use Rattle.files.specs.Book.{boats, columns, Book-whole, rows, book-refusal}
-use Rattle.files.specs.Sheet.{sheet-columns, Sheet-whole, sheet, sheet-refusal, files-refusal}
+use Rattle.files.specs.Sheet.{sheet-columns, WSH1, WSH2, sheet-lettered, factor-bytes, sheet-back, Sheet-whole, sheet, sheet-refusal-in, files-refusal}
 use Rattle.files.specs.Front.{Front-fits, Book-front-unread, Sheet-front-unread, Files-front-unread}
 
 drop-front : (f b : List ℕ) (k m : ℕ) → m ≡ length f + k → drop m (f ++ b) ≡ drop k b
@@ -35,9 +35,9 @@ module _ (f b : List ℕ) (size : ℕ) (h : size ≤ length b) where
       let q : back ≡ n = eqb-true back n e in
       le-leb back (length (f ++ b) - size) (omega (arith, length-front)) ∙ sym (le-leb back (length b - size) (omega arith))
 
-  body-refusal-front : (count place range : ℕ) → 2 * count + size ≤ length b → body-refusal size count place range (f ++ b) ≡ body-refusal size count place range b
+  body-refusal-front : (back count place range : ℕ) → back + size ≤ length b → body-refusal size back count place range (f ++ b) ≡ body-refusal size back count place range b
   unfolding body-refusal reaches
-  body-refusal-front count place range k = simp (trailer-front, body-front (2 * count) k, place-front _ (number 0 4 (trailer size b)) (2 * count) refl k)
+  body-refusal-front back count place range k = simp (trailer-front, body-front back k, place-front _ (number 0 4 (trailer size b)) back refl k)
 
   length-in-range-front : Front-fits f b → length-in-range size (f ++ b) ≡ length-in-range size b
   unfolding length-in-range between
@@ -63,7 +63,7 @@ module _ (f b : List ℕ) (w : Book-whole b) where
   book-refusal-front : Front-fits f b → book-refusal (f ++ b) ≡ book-refusal b
   unfolding book-refusal
   book-refusal-front k =
-      rw (length-in-range-front f b 12 (omega arith) k, book-trailer, boats-front, columns-front, body-refusal-front f b 12 (omega arith) (boats b * columns b) 5 6 w)
+      rw (length-in-range-front f b 12 (omega arith) k, book-trailer, boats-front, columns-front, body-refusal-front f b 12 (omega arith) (2 * (boats b * columns b)) (boats b * columns b) 5 6 w)
 
 pub book-front-unread : Book-front-unread
 unfolding Book-front-unread
@@ -83,30 +83,32 @@ module _ (f s : List ℕ) (w : Sheet-whole s) where
   unfolding sheet-columns
   sheet-columns-front = rw sheet-trailer
 
+  lettered-front : (ls : List ℕ) → sheet-lettered ls (f ++ s) ≡ sheet-lettered ls s
+  unfolding sheet-lettered
+  lettered-front ls = rw sheet-trailer
+
+  factor-bytes-front : factor-bytes (f ++ s) ≡ factor-bytes s
+  unfolding factor-bytes
+  factor-bytes-front = rw (lettered-front WSH2, sheet-columns-front)
+
   sheet-front : sheet (f ++ s) ≡ sheet s
   unfolding sheet
-  sheet-front = rw (sheet-columns-front, sheet-trailer, body-front f s 16 (omega arith) (2 * sheet-columns s) w)
+  sheet-front = rw (sheet-columns-front, factor-bytes-front, lettered-front WSH2, sheet-trailer, body-front f s 16 (omega arith) (sheet-back s) w)
 
-  -- the body counts only where the columns are the book's
-  sheet-refusal-by : (t : Bool) (c : ℕ) → eqb (sheet-columns s) c ≡ t → Front-fits f s → sheet-refusal c (f ++ s) ≡ sheet-refusal c s
-  unfolding sheet-refusal
-  sheet-refusal-by true c e k =
-      let q : sheet-columns s ≡ c = eqb-true _ c e in
-      rw (length-in-range-front f s 16 (omega arith) k, sheet-trailer, sheet-columns-front, sheet-front, body-refusal-front f s 16 (omega arith) c 16 17 (omega arith))
-  sheet-refusal-by false c e k = simp (length-in-range-front f s 16 (omega arith) k, sheet-trailer, sheet-columns-front, e)
-
-  sheet-refusal-front : (c : ℕ) → Front-fits f s → sheet-refusal c (f ++ s) ≡ sheet-refusal c s
-  sheet-refusal-front c k = sheet-refusal-by (eqb (sheet-columns s) c) c refl k
+  sheet-refusal-front : (a z : ℕ) → Front-fits f s → sheet-refusal-in a z (f ++ s) ≡ sheet-refusal-in a z s
+  unfolding sheet-refusal-in
+  sheet-refusal-front a z k =
+      rw (length-in-range-front f s 16 (omega arith) k, lettered-front WSH1, lettered-front WSH2, sheet-columns-front, sheet-front, factor-bytes-front, body-refusal-front f s 16 (omega arith) (sheet-back s) (sheet-columns s) 16 17 w)
 
 pub sheet-front-unread : Sheet-front-unread
 unfolding Sheet-front-unread
-sheet-front-unread f g s c w h k =
-    (sheet-front f s w ∙ sym (sheet-front g s w), sheet-refusal-front f s w c h ∙ sym (sheet-refusal-front g s w c k))
+sheet-front-unread f g s a z w h k =
+    (sheet-front f s w ∙ sym (sheet-front g s w), sheet-refusal-front f s w a z h ∙ sym (sheet-refusal-front g s w a z k))
 
 -- ---- both
 files-refusal-front : (f b h s : List ℕ) → Book-whole b → Front-fits f b → Sheet-whole s → Front-fits h s → files-refusal (f ++ b) (h ++ s) ≡ files-refusal b s
 unfolding files-refusal
-files-refusal-front f b h s w i v j = rw (book-refusal-front f b w i, columns-front f b w, sheet-refusal-front h s v (columns b) j)
+files-refusal-front f b h s w i v j = rw (book-refusal-front f b w i, columns-front f b w, sheet-refusal-front h s v (columns b) (columns b) j)
 
 pub files-front-unread : Files-front-unread
 unfolding Files-front-unread

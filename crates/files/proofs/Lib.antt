@@ -1,5 +1,6 @@
 -- The laws behind the proofs of this crate, and those that other crates use of numbers, rows, refusals and accepted files.
 pub mod Numbers
+pub mod Letters
 pub mod Values
 pub mod Rows
 pub mod Fields

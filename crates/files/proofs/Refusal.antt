@@ -1,18 +1,19 @@
 -- What refuses a file, test by test. Each law has as premises the facts that `file_parts` or `validation` has at one of its returns.
 use mathlib.Core.Path.{_≡_, refl, sym, _∙_}
-use mathlib.Core.Bool.{Bool, true, false, _&&_, not}
+use mathlib.Core.Bool.{Bool, true, false, _&&_, _||_, not, cond}
 use mathlib.Core.List.{List}
 use Prim.Native.Nat.{ℕ, _*_, _-_, _≤_, _<_}
 use native.Mathlib.Nat.{mul-le-mul}
 use native.Mathlib.Omega.{arith}
 use borrow.Author.Tests.{le-leb, lt-leb, leb-true, eq-eqb, ne-eqb, lt-ltb, le-ltb, not-true, not-false}
-use lib.Dec.{leb}
+use lib.Dec.{leb, eqb}
 use lib.ListN.{length, drop}
+use Rattle.frank_wolfe.specs.Vectors.{sum}
 use Rattle.files.specs.Bytes.{number, values, same, between, all-in-range, length-in-range, trailer, body, reaches, body-refusal}
 use Rattle.files.specs.Book.{boats, columns, WBK1, book-refusal}
-use Rattle.files.specs.Sheet.{sheet, sheet-columns, WSH1, sheet-refusal, files-refusal}
+use Rattle.files.specs.Sheet.{sheet, sheet-columns, WSH1, WSH2, sheet-lettered, sheet-back, sheet-refusal-in, sheet-refusal, files-refusal}
 use Rattle.files.proofs.Numbers.{number-in-trailer, drop-trailer}
-use Rattle.files.proofs.Rows.{values-take-all}
+use Rattle.files.proofs.Rows.{values-take-some}
 
 -- ---- numbers between two bounds
 pub and-true : (a b : Bool) → a && b ≡ true → (a ≡ true) × (b ≡ true)
@@ -33,31 +34,31 @@ module _ (least most n : ℕ) (g : Bool) (e : g ≡ between least most n) (t : n
   at-most = between-true least most n (sym e ∙ not-false g t) .1
 
 -- ---- the body
-module _ (size count place range : ℕ) (bs : List ℕ) (h : size ≤ length bs) (back : ℕ) (eb : back ≡ number (length bs - size) 4 bs) where
+module _ (size back count place range : ℕ) (bs : List ℕ) (h : size ≤ length bs) (few : 2 * count ≤ back) (own : ℕ) (eo : own ≡ number (length bs - size) 4 bs) where
   back-at : number 0 4 (trailer size bs) ≡ number (length bs - size) 4 bs
   back-at = number-in-trailer size 0 4 (length bs - size) bs (omega arith)
 
-  pub back-wrong : (back ≡ 2 * count → ⊥) → place ≡ body-refusal size count place range bs
+  pub back-wrong : (own ≡ back → ⊥) → place ≡ body-refusal size back count place range bs
   unfolding body-refusal
-  back-wrong n = simp (back-at, ← eb, ne-eqb _ _ n)
+  back-wrong n = simp (back-at, ← eo, ne-eqb _ _ n)
 
-  module _ (q : back ≡ 2 * count) where
-    pub back-before : length bs - size < back → place ≡ body-refusal size count place range bs
+  module _ (q : own ≡ back) where
+    pub back-before : length bs - size < own → place ≡ body-refusal size back count place range bs
     unfolding body-refusal reaches
-    back-before k = simp (back-at, ← eb, eq-eqb _ _ q, lt-leb _ _ k)
+    back-before k = simp (back-at, ← eo, eq-eqb _ _ q, lt-leb _ _ k)
 
-    module _ (k : back ≤ length bs - size) (g : Bool) (eg : g ≡ all-in-range (values count (drop (length bs - size - back) bs))) where
-      in-body : all-in-range (values count (body size (2 * count) bs)) ≡ g
+    module _ (k : own ≤ length bs - size) (g : Bool) (eg : g ≡ all-in-range (values count (drop (length bs - size - own) bs))) where
+      in-body : all-in-range (values count (body size back bs)) ≡ g
       unfolding body
-      in-body = rw values-take-all (sym (eg ∙ rw q))
+      in-body = rw (values-take-some count back _ few) (sym (eg ∙ rw q))
 
-      pub all-in : g ≡ true → 0 ≡ body-refusal size count place range bs
+      pub all-in : g ≡ true → 0 ≡ body-refusal size back count place range bs
       unfolding body-refusal reaches
-      all-in t = simp (back-at, ← eb, eq-eqb _ _ q, le-leb _ _ k, in-body, t)
+      all-in t = simp (back-at, ← eo, eq-eqb _ _ q, le-leb _ _ k, in-body, t)
 
-      pub some-out : g ≡ false → range ≡ body-refusal size count place range bs
+      pub some-out : g ≡ false → range ≡ body-refusal size back count place range bs
       unfolding body-refusal reaches
-      some-out t = simp (back-at, ← eb, eq-eqb _ _ q, le-leb _ _ k, in-body, t)
+      some-out t = simp (back-at, ← eo, eq-eqb _ _ q, le-leb _ _ k, in-body, t)
 
 -- ---- a fleet book
 module _ (b : List ℕ) (g1 : Bool) (e1 : g1 ≡ between 12 40000 (length b)) where
@@ -83,7 +84,7 @@ module _ (b : List ℕ) (g1 : Bool) (e1 : g1 ≡ between 12 40000 (length b)) wh
         unfolding book-refusal length-in-range
         columns-out t = simp (← e1, not-false g1 t1, letters-at, ← e2, not-false g2 t2, ← en, ← e3, not-false g3 t3, ← ec, ← e4, not-true g4 t)
 
-        pub book-body : not g4 ≡ false → (r : ℕ) → r ≡ body-refusal 12 (n * c) 5 6 b → r ≡ book-refusal b
+        pub book-body : not g4 ≡ false → (r : ℕ) → r ≡ body-refusal 12 (2 * (n * c)) (n * c) 5 6 b → r ≡ book-refusal b
         unfolding book-refusal length-in-range
         book-body t r er = er ∙ simp (← e1, not-false g1 t1, letters-at, ← e2, not-false g2 t2, ← en, ← e3, not-false g3 t3, ← ec, ← e4, not-false g4 t)
 
@@ -92,37 +93,53 @@ pub few-values : (n c : ℕ) (g h : Bool) → g ≡ between 1 256 n → not g �
 few-values n c g h eg tg eh th = mul-le-mul (at-most 1 256 n g eg tg) (at-most 1 64 c h eh th)
 
 -- ---- a sheet
-module _ (c : ℕ) (s : List ℕ) (g1 : Bool) (e1 : g1 ≡ between 16 40000 (length s)) where
-  pub sheet-length-out : not g1 ≡ true → 11 ≡ sheet-refusal c s
-  unfolding sheet-refusal length-in-range
+module _ (a z : ℕ) (s : List ℕ) (g1 : Bool) (e1 : g1 ≡ between 16 40000 (length s)) where
+  pub sheet-length-out : not g1 ≡ true → 11 ≡ sheet-refusal-in a z s
+  unfolding sheet-refusal-in length-in-range
   sheet-length-out t = simp (← e1, not-true g1 t)
 
-  module _ (t1 : not g1 ≡ false) (g2 : Bool) (e2 : g2 ≡ same (drop (length s - 4) s) WSH1) where
-    sheet-letters-at : drop 12 (trailer 16 s) ≡ drop (length s - 4) s
-    sheet-letters-at = drop-trailer 16 12 (length s - 4) s (omega (arith, at-least 16 40000 (length s) g1 e1 t1))
+  module _ (t1 : not g1 ≡ false) (g2 : Bool) (e2 : g2 ≡ sheet-lettered WSH1 s || sheet-lettered WSH2 s) where
+    pub sheet-letters-differ : not g2 ≡ true → 12 ≡ sheet-refusal-in a z s
+    unfolding sheet-refusal-in length-in-range
+    sheet-letters-differ t = simp (← e1, not-false g1 t1, ← e2, not-true g2 t)
 
-    pub sheet-letters-differ : not g2 ≡ true → 12 ≡ sheet-refusal c s
-    unfolding sheet-refusal length-in-range
-    sheet-letters-differ t = simp (← e1, not-false g1 t1, sheet-letters-at, ← e2, not-true g2 t)
+    module _ (t2 : not g2 ≡ false) (m : ℕ) (em : m ≡ sheet-columns s) (g3 : Bool) (e3 : g3 ≡ between a z m) where
+      columns-tested : between a z (sheet-columns s) ≡ g3
+      columns-tested = sym (e3 ∙ rw em)
 
-    module _ (t2 : not g2 ≡ false) (m : ℕ) (em : m ≡ sheet-columns s) where
-      pub columns-differ : (m ≡ c → ⊥) → 13 ≡ sheet-refusal c s
-      unfolding sheet-refusal length-in-range
-      columns-differ t = simp (← e1, not-false g1 t1, sheet-letters-at, ← e2, not-false g2 t2, ← em, ne-eqb _ _ t)
+      pub columns-differ : not g3 ≡ true → 13 ≡ sheet-refusal-in a z s
+      unfolding sheet-refusal-in length-in-range
+      columns-differ t = simp (← e1, not-false g1 t1, ← e2, not-false g2 t2, columns-tested, not-true g3 t)
 
-      module _ (q : m ≡ c) (k : ℕ) (ek : k ≡ sheet s .steps) (g4 : Bool) (e4 : g4 ≡ between 1 360 k) where
-        pub steps-out : not g4 ≡ true → 14 ≡ sheet-refusal c s
-        unfolding sheet-refusal length-in-range
-        steps-out t = simp (← e1, not-false g1 t1, sheet-letters-at, ← e2, not-false g2 t2, ← em, eq-eqb _ _ q, ← ek, ← e4, not-true g4 t)
+      module _ (t3 : not g3 ≡ false) (k : ℕ) (ek : k ≡ sheet s .steps) (g4 : Bool) (e4 : g4 ≡ between 1 360 k) where
+        pub steps-out : not g4 ≡ true → 14 ≡ sheet-refusal-in a z s
+        unfolding sheet-refusal-in length-in-range
+        steps-out t = simp (← e1, not-false g1 t1, ← e2, not-false g2 t2, columns-tested, not-false g3 t3, ← ek, ← e4, not-true g4 t)
 
         module _ (t4 : not g4 ≡ false) (x : ℕ) (ex : x ≡ sheet s .tolerance) where
-          pub tolerance-out : 1024000000 < x → 15 ≡ sheet-refusal c s
-          unfolding sheet-refusal length-in-range
-          tolerance-out t = simp (← e1, not-false g1 t1, sheet-letters-at, ← e2, not-false g2 t2, ← em, eq-eqb _ _ q, ← ek, ← e4, not-false g4 t4, ← ex, lt-ltb _ _ t)
+          pub tolerance-out : 1024000000 < x → 15 ≡ sheet-refusal-in a z s
+          unfolding sheet-refusal-in length-in-range
+          tolerance-out t = simp (← e1, not-false g1 t1, ← e2, not-false g2 t2, columns-tested, not-false g3 t3, ← ek, ← e4, not-false g4 t4, ← ex, lt-ltb _ _ t)
 
-          pub sheet-body : x ≤ 1024000000 → (r : ℕ) → r ≡ body-refusal 16 c 16 17 s → r ≡ sheet-refusal c s
-          unfolding sheet-refusal length-in-range
-          sheet-body t r er = er ∙ simp (← e1, not-false g1 t1, sheet-letters-at, ← e2, not-false g2 t2, ← em, eq-eqb _ _ q, ← ek, ← e4, not-false g4 t4, ← ex, le-ltb _ _ t)
+          module _ (t5 : x ≤ 1024000000) (back : ℕ) (eb : back ≡ sheet-back s) (r : ℕ) (er : r ≡ body-refusal 16 back m 16 17 s) where
+            body-tested : body-refusal 16 (sheet-back s) (sheet-columns s) 16 17 s ≡ r
+            body-tested = sym (er ∙ rw (eb, em))
+
+            -- where the tests before the body are passed
+            from-body : sheet-refusal-in a z s ≡ cond (not (eqb r 0)) r (cond (between 1 64 (sum (sheet s .factors))) 0 46)
+            unfolding sheet-refusal-in length-in-range
+            from-body =
+                simp (← e1, not-false g1 t1, ← e2, not-false g2 t2, columns-tested, not-false g3 t3, ← ek, ← e4, not-false g4 t4, ← ex, le-ltb _ _ t5, body-tested)
+
+            pub body-refused : (r ≡ 0 → ⊥) → r ≡ sheet-refusal-in a z s
+            body-refused n = sym (from-body ∙ simp (ne-eqb _ _ n))
+
+            module _ (n : r ≡ 0) (f : ℕ) (ef : f ≡ sum (sheet s .factors)) (g6 : Bool) (e6 : g6 ≡ between 1 64 f) where
+              pub factors-out : not g6 ≡ true → 46 ≡ sheet-refusal-in a z s
+              factors-out t = sym (from-body ∙ simp (eq-eqb _ _ n, ← ef, ← e6, not-true g6 t))
+
+              pub factors-in : not g6 ≡ false → 0 ≡ sheet-refusal-in a z s
+              factors-in t = sym (from-body ∙ simp (eq-eqb _ _ n, ← ef, ← e6, not-false g6 t))
 
 -- ---- both
 module _ (b s : List ℕ) (r : ℕ) (er : r ≡ book-refusal b) where

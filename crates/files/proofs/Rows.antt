@@ -2,7 +2,7 @@
 use mathlib.Core.Path.{_≡_, refl, ap}
 use mathlib.Core.Bool.{Bool, true, false, _&&_}
 use mathlib.Core.List.{List, [], _∷_, _++_}
-use Prim.Native.Nat.{ℕ, zero, suc, _+_, _*_, _<_}
+use Prim.Native.Nat.{ℕ, zero, suc, _+_, _*_, _-_, _≤_, _<_}
 use native.Mathlib.Nat.{zero-mul, suc-mul, zero-add, suc-add}
 use native.Mathlib.Omega.{arith}
 use lib.IntN.{ℤ, pos}
@@ -46,7 +46,7 @@ row-of-rows (suc n) c (suc i) at bs h =
     rw (drop-drop (2 * c) at bs, e) (row-of-rows n c i (at + 2 * c) bs (omega arith))
 
 -- ---- a part that is long enough
-drop-take : (m k : ℕ) (bs : List ℕ) → drop m (take (m + k) bs) ≡ take k (drop m bs)
+pub drop-take : (m k : ℕ) (bs : List ℕ) → drop m (take (m + k) bs) ≡ take k (drop m bs)
 drop-take zero k bs = rw zero-add
 drop-take (suc m) k [] = rw (take-nil (suc m + k), take-nil)
 drop-take (suc m) k (b ∷ bs) = rw suc-add (drop-take m k bs)
@@ -58,8 +58,8 @@ values-take (suc n) k bs =
     let e : 2 * suc n + k ≡ 2 + (2 * n + k) = omega arith in
     rw (e, drop-take 2, values-take n k (drop 2 bs), take-take 2 (2 + (2 * n + k)) bs (omega arith))
 
-pub values-take-all : (n : ℕ) (bs : List ℕ) → values n (take (2 * n) bs) ≡ values n bs
-values-take-all n bs = let e : 2 * n + 0 ≡ 2 * n = omega arith in rw e at (values-take n 0 bs)
+pub values-take-some : (n m : ℕ) (bs : List ℕ) → 2 * n ≤ m → values n (take m bs) ≡ values n bs
+values-take-some n m bs h = let e : 2 * n + (m - 2 * n) ≡ m = omega arith in rw e at (values-take n (m - 2 * n) bs)
 
 pub rows-take : (n c : ℕ) (bs : List ℕ) → rows-from n c (take (2 * (n * c)) bs) ≡ rows-from n c bs
 unfolding rows-from

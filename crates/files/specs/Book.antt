@@ -44,4 +44,4 @@ book-refusal b =
     (cond (not (same (drop 8 (trailer 12 b)) WBK1)) 2
     (cond (not (between 1 256 (boats b))) 3
     (cond (not (between 1 64 (columns b))) 4
-    (body-refusal 12 (boats b * columns b) 5 6 b))))
+    (body-refusal 12 (2 * (boats b * columns b)) (boats b * columns b) 5 6 b))))

@@ -75,10 +75,10 @@ body size back bs = take back (drop (body-offset size back bs) bs)
 unfoldable pub reaches : (size back : ℕ) → List ℕ → Bool
 reaches size back bs = leb back (length bs - size)
 
--- what refuses a body of `count` values: `place` for a back count that is wrong or reaches before the first byte,
--- then `range` for a value out of range; else 0
-unfoldable pub body-refusal : (size count place range : ℕ) → List ℕ → ℕ
-body-refusal size count place range bs =
-    let back = number 0 4 (trailer size bs) in
-    cond (not (eqb back (2 * count) && reaches size back bs)) place
-    (cond (all-in-range (values count (body size (2 * count) bs))) 0 range)
+-- what refuses a body that is to have `back` bytes and begins with `count` values: `place` for a back count that is wrong or reaches
+-- before the first byte, then `range` for a value out of range; else 0
+unfoldable pub body-refusal : (size back count place range : ℕ) → List ℕ → ℕ
+body-refusal size back count place range bs =
+    let own = number 0 4 (trailer size bs) in
+    cond (not (eqb own back && reaches size own bs)) place
+    (cond (all-in-range (values count (body size back bs))) 0 range)

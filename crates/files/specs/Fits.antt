@@ -5,6 +5,7 @@ use mathlib.Core.List.{List, []}
 use Prim.Native.Nat.{ℕ, _≤_, _<_}
 use lib.ListN.{length, getD}
 use lib.IntN.{pos, natAbs}
+use Rattle.frank_wolfe.specs.Vectors.{sum}
 use Rattle.files.specs.Bytes.{all-in-range}
 use Rattle.files.specs.Book.{boats, columns, Book-whole, rows, all-rows-in-range}
 use Rattle.files.specs.Sheet.{sheet-columns, Sheet-whole, sheet}
@@ -31,6 +32,9 @@ pub record Sheet-fits (columns : ℕ) (s : List ℕ) : Type 0 where
   pub target-length : length (sheet s .target) ≡ columns
   pub target-in-range : all-in-range (sheet s .target) ≡ true
   pub target-bound : (j : ℕ) → natAbs (getD (sheet s .target) j (pos 0)) ≤ 2000
+  pub factor-count : length (sheet s .factors) ≡ columns
+  pub some-factor : 1 ≤ sum (sheet s .factors)
+  pub few-factors : sum (sheet s .factors) ≤ 64
   pub some-steps : 1 ≤ sheet s .steps
   pub most-steps : sheet s .steps ≤ 360
   pub most-tolerance : sheet s .tolerance ≤ 1024000000

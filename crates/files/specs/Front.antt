@@ -5,7 +5,7 @@ use mathlib.Core.List.{List, _++_}
 use Prim.Native.Nat.{ℕ, _+_, _≤_}
 use lib.ListN.{length}
 use Rattle.files.specs.Book.{boats, columns, Book-whole, rows, book-refusal}
-use Rattle.files.specs.Sheet.{Sheet-whole, sheet, sheet-refusal, files-refusal}
+use Rattle.files.specs.Sheet.{Sheet-whole, sheet, sheet-refusal-in, files-refusal}
 
 -- a front and a file of at most 40,000 bytes together
 abbrev pub Front-fits : (front file : List ℕ) → Type 0
@@ -18,8 +18,8 @@ Book-front-unread =
 
 unfoldable pub Sheet-front-unread : Type 0
 Sheet-front-unread =
-    (f g s : List ℕ) (c : ℕ) → Sheet-whole s → Front-fits f s → Front-fits g s →
-    (sheet (f ++ s) ≡ sheet (g ++ s)) × (sheet-refusal c (f ++ s) ≡ sheet-refusal c (g ++ s))
+    (f g s : List ℕ) (least most : ℕ) → Sheet-whole s → Front-fits f s → Front-fits g s →
+    (sheet (f ++ s) ≡ sheet (g ++ s)) × (sheet-refusal-in least most (f ++ s) ≡ sheet-refusal-in least most (g ++ s))
 
 unfoldable pub Files-front-unread : Type 0
 Files-front-unread =

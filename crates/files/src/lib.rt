@@ -1,15 +1,16 @@
 // Fleet books and sheets read: their fields, and the value of a row or a target. docs/formats.md has the files.
 //
-// Helpers for other crates, whose callers prove what they require: u16_at, u32_at, u64_at and value_at read at an offset;
-// boats, columns, book_body and row_value a fleet book, sheet_columns, steps, tolerance, sheet_body and target_value a sheet.
+// Helpers for other crates, whose callers prove what they require: u16_at, u32_at, u64_at and value_at read at an offset, ends_with
+// at the end; boats, columns, book_body and row_value a fleet book, sheet_columns, steps, tolerance, sheet_back, sheet_body and
+// target_value a sheet.
 ghost use mathlib.Core.Path.{_≡_};
 ghost use mathlib.Core.List.{[]};
-ghost use Prim.Native.Nat.{_+_, _*_, _≤_, _<_};
-ghost use lib.ListN.{length, getD};
+ghost use Prim.Native.Nat.{_+_, _-_, _*_, _≤_, _<_};
+ghost use lib.ListN.{length, getD, drop};
 ghost use lib.IntN.{pos};
-ghost use Rattle.files.specs.Bytes.{number, value};
+ghost use Rattle.files.specs.Bytes.{number, value, same};
 ghost use Rattle.files.specs.Book.{boats, columns, Book-whole, rows-offset, rows};
-ghost use Rattle.files.specs.Sheet.{sheet-columns, Sheet-whole, target-offset};
+ghost use Rattle.files.specs.Sheet.{sheet-columns, factor-bytes, sheet-back, Sheet-whole, target-offset};
 ghost use Rattle.files.specs.Sheet as Sheets;
 
 // The most steps that a sheet may ask for.
@@ -54,6 +55,22 @@ pub fn value_at(b: &[u8], at: usize) -> i32
     ensures { λ r. ⌜ r ≡ value (number at 2 (now (b .entry))) ⌝ }
 {
     ((u16_at(b, at) + 32768) % 65536) as i32 - 32768
+}
+
+// Whether a file ends with these letters.
+pub fn ends_with(b: &[u8], letters: &[u8]) -> bool
+    requires { ⌜ length (now letters) ≤ length (now b) ⌝ }
+    ensures { λ r. ⌜ r ≡ same (drop (length (now (b .entry)) - length (now (letters .entry))) (now (b .entry))) (now (letters .entry)) ⌝ }
+{
+    let at = b.len() - letters.len();
+    let mut i = 0;
+    while i < letters.len() {
+        if b[at + i] != letters[i] {
+            return false;
+        }
+        i += 1;
+    }
+    true
 }
 
 // The boats of a fleet book.
@@ -114,12 +131,32 @@ pub fn tolerance(sheet: &[u8]) -> u32
     u32_at(sheet, sheet.len() - 8)
 }
 
+// How many bytes of factors a sheet has: one a column in the edition WSH2, none in WSH1.
+fn factor_bytes(sheet: &[u8]) -> usize
+    requires { ⌜ 16 ≤ length (now sheet) ⌝ }
+    ensures { λ r. ⌜ r ≡ factor-bytes (now (sheet .entry)) ⌝ }
+    ensures { λ r. ⌜ r < 65536 ⌝ }
+{
+    if ends_with(sheet, b"WSH2") {
+        return sheet_columns(sheet) as usize;
+    }
+    0
+}
+
+// How many bytes a sheet's body is to have.
+pub fn sheet_back(sheet: &[u8]) -> usize
+    requires { ⌜ 16 ≤ length (now sheet) ⌝ }
+    ensures { λ r. ⌜ r ≡ sheet-back (now (sheet .entry)) ⌝ }
+{
+    2 * (sheet_columns(sheet) as usize) + factor_bytes(sheet)
+}
+
 // The offset of a sheet's target.
 pub fn sheet_body(sheet: &[u8]) -> usize
     requires { ⌜ Sheet-whole (now sheet) ⌝ }
     ensures { λ r. ⌜ r ≡ target-offset (now (sheet .entry)) ⌝ }
 {
-    sheet.len() - 16 - 2 * (sheet_columns(sheet) as usize)
+    sheet.len() - 16 - sheet_back(sheet)
 }
 
 // The target's value in column `j`.

@@ -215,6 +215,11 @@ unfolding sum
 sum-zero zero = refl
 sum-zero (suc n) = omega (arith, sum-zero n)
 
+pub sum-ones : (n : ℕ) → sum (ones n) ≡ n
+unfolding sum
+sum-ones zero = refl
+sum-ones (suc n) = omega (arith, sum-ones n)
+
 pub combination-zero : (c : ℕ) (vs : List (List ℤ)) → Wide c vs → combination c (replicate (length vs) 0) vs ≡ replicate c (pos 0)
 unfolding combination
 combination-zero c [] wide = refl

@@ -11,13 +11,14 @@ use Rattle.files.specs.Book.{columns, rows}
 use Rattle.files.specs.Sheet.{sheet, target-offset, files-refusal}
 use Rattle.frank_wolfe.specs.Vectors.{ones}
 use Rattle.method.specs.declared.Test.the-variants.{Sharper}
-use Rattle.method.specs.Problem.{fixed, problem, weight}
+use Rattle.method.specs.Problem.{fixed, weight}
+use Rattle.method.specs.Plain.{plain-problem}
 use Rattle.method.specs.Iterates as M
 use Rattle.method.specs.Iterates.{direction, residual}
 use Rattle.method.specs.Answers.{answer-at}
 use Rattle.method.specs.Minimum.{minimum}
 use Rattle.method.proofs.Weights.{weight-most}
-use Rattle.method.proofs.Accepted.{mixed, residual-entries, residual-length}
+use Rattle.method.proofs.Plain.{mixed, residual-entries, residual-length}
 use Rattle.iteration.specs.declared.Layout.{Layout}
 use Rattle.iteration.specs.declared.State.{State}
 use Rattle.iteration.specs.States.{file-layout, iterate-of, Holds}
@@ -27,7 +28,7 @@ use Rattle.iteration.proofs.Mixed.{mixed-sized, mixed-judged, mixed-ans
 
 module _ (b s : List ℕ) (ok : files-refusal b s ≡ 0) {t : ℕ} {x : State} (H : Holds b s (suc t) x) (few : suc t ≤ 360) where
   abbrev r : List ℤ
-  r = residual (problem b s) (suc t) (iterate-of b s (suc t))
+  r = residual (plain-problem b s) (suc t) (iterate-of b s (suc t))
 
   abbrev w : ℕ
   w = weight fixed (suc t)
@@ -62,11 +63,11 @@ module _ (b s : List ℕ) (ok : files-refusal b s ≡ 0) {t : ℕ} {x : State} (
       })
 
   pub answer-measured : measure Sharper (suc t) w (sheet s .tolerance) (take (columns b) (x .residual)) (values (columns b) (drop (target-offset s) s)) (x .least)
-      ≡ answer-at Sharper (problem b s) (suc t) (iterate-of b s (suc t))
+      ≡ answer-at Sharper (plain-problem b s) (suc t) (iterate-of b s (suc t))
   answer-measured = rw (front, target-is b s ok, least-is) (mixed-answer b s ok (omega arith) few (mixed b s ok (suc t)) Sharper)
 
   pub answer-right : {l : Layout} → l ≡ file-layout b s →
       measure Sharper (x .steps) (weight fixed (x .steps)) (sheet s .tolerance) (take (l .columns) (x .residual)) (values (l .columns) (drop (l .target) s)) (x .least)
-      ≡ answer-at Sharper (problem b s) (suc t) (iterate-of b s (suc t))
+      ≡ answer-at Sharper (plain-problem b s) (suc t) (iterate-of b s (suc t))
   unfolding file-layout
   answer-right e = rw (e, H .steps-are) answer-measured

@@ -11,12 +11,13 @@ use Rattle.files.specs.Sheet.{sheet, files-refusal}
 use Rattle.frank_wolfe.specs.Vectors.{add, subtract, scale}
 use Rattle.method.specs.declared.Test.the-variants.{Sharper}
 use Rattle.method.specs.declared.Answer.{Answer}
-use Rattle.method.specs.Problem.{problem, weight}
+use Rattle.method.specs.Problem.{weight}
+use Rattle.method.specs.Plain.{plain-problem}
 use Rattle.method.specs.Iterates.{residual}
 use Rattle.method.specs.Answers.{answer-at}
 use Rattle.method.specs.Minimum.{minimum}
 use Rattle.method.proofs.Argmin.{argmin-at}
-use Rattle.method.proofs.Accepted.{residual-length}
+use Rattle.method.proofs.Plain.{residual-length}
 use Rattle.sums.specs.Operands.{Span, Movable}
 use Rattle.scoring.specs.Scores.{least-of, pick-of}
 use Rattle.scoring.specs.declared.Least.{Least}
@@ -64,13 +65,13 @@ module _ (b s : List ℕ) (ok : files-refusal b s ≡ 0) {i : ℕ} (h : i ≡ pi
       unfolding file-layout fresh-state
       held =
           next-holds b s ok fresh-held
-          (rw picks (moved-is b s ok (residual (problem b s) 0 (iterate-of b s 0)) (replicate (64 - columns b) (pos 0)) i 1 pick-below (residual-length b s ok 0) (fresh-held .residual-is) (rw e at er)))
+          (rw picks (moved-is b s ok (residual (plain-problem b s) 0 (iterate-of b s 0)) (replicate (64 - columns b) (pos 0)) i 1 pick-below (residual-length b s ok 0) (fresh-held .residual-is) (rw e at er)))
           refl least-is
 
       pub first-measurable : Measurable r 1 z s l
       unfolding weight
       first-measurable = answerable b s ok held (omega arith) e .numbers
 
-      pub first-right : {a : Answer} → a ≡ measure Sharper 1 1 (sheet s .tolerance) (take (l .columns) r) (values (l .columns) (drop (l .target) s)) z → a ≡ answer-at Sharper (problem b s) 1 (iterate-of b s 1)
+      pub first-right : {a : Answer} → a ≡ measure Sharper 1 1 (sheet s .tolerance) (take (l .columns) r) (values (l .columns) (drop (l .target) s)) z → a ≡ answer-at Sharper (plain-problem b s) 1 (iterate-of b s 1)
       unfolding weight
       first-right f = f ∙ answer-right b s ok held (omega arith) e

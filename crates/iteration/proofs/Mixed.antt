@@ -13,7 +13,8 @@ use Rattle.files.specs.Sheet.{sheet, files-refusal}
 use Rattle.frank_wolfe.specs.Vectors.{inner, weighted, weighted-norm, ones, squared-norm}
 use Rattle.frank_wolfe.proofs.Vectors.{weighted-ones, norm-ones}
 use Rattle.method.specs.declared.Test.{Test}
-use Rattle.method.specs.Problem.{fixed, problem, weight}
+use Rattle.method.specs.Problem.{fixed, weight}
+use Rattle.method.specs.Plain.{plain-problem}
 use Rattle.method.specs.Iterates as M
 use Rattle.method.specs.Iterates.{Iterate, residual, distance, gap, natural, argmin, row}
 use Rattle.method.specs.Answers.{answer-at}
@@ -22,7 +23,7 @@ use Rattle.method.proofs.Weights.{fixed-fits, weight-positive, weight-most, wei
 use Rattle.method.proofs.Argmin.{argmin-below, among-row, least-score}
 use Rattle.method.proofs.Shares.{Mixed, mixed-length}
 use Rattle.method.proofs.Mixtures.{length-residual, gap-by-distance, gap-is, score-most, distance-most, gap-most}
-use Rattle.method.proofs.Accepted.{well-formed, in-range}
+use Rattle.method.proofs.Plain.{well-formed, in-range}
 use Rattle.sums.specs.Operands.{Gap-sized}
 use Rattle.verdicts.specs.Sizes.{Judgeable}
 use Rattle.iteration.specs.Measures.{gap-by, measure}
@@ -31,28 +32,28 @@ use Rattle.iteration.proofs.States.{sheet-fits}
 zero-≤ : (n : ℕ) → 0 ≤ n
 zero-≤ n = omega arith
 
-module _ (b s : List ℕ) (ok : files-refusal b s ≡ 0) {t : ℕ} {x : Iterate} (some : 1 ≤ t) (few : t ≤ 360) (m : Mixed (problem b s) t x) where
+module _ (b s : List ℕ) (ok : files-refusal b s ≡ 0) {t : ℕ} {x : Iterate} (some : 1 ≤ t) (few : t ≤ 360) (m : Mixed (plain-problem b s) t x) where
   abbrev u : List ℤ
   u = sheet s .target
 
   abbrev r : List ℤ
-  r = residual (problem b s) t x
+  r = residual (plain-problem b s) t x
 
   abbrev w : ℕ
   w = weight fixed t
 
   abbrev scores : List ℤ
-  scores = M.scores (ones (columns b)) (residual (problem b s) t x) (rows b)
+  scores = M.scores (ones (columns b)) (residual (plain-problem b s) t x) (rows b)
 
   some-weight : 1 ≤ w
   some-weight = weight-positive fixed-fits some
 
   long : length (x .point) ≡ columns b
-  unfolding problem
+  unfolding plain-problem
   long = mixed-length (well-formed b s ok .wide) m
 
   residual-long : length r ≡ columns b
-  unfolding problem
+  unfolding plain-problem
   residual-long = length-residual (well-formed b s ok) t x long
 
   norm-is : weighted-norm (ones (columns b)) r ≡ squared-norm r
@@ -61,34 +62,34 @@ module _ (b s : List ℕ) (ok : files-refusal b s ≡ 0) {t : ℕ} {x : Iterate}
   target-score : weighted (ones (columns b)) r u ≡ inner r u
   target-score = weighted-ones (columns b) r u residual-long
 
-  gap-integer : gap-by w r u (minimum scores) ≡ pos (gap (problem b s) t x)
-  unfolding problem distance
+  gap-integer : gap-by w r u (minimum scores) ≡ pos (gap (plain-problem b s) t x)
+  unfolding plain-problem distance
   gap-integer = rw (← norm-is, ← target-score) (sym (gap-by-distance (well-formed b s ok) t x long some-weight) ∙ gap-is (well-formed b s ok) some-weight m)
 
   pub least-size : natAbs (minimum (M.scores (ones (columns b)) r (rows b))) ≤ 512000000 * w
-  unfolding problem
+  unfolding plain-problem
   least-size =
       rw (← least-score (ones (columns b)) r (rows b))
       (score-most (well-formed b s ok) (in-range b s ok) m (row (rows b) (argmin scores))
       (in-range b s ok .rows-bounded _ (among-row (rows b) (argmin scores) (argmin-below (ones (columns b)) r (rows b) (well-formed b s ok .some-row)))))
 
   square : squared-norm r < 4611686018427387904
-  unfolding problem distance
+  unfolding plain-problem distance
   square = rw (← norm-is) (lt-of-le-of-lt (distance-most (well-formed b s ok) (in-range b s ok) m) (weight-fits (weight-most few) (le-refl 1024000000)))
 
   pub mixed-sized : Gap-sized (squared-norm r) w (inner r u) (minimum (M.scores (ones (columns b)) r (rows b)))
-  unfolding problem
+  unfolding plain-problem
   mixed-sized =
       record {
         distance = square;
         few-shares = weight-most few;
         first = rw (← target-score) (score-most (well-formed b s ok) (in-range b s ok) m u (in-range b s ok .target-bounded));
         second = least-size;
-        sign = rw gap-integer (≤→≤ℤ (zero-≤ (gap (problem b s) t x)));
+        sign = rw gap-integer (≤→≤ℤ (zero-≤ (gap (plain-problem b s) t x)));
       }
 
   pub mixed-judged : Judgeable (sheet s .tolerance) w (squared-norm r) (natural (gap-by w r u (minimum (M.scores (ones (columns b)) r (rows b)))))
-  unfolding problem natural
+  unfolding plain-problem natural
   mixed-judged =
       rw gap-integer
       (record {
@@ -97,6 +98,6 @@ module _ (b s : List ℕ) (ok : files-refusal b s ≡ 0) {t : ℕ} {x : Iterate}
         gap = lt-of-le-of-lt (gap-most (well-formed b s ok) (in-range b s ok) m some-weight) (weight-fits (weight-most few) (le-refl 1024000000));
       })
 
-  pub mixed-answer : (test : Test) → measure test t w (sheet s .tolerance) r u (minimum (M.scores (ones (columns b)) r (rows b))) ≡ answer-at test (problem b s) t x
-  unfolding problem measure answer-at distance natural
+  pub mixed-answer : (test : Test) → measure test t w (sheet s .tolerance) r u (minimum (M.scores (ones (columns b)) r (rows b))) ≡ answer-at test (plain-problem b s) t x
+  unfolding plain-problem measure answer-at distance natural
   mixed-answer test = rw (gap-integer, norm-is)

@@ -16,14 +16,15 @@ use Rattle.files.proofs.Accepted.{files-accepted}
 use Rattle.files.proofs.Access.{rows-at, row-at, target-at}
 use Rattle.frank_wolfe.specs.Vectors.{add, subtract, scale, weighted, ones, sum}
 use Rattle.frank_wolfe.proofs.Vectors.{length-scale, length-subtract, weighted-symmetric, weighted-add, weighted-scale, weighted-zero, scale-one}
-use Rattle.method.specs.Problem.{problem, share}
+use Rattle.method.specs.Problem.{share}
+use Rattle.method.specs.Plain.{plain-problem}
 use Rattle.method.specs.Iterates as M
 use Rattle.method.specs.Iterates.{iterate, direction, active-argmin, pick, with-shares, step, start, row, residual}
 use Rattle.method.proofs.Argmin.{argmin-at, among-row, score-at, length-scores}
 use Rattle.method.proofs.Picks.{active-none, pick-below}
 use Rattle.method.proofs.Entries as E
 use Rattle.method.proofs.Shares.{residual-step, residual-start}
-use Rattle.method.proofs.Accepted.{in-range, few-ones, residual-length}
+use Rattle.method.proofs.Plain.{in-range, few-ones, residual-length}
 use Rattle.sums.specs.Operands.{Bounded, Span, Grid, Movable, Rows-bounded, Rescorable}
 use Rattle.scoring.specs.Scores.{least-of, pick-of}
 use Rattle.scoring.specs.declared.Least.{Least}
@@ -115,7 +116,7 @@ module _ (b s : List ℕ) (ok : files-refusal b s ≡ 0) where
   -- ---- Products
 
   difference-bounded : (i : ℕ) → i < boats b → (j : ℕ) → natAbs (getD (subtract (row (rows b) i) (sheet s .target)) j (pos 0)) ≤ 4000
-  unfolding problem
+  unfolding plain-problem
   difference-bounded i h =
       E.bounded-subtract (in-range b s ok .rows-bounded (row (rows b) i) (among-row (rows b) i (omega (arith, book-fits .row-count)))) (in-range b s ok .target-bounded) .each
 
@@ -147,7 +148,7 @@ module _ (b s : List ℕ) (ok : files-refusal b s ≡ 0) where
   product-count i = length-scores (ones (columns b)) (subtract (row (rows b) i) (sheet s .target)) (rows b) ∙ book-fits .row-count
 
   product-size : (i : ℕ) → i < boats b → (q : ℕ) → q < boats b → natAbs (getD (boat-products b s i) q (pos 0)) ≤ 512000000
-  unfolding problem
+  unfolding plain-problem
   product-size i h q k =
       let f = in-range b s ok in
       let m : natAbs (weighted (ones (columns b)) (subtract (row (rows b) i) (sheet s .target)) (row (rows b) q)) ≤ sum (ones (columns b)) * (4000 * 2000) =
@@ -172,9 +173,9 @@ module _ (b s : List ℕ) (ok : files-refusal b s ≡ 0) where
   -- ---- The fresh state
 
   pub fresh-holds : {p : Least} → p ≡ least-of (boat-products b s 0) → Holds b s 0 (fresh-state p)
-  unfolding problem iterate start direction pick active-argmin least-of fresh-state
+  unfolding plain-problem iterate start direction pick active-argmin least-of fresh-state
   fresh-holds e =
-      let z : residual (problem b s) 0 (start (problem b s)) ≡ replicate (columns b) (pos 0) = residual-start (problem b s) (sheet-fits .target-length) in
+      let z : residual (plain-problem b s) 0 (start (plain-problem b s)) ≡ replicate (columns b) (pos 0) = residual-start (plain-problem b s) (sheet-fits .target-length) in
       record {
         steps-are = refl;
         residual-is = rw z (replicate-parts (columns b) 64 (pos 0) (book-fits .most-columns));
@@ -185,46 +186,46 @@ module _ (b s : List ℕ) (ok : files-refusal b s ≡ 0) where
   -- ---- The next state
 
   pub best-below : {t : ℕ} {x : State} → Holds b s t x → x .best < boats b
-  unfolding problem
+  unfolding plain-problem
   best-below {t} H =
       rw (H .best-is)
-      (rw (book-fits .row-count) at (pick-below (problem b s) (direction (problem b s) t (iterate-of b s t)) (iterate-of b s t) (omega (arith, book-fits .row-count, book-fits .some-boats))))
+      (rw (book-fits .row-count) at (pick-below (plain-problem b s) (direction (plain-problem b s) t (iterate-of b s t)) (iterate-of b s t) (omega (arith, book-fits .row-count, book-fits .some-boats))))
 
   pub next-holds : {t : ℕ} {x : State} → Holds b s t x → {r : List ℤ} →
-      r ≡ add (residual (problem b s) t (iterate-of b s t)) (scale (suc t) (subtract (row (rows b) (x .best)) (sheet s .target))) ++ replicate (64 - columns b) (pos 0) →
+      r ≡ add (residual (plain-problem b s) t (iterate-of b s t)) (scale (suc t) (subtract (row (rows b) (x .best)) (sheet s .target))) ++ replicate (64 - columns b) (pos 0) →
       {p : Least} → p ≡ pick-of (iterate-of b s (suc t) .shares) (scores-of b s (suc t)) → {z : ℤ} → z ≡ p .score →
       Holds b s (suc t) (record { steps = suc t; residual = r; best = p .boat; least = z })
-  unfolding problem share pick iterate pick-of
+  unfolding plain-problem share pick iterate pick-of
   next-holds {t} {x} H e ep ez =
       record {
         steps-are = refl;
         residual-is = e ∙ rw (H .best-is) (ap (λ (l : List ℤ). l ++ replicate (64 - columns b) (pos 0))
-            (sym (residual-step (problem b s) t (direction (problem b s) t (iterate-of b s t)) (iterate-of b s t))));
+            (sym (residual-step (plain-problem b s) t (direction (plain-problem b s) t (iterate-of b s t)) (iterate-of b s t))));
         best-is = ap (λ (y : Least). y .boat) ep;
         least-is = ez ∙ ap (λ (y : Least). y .score) ep;
       }
 
   -- the shares of the next iterate
   pub next-shares : {t : ℕ} {x : State} → Holds b s t x → set (iterate-of b s t .shares) (x .best) (getD (iterate-of b s t .shares) (x .best) 0 + suc t) ≡ iterate-of b s (suc t) .shares
-  unfolding problem share iterate step with-shares
+  unfolding plain-problem share iterate step with-shares
   next-shares H = rw (H .best-is)
 
   -- the scores move with the residual
   pub next-scores : {t : ℕ} {x : State} → Holds b s t x →
-      add (M.scores (ones (columns b)) (residual (problem b s) t (iterate-of b s t)) (rows b)) (scale (suc t) (boat-products b s (x .best))) ≡ scores-of b s (suc t)
-  unfolding problem share iterate direction
+      add (M.scores (ones (columns b)) (residual (plain-problem b s) t (iterate-of b s t)) (rows b)) (scale (suc t) (boat-products b s (x .best))) ≡ scores-of b s (suc t)
+  unfolding plain-problem share iterate direction
   next-scores {t} {x} H =
       rw (H .best-is)
-      (sym (scores-add (ones (columns b)) (residual (problem b s) t (iterate-of b s t)) (subtract (row (rows b) (pick-at b s t)) (sheet s .target)) (suc t) (rows b)
+      (sym (scores-add (ones (columns b)) (residual (plain-problem b s) t (iterate-of b s t)) (subtract (row (rows b) (pick-at b s t)) (sheet s .target)) (suc t) (rows b)
       (residual-length b s ok t ∙ sym (length-difference (pick-at b s t) (rw (H .best-is) at (best-below H)))))
-      ∙ ap (λ r. M.scores (ones (columns b)) r (rows b)) (sym (residual-step (problem b s) t (direction (problem b s) t (iterate-of b s t)) (iterate-of b s t))))
+      ∙ ap (λ r. M.scores (ones (columns b)) r (rows b)) (sym (residual-step (plain-problem b s) t (direction (plain-problem b s) t (iterate-of b s t)) (iterate-of b s t))))
 
   -- at the first step they are the boat's products
   pub first-scores : {x : State} → Holds b s 0 x → boat-products b s (x .best) ≡ scores-of b s 1
-  unfolding problem iterate start
+  unfolding plain-problem iterate start
   first-scores {x} H =
-      let z : M.scores (ones (columns b)) (residual (problem b s) 0 (iterate-of b s 0)) (rows b) ≡ replicate (boats b) (pos 0) =
-      rw (residual-start (problem b s) (sheet-fits .target-length), scores-zero (ones (columns b)) (columns b) (rows b), book-fits .row-count) in
+      let z : M.scores (ones (columns b)) (residual (plain-problem b s) 0 (iterate-of b s 0)) (rows b) ≡ replicate (boats b) (pos 0) =
+      rw (residual-start (plain-problem b s) (sheet-fits .target-length), scores-zero (ones (columns b)) (columns b) (rows b), book-fits .row-count) in
       let a : add (replicate (boats b) (pos 0)) (scale 1 (boat-products b s (x .best))) ≡ boat-products b s (x .best) =
       rw (scale-one (boat-products b s (x .best))) (zeros-add (boats b) (boat-products b s (x .best)) (product-count (x .best))) in
       sym a ∙ rw (← z) (next-scores H)

@@ -13,11 +13,12 @@ use Rattle.files.specs.Bytes.{values}
 use Rattle.files.specs.Book.{boats, columns, rows, rows-from}
 use Rattle.files.specs.Sheet.{files-refusal}
 use Rattle.frank_wolfe.specs.Vectors.{add, subtract, scale, ones}
-use Rattle.method.specs.Problem.{fixed, problem, weight}
+use Rattle.method.specs.Problem.{fixed, weight}
+use Rattle.method.specs.Plain.{plain-problem}
 use Rattle.method.specs.Iterates as M
 use Rattle.method.specs.Iterates.{residual}
 use Rattle.method.proofs.Weights.{weight-most, weight-more}
-use Rattle.method.proofs.Accepted.{residual-entries, residual-length}
+use Rattle.method.proofs.Plain.{residual-entries, residual-length}
 use Rattle.sums.specs.Operands.{Bounded, Span, Grid, Movable, Rows-bounded}
 use Rattle.scoring.specs.Scores.{least-of, pick-of}
 use Rattle.scoring.specs.declared.Least.{Least}
@@ -86,7 +87,7 @@ module _ (b s : List ℕ) (ok : files-refusal b s ≡ 0) {l : Layout} (e : l ≡
 
     old-entry : (j : ℕ) → j < columns b → natAbs (getD (x .residual) j (pos 0)) ≤ 4000 * weight fixed (x .steps)
     old-entry j h =
-        let f : take (columns b) (x .residual) ≡ residual (problem b s) (x .steps) (iterate-of b s (x .steps)) =
+        let f : take (columns b) (x .residual) ≡ residual (plain-problem b s) (x .steps) (iterate-of b s (x .steps)) =
         ap (take (columns b)) (H .residual-is) ∙ take-at _ (replicate (64 - columns b) (pos 0)) (columns b) (residual-length b s ok (x .steps)) in
         rw (← getD-take (columns b) (x .residual) j (pos 0) h, f) (residual-entries b s ok (x .steps) j)
 
@@ -111,6 +112,6 @@ module _ (b s : List ℕ) (ok : files-refusal b s ≡ 0) {l : Layout} (e : l ≡
     next-result er ep ez =
         rw add-one
         (next-holds b s ok H
-        (moved-is b s ok (residual (problem b s) (x .steps) (iterate-of b s (x .steps))) (replicate (64 - columns b) (pos 0)) (x .best) (suc (x .steps)) (best-below b s ok H)
+        (moved-is b s ok (residual (plain-problem b s) (x .steps) (iterate-of b s (x .steps))) (replicate (64 - columns b) (pos 0)) (x .best) (suc (x .steps)) (best-below b s ok H)
         (residual-length b s ok (x .steps)) (H .residual-is) (rw (e, add-one) at er))
         (rw add-one at ep) ez)

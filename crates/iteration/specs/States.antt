@@ -6,7 +6,7 @@ use lib.ListN.{replicate}
 use lib.IntN.{ℤ, pos}
 use Rattle.files.specs.Book.{boats, columns, rows, rows-offset}
 use Rattle.files.specs.Sheet.{sheet, target-offset}
-use Rattle.method.specs.Problem.{problem}
+use Rattle.method.specs.Plain.{plain-problem}
 use Rattle.method.specs.Iterates as M
 use Rattle.method.specs.Iterates.{Iterate, iterate, direction, pick, row}
 use Rattle.method.specs.Minimum.{minimum}
@@ -20,15 +20,15 @@ file-layout b s = record { boats = boats b; columns = columns b; rows = rows-off
 
 -- the iterate of a fleet book and a sheet after t steps
 abbrev pub iterate-of : (b s : List ℕ) → (t : ℕ) → Iterate
-iterate-of b s t = iterate (problem b s) t
+iterate-of b s t = iterate (plain-problem b s) t
 
 -- the scores that step t + 1 picks by
 abbrev pub scores-of : (b s : List ℕ) → (t : ℕ) → List ℤ
-scores-of b s t = M.scores (ones (columns b)) (direction (problem b s) t (iterate-of b s t)) (rows b)
+scores-of b s t = M.scores (ones (columns b)) (direction (plain-problem b s) t (iterate-of b s t)) (rows b)
 
 -- the boat that step t + 1 picks
 abbrev pub pick-at : (b s : List ℕ) → (t : ℕ) → ℕ
-pick-at b s t = pick (problem b s) (direction (problem b s) t (iterate-of b s t)) (iterate-of b s t)
+pick-at b s t = pick (plain-problem b s) (direction (plain-problem b s) t (iterate-of b s t)) (iterate-of b s t)
 
 -- a boat's row less the target
 abbrev pub boat-difference : (b s : List ℕ) → (boat : ℕ) → List ℤ
@@ -45,6 +45,6 @@ fresh-state p = record { steps = 0; residual = replicate 64 (pos 0); best = p .b
 -- the state x holds the residual of the iterate after t steps, and the boat that the next step picks, with its score, which is the least
 pub record Holds (b s : List ℕ) (t : ℕ) (x : State) : Type 0 where
   pub steps-are : x .steps ≡ t
-  pub residual-is : x .residual ≡ M.residual (problem b s) t (iterate-of b s t) ++ replicate (64 - columns b) (pos 0)
+  pub residual-is : x .residual ≡ M.residual (plain-problem b s) t (iterate-of b s t) ++ replicate (64 - columns b) (pos 0)
   pub best-is : x .best ≡ pick-at b s t
   pub least-is : x .least ≡ minimum (scores-of b s t)

@@ -10,7 +10,8 @@ ghost use Rattle.files.specs.Book.{boats, columns};
 ghost use Rattle.files.specs.Sheet.{files-refusal};
 ghost use Rattle.files.specs.Bytes.{values};
 ghost use Rattle.method.specs.declared.Test.the-variants.{Sharper};
-ghost use Rattle.method.specs.Problem.{fixed, weight, problem};
+ghost use Rattle.method.specs.Problem.{fixed, weight};
+ghost use Rattle.method.specs.Plain.{plain-problem};
 ghost use Rattle.method.specs.Answers.{answer-at};
 ghost use Rattle.scoring.specs.Scores.{least-of, pick-of};
 ghost use Rattle.iteration.specs.States.{file-layout, boat-difference, boat-products, iterate-of, scores-of, pick-at, fresh-state, Holds};
@@ -167,7 +168,7 @@ pub fn first_answer(boat: usize, book: &[u8], sheet: &[u8], layout: Layout) -> A
     requires { ⌜ files-refusal (now book) (now sheet) ≡ 0 ⌝ }
     requires { ⌜ layout ≡ file-layout (now book) (now sheet) ⌝ }
     requires { ⌜ boat ≡ pick-at (now book) (now sheet) 0 ⌝ }
-    ensures { λ x. ⌜ x ≡ answer-at Sharper (problem (now (book .entry)) (now (sheet .entry))) 1 (iterate-of (now (book .entry)) (now (sheet .entry)) 1) ⌝ }
+    ensures { λ x. ⌜ x ≡ answer-at Sharper (plain-problem (now (book .entry)) (now (sheet .entry))) 1 (iterate-of (now (book .entry)) (now (sheet .entry)) 1) ⌝ }
 {
     let rows = layout.rows;
     let target = layout.target;

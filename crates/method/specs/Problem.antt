@@ -3,7 +3,6 @@
 use mathlib.Core.List.{List}
 use Prim.Native.Nat.{ℕ, suc, _+_, _*_, _/_}
 use lib.IntN.{ℤ}
-use Rattle.frank_wolfe.specs.Vectors.{ones}
 use Rattle.files.specs.Book.{rows, columns}
 use Rattle.files.specs.Sheet.{sheet}
 
@@ -35,15 +34,19 @@ pub record Problem : Type 0 where
   -- how many steps a run may take
   pub steps : ℕ
 
--- the problem of a fleet book and a sheet, as bytes: a vertex for every boat, every factor 1, and step k gives k shares
-unfoldable pub problem : (book sheet : List ℕ) → Problem
-problem b s =
+-- the problem of a fleet book and a sheet, as bytes, with these factors: a vertex for every boat, and step k gives k shares
+abbrev pub problem-with : (factors book sheet : List ℕ) → Problem
+problem-with fs b s =
     record {
       columns = columns b;
       vertices = rows b;
       target = sheet s .target;
-      factors = ones (columns b);
+      factors = fs;
       schedule = fixed;
       tolerance = sheet s .tolerance;
       steps = sheet s .steps;
     }
+
+-- the problem of a fleet book and a sheet: the factors are the sheet's
+unfoldable pub problem : (book sheet : List ℕ) → Problem
+problem b s = problem-with (sheet s .factors) b s

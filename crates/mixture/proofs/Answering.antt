@@ -16,7 +16,8 @@ use Rattle.files.specs.Sheet.{sheet, files-refusal}
 use Rattle.files.proofs.Access.{rows-at}
 use Rattle.method.specs.declared.Test.{Test}
 use Rattle.method.specs.declared.Answer.{Answer}
-use Rattle.method.specs.Problem.{fixed, problem, weight}
+use Rattle.method.specs.Problem.{fixed, weight}
+use Rattle.method.specs.Plain.{plain-problem}
 use Rattle.method.specs.Iterates as M
 use Rattle.method.specs.Iterates.{Iterate, residual}
 use Rattle.method.specs.Bounds.{mixture-iterate, answer-of}
@@ -25,7 +26,7 @@ use Rattle.method.proofs.Weights.{weight-most}
 use Rattle.method.proofs.Argmin.{argmin-at}
 use Rattle.method.proofs.Shares.{Mixed, shares-mixed}
 use Rattle.method.proofs.Mixtures.{residual-bounded}
-use Rattle.method.proofs.Accepted.{in-range}
+use Rattle.method.proofs.Plain.{in-range}
 use Rattle.scoring.specs.declared.Least.{Least}
 use Rattle.sums.specs.Operands.{Bounded, Grid}
 use Rattle.scoring.specs.Scores.{least-of}
@@ -46,18 +47,18 @@ module _ (b s : List ℕ) (ok : files-refusal b s ≡ 0) {l : Layout} (e : l ≡
 
   module _ (slots : length shares ≡ 256) where
     abbrev x : Iterate
-    x = mixture-iterate (problem b s) (take (boats b) shares)
+    x = mixture-iterate (plain-problem b s) (take (boats b) shares)
 
     abbrev r : List ℤ
-    r = residual (problem b s) t (mixture-iterate (problem b s) (take (boats b) shares))
+    r = residual (plain-problem b s) t (mixture-iterate (plain-problem b s) (take (boats b) shares))
 
     abbrev w : ℕ
     w = weight fixed t
 
-    mixed : Mixed (problem b s) t x
-    unfolding problem
+    mixed : Mixed (plain-problem b s) t x
+    unfolding plain-problem
     mixed =
-        shares-mixed (problem b s) t (take (boats b) shares)
+        shares-mixed (plain-problem b s) t (take (boats b) shares)
         (length-take-le (boats b) shares (omega (arith, book-fits b s ok .most-boats)) ∙ sym (book-fits b s ok .row-count)) total
 
     -- ---- The residual and the scores of the code
@@ -65,11 +66,11 @@ module _ (b s : List ℕ) (ok : files-refusal b s ≡ 0) {l : Layout} (e : l ≡
     module _ (now : List ℤ) (n : length now ≡ 64)
         (en : take (columns b) now ≡ subtract (combination (columns b) (take (boats b) shares) (rows b)) (scale (sum (take (boats b) shares)) (sheet s .target))) where
       residual-is : take (columns b) now ≡ r
-      unfolding problem residual
+      unfolding plain-problem residual
       residual-is = en ∙ rw total
 
       pub entries : Bounded 260000000 (l .columns) now
-      unfolding problem file-layout
+      unfolding plain-problem file-layout
       entries = rw e (bounded-front b s ok (4000 * w) now r n residual-is (residual-bounded (in-range b s ok) mixed .each) (omega (arith, weight-most few)))
 
       module _ {lo : Least} (h : lo ≡ least-of (M.scores (ones (l .columns)) (take (l .columns) now) (rows-from (l .boats) (l .columns) (drop (l .rows) b)))) where
@@ -99,6 +100,6 @@ module _ (b s : List ℕ) (ok : files-refusal b s ≡ 0) {l : Layout} (e : l ≡
 
         pub answered : (test : Test) {a : Answer} →
             a ≡ measure test t (weight fixed t) (sheet s .tolerance) (take (l .columns) now) (values (l .columns) (drop (l .target) s)) (toZ w64 (ofZ w64 (lo .score))) →
-            a ≡ answer-of test (problem b s) (take (boats b) shares) t
+            a ≡ answer-of test (plain-problem b s) (take (boats b) shares) t
         unfolding file-layout
         answered test f = f ∙ rw (e, least-read, residual-is, target-is b s ok) (mixed-answer b s ok some few mixed test)

@@ -15,11 +15,11 @@ use Rattle.frank_wolfe.proofs.Vectors.{Wide, wide-rest, length-add, length-scal
 use Rattle.files.specs.Bytes.{values}
 use Rattle.files.specs.Book.{boats, columns, rows, rows-offset}
 use Rattle.files.specs.Sheet.{sheet, target-offset, files-refusal}
-use Rattle.method.specs.Problem.{problem}
+use Rattle.method.specs.Plain.{plain-problem}
 use Rattle.method.specs.Iterates.{row}
 use Rattle.method.proofs.Argmin.{among-row}
 use Rattle.method.proofs.Entries as E
-use Rattle.method.proofs.Accepted.{well-formed, in-range}
+use Rattle.method.proofs.Plain.{well-formed, in-range}
 use Rattle.sums.specs.Operands.{Span, Movable}
 use Rattle.iteration.specs.declared.Layout.{Layout}
 use Rattle.iteration.specs.States.{file-layout}
@@ -131,7 +131,7 @@ module _ (b s : List ℕ) (ok : files-refusal b s ≡ 0) where
       each (suc n) (suc j) = each n j
 
   pub summing-start : {shares : List ℕ} → Summing b s shares 0 (replicate 64 (pos 0))
-  unfolding problem
+  unfolding plain-problem
   summing-start {shares} =
       let z = take-replicate (columns b) 64 (book-fits b s ok .most-columns) in
       record {
@@ -181,7 +181,7 @@ module _ (b s : List ℕ) (ok : files-refusal b s ≡ 0) where
       summing-moved few = (row-span b s ok i h, (target-span b s ok, movable b s ok r i q h (omega (arith, parts-next)) (room few)))
 
       difference-bounded : E.Bounded 4000 (subtract (row (rows b) i) (sheet s .target))
-      unfolding problem
+      unfolding plain-problem
       difference-bounded = E.bounded-subtract (in-range b s ok .rows-bounded _ (among-row (rows b) i (omega (arith, book-fits b s ok .row-count)))) (in-range b s ok .target-bounded)
 
       moved-front : (x : List ℤ) →

@@ -8,7 +8,8 @@ ghost use Rattle.frank_wolfe.specs.Vectors.{subtract, scale, sum, combination};
 ghost use Rattle.files.specs.Book.{boats, columns, rows};
 ghost use Rattle.files.specs.Sheet.{files-refusal};
 ghost use Rattle.files.specs.Sheet as Sheets;
-ghost use Rattle.method.specs.Problem.{fixed, weight, problem};
+ghost use Rattle.method.specs.Problem.{fixed, weight};
+ghost use Rattle.method.specs.Plain.{plain-problem};
 ghost use Rattle.iteration.specs.States.{file-layout};
 ghost use Rattle.method.specs.Bounds.{answer-of};
 use iteration::Layout;
@@ -52,7 +53,7 @@ pub fn answer_of(
     requires { ⌜ layout ≡ file-layout (now book) (now sheet) ⌝ }
     requires { do ⌜ (1 ≤ t) × (t ≤ (← ⟦State::MOST_STEPS⟧)) ⌝ }
     requires { ⌜ sum (take (boats (now book)) shares) ≡ weight fixed t ⌝ }
-    ensures { λ x. ⌜ x ≡ answer-of test (problem (now (book .entry)) (now (sheet .entry))) (take (boats (now (book .entry))) shares) t ⌝ }
+    ensures { λ x. ⌜ x ≡ answer-of test (plain-problem (now (book .entry)) (now (sheet .entry))) (take (boats (now (book .entry))) shares) t ⌝ }
 {
     let rows = layout.rows;
     let columns = layout.columns;

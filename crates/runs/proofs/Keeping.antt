@@ -12,12 +12,13 @@ use Rattle.integers.proofs.Filling.{replicate-parts}
 use Rattle.files.specs.Book.{boats, columns, rows}
 use Rattle.files.specs.Sheet.{files-refusal}
 use Rattle.frank_wolfe.specs.Vectors.{add, scale, ones}
-use Rattle.method.specs.Problem.{fixed, problem, weight}
+use Rattle.method.specs.Problem.{fixed, weight}
+use Rattle.method.specs.Plain.{plain-problem}
 use Rattle.method.specs.Iterates.{iterate, start, residual, direction, row}
 use Rattle.method.proofs.Weights.{weight-most, weight-more}
 use Rattle.method.proofs.Argmin.{among-row, score-at, length-scores}
 use Rattle.method.proofs.Mixtures.{score-most}
-use Rattle.method.proofs.Accepted.{well-formed, in-range, mixed, share-count}
+use Rattle.method.proofs.Plain.{well-formed, in-range, mixed, share-count}
 use Rattle.method.proofs.Shares.{mixed-share, residual-start}
 use Rattle.sums.specs.Operands.{Bounded, Rescorable}
 use Rattle.scoring.specs.Scores.{least-of, pick-of, Pickable}
@@ -54,7 +55,7 @@ module _ (b s : List ℕ) (ok : files-refusal b s ≡ 0) where
     share-is = sym (getD-take (boats b) qs (x .best) 0 (best-below b s ok H)) ∙ ap (λ (l : List ℕ). getD l (x .best) 0) (shared-front q)
 
     pub share-room : (x .best < length qs) × (getD qs (x .best) 0 + suc t < 65536)
-    unfolding problem
+    unfolding plain-problem
     share-room =
         let n : boats b ≤ length qs = shared-room q in
         let m : getD (iterate-of b s t .shares) (x .best) 0 ≤ weight fixed t = mixed-share (mixed b s ok t) (x .best) in
@@ -79,7 +80,7 @@ module _ (b s : List ℕ) (ok : files-refusal b s ≡ 0) where
   shared-long {t} old room q = rw (q .is) (length-front old (iterate-of b s t .shares) (boats b) (count t ∙ sym (length-take-le (boats b) old room)))
 
   none-yet : iterate-of b s 0 .shares ≡ replicate (boats b) 0
-  unfolding problem iterate start
+  unfolding plain-problem iterate start
   none-yet = rw (book-fits b s ok .row-count)
 
   pub shares-start : (n : ℕ) → boats b ≤ n → Shares-at b s 0 (replicate n 0)
@@ -100,12 +101,12 @@ module _ (b s : List ℕ) (ok : files-refusal b s ≡ 0) where
   -- ---- Scores
 
   pub scores-start : (n : ℕ) → boats b ≤ n → Scores-at b s 0 (replicate n (pos 0))
-  unfolding problem iterate
+  unfolding plain-problem iterate
   scores-start n h =
       record {
         room = rw (length-replicate n (pos 0)) h;
         are = take-replicate (boats b) n (pos 0) h
-            ∙ sym (rw (residual-start (problem b s) (sheet-fits b s ok .target-length), scores-zero (ones (columns b)) (columns b) (rows b), book-fits b s ok .row-count));
+            ∙ sym (rw (residual-start (plain-problem b s) (sheet-fits b s ok .target-length), scores-zero (ones (columns b)) (columns b) (rows b), book-fits b s ok .row-count));
       }
 
   -- memory for boats that are at most n
@@ -114,12 +115,12 @@ module _ (b s : List ℕ) (ok : files-refusal b s ≡ 0) where
   scores-for n e h = scores-start n (rw e at h)
 
   score-sizes : {t : ℕ} → t ≤ 360 → {sc : List ℤ} → Scores-at b s t sc → Bounded 33269760000000 (boats b) sc
-  unfolding problem
+  unfolding plain-problem
   score-sizes {t} few {sc} S =
       let f = in-range b s ok in
       record {
         long = S .room;
-        each = λ q h. rw (← getD-take (boats b) sc q (pos 0) h, S .are, score-at (ones (columns b)) (residual (problem b s) t (iterate-of b s t)) (rows b) q)
+        each = λ q h. rw (← getD-take (boats b) sc q (pos 0) h, S .are, score-at (ones (columns b)) (residual (plain-problem b s) t (iterate-of b s t)) (rows b) q)
             (omega (arith, score-most (well-formed b s ok) f (mixed b s ok t) (row (rows b) q) (f .rows-bounded _ (among-row (rows b) q (omega (arith, book-fits b s ok .row-count)))), weight-most few));
       }
 

@@ -11,7 +11,8 @@ use lib.ListN.{take, drop}
 use Rattle.files.specs.Bytes.{values}
 use Rattle.files.specs.Book.{columns}
 use Rattle.files.specs.Sheet.{sheet, files-refusal}
-use Rattle.method.specs.Problem.{fixed, problem, weight}
+use Rattle.method.specs.Problem.{fixed, weight}
+use Rattle.method.specs.Plain.{plain-problem}
 use Rattle.method.specs.Iterates.{iterate}
 use Rattle.method.specs.declared.Test.the-variants.{Sharper}
 use Rattle.method.specs.Answers.{answer-at, stops, run-answer, run-iterate}
@@ -42,7 +43,7 @@ not-last n t v h e = go (ltb t n) refl
 
 module _ (b s : List ℕ) (ok : files-refusal b s ≡ 0) where
   pub going-start : {x : State} → Holds b s 0 x → Going b s x
-  unfolding problem iterate
+  unfolding plain-problem iterate
   going-start {x} H =
       rw-steps (H .steps-are)
     where
@@ -51,21 +52,21 @@ module _ (b s : List ℕ) (ok : files-refusal b s ≡ 0) where
           record {
             held = subst (λ n. Holds b s n x) (sym e) H;
             left = omega (arith, sheet-fits b s ok .some-steps);
-            undecided = rw e (running-start (problem b s) .decides);
+            undecided = rw e (running-start (plain-problem b s) .decides);
           }
 
   -- a run that its first step stops
-  pub first-done : {a : Answer} → a ≡ answer-at Sharper (problem b s) 1 (iterate-of b s 1) → {k : ℕ} → k ≡ sheet s .steps → {d : Bool} → d ≡ stops k 1 (a .verdict) → d ≡ true →
-      (a ≡ run-answer (problem b s)) × (iterate-of b s 1 .shares ≡ run-iterate (problem b s) .shares)
-  unfolding problem iterate
+  pub first-done : {a : Answer} → a ≡ answer-at Sharper (plain-problem b s) 1 (iterate-of b s 1) → {k : ℕ} → k ≡ sheet s .steps → {d : Bool} → d ≡ stops k 1 (a .verdict) → d ≡ true →
+      (a ≡ run-answer (plain-problem b s)) × (iterate-of b s 1 .shares ≡ run-iterate (plain-problem b s) .shares)
+  unfolding plain-problem iterate
   first-done ea ek ed f =
-      let v : stops (sheet s .steps) 1 (answer-at Sharper (problem b s) 1 (iterate-of b s 1) .verdict) ≡ true = rw (ek, ea) at (sym ed ∙ f) in
-      let d = running-done (running-start (problem b s)) (omega (arith, sheet-fits b s ok .some-steps)) v in
+      let v : stops (sheet s .steps) 1 (answer-at Sharper (plain-problem b s) 1 (iterate-of b s 1) .verdict) ≡ true = rw (ek, ea) at (sym ed ∙ f) in
+      let d = running-done (running-start (plain-problem b s)) (omega (arith, sheet-fits b s ok .some-steps)) v in
       (ea ∙ finished-answer d, ap (λ z. z .shares) (finished-iterate d))
 
   module _ {x : State} (g : Going b s x) {y : State} (H : Holds b s (x .steps + 1) y) where
-    running : Running (problem b s) (x .steps) (iterate-of b s (x .steps))
-    unfolding problem
+    running : Running (plain-problem b s) (x .steps) (iterate-of b s (x .steps))
+    unfolding plain-problem
     running = record { within = omega (arith, g .left); iterated = refl; decides = g .undecided }
 
     next-held : Holds b s (suc (x .steps)) y
@@ -81,14 +82,14 @@ module _ (b s : List ℕ) (ok : files-refusal b s ≡ 0) where
       module _ {a : Answer}
           (ea : a ≡ measure Sharper (y .steps) (weight fixed (y .steps)) (sheet s .tolerance) (take (l .columns) (y .residual)) (values (l .columns) (drop (l .target) s)) (y .least))
           {k : ℕ} (ek : k ≡ sheet s .steps) {d : Bool} (ed : d ≡ stops k (y .steps) (a .verdict)) where
-        answer-is : a ≡ answer-at Sharper (problem b s) (suc (x .steps)) (iterate-of b s (suc (x .steps)))
+        answer-is : a ≡ answer-at Sharper (plain-problem b s) (suc (x .steps)) (iterate-of b s (suc (x .steps)))
         answer-is = ea ∙ answer-right b s ok next-held next-few e
 
-        stopped-is : d ≡ stops (sheet s .steps) (suc (x .steps)) (answer-at Sharper (problem b s) (suc (x .steps)) (iterate-of b s (suc (x .steps))) .verdict)
+        stopped-is : d ≡ stops (sheet s .steps) (suc (x .steps)) (answer-at Sharper (plain-problem b s) (suc (x .steps)) (iterate-of b s (suc (x .steps))) .verdict)
         stopped-is = ed ∙ rw (ek, next-held .steps-are, answer-is)
 
         pub going-more : d ≡ false → Going b s y
-        unfolding problem iterate
+        unfolding plain-problem iterate
         going-more f =
             let p : y .steps ≡ suc (x .steps) = next-held .steps-are in
             record {
@@ -97,8 +98,8 @@ module _ (b s : List ℕ) (ok : files-refusal b s ≡ 0) where
               undecided = rw p (running-more running (g .left) (sym stopped-is ∙ f) .decides);
             }
 
-        pub going-done : d ≡ true → (a ≡ run-answer (problem b s)) × ((iterate-of b s (y .steps) .shares ≡ run-iterate (problem b s) .shares) × (y .steps ≡ run-answer (problem b s) .steps))
-        unfolding problem iterate answer-at
+        pub going-done : d ≡ true → (a ≡ run-answer (plain-problem b s)) × ((iterate-of b s (y .steps) .shares ≡ run-iterate (plain-problem b s) .shares) × (y .steps ≡ run-answer (plain-problem b s) .steps))
+        unfolding plain-problem iterate answer-at
         going-done f =
             let d = running-done running (g .left) (sym stopped-is ∙ f) in
             (answer-is ∙ finished-answer d, (rw (next-held .steps-are) (ap (λ z. z .shares) (finished-iterate d)), next-held .steps-are ∙ ap (λ (z : Answer). z .steps) (finished-answer d)))

@@ -10,7 +10,7 @@ use lib.IntN.{ℤ}
 use Rattle.files.specs.Book.{boats, columns, rows}
 use Rattle.files.specs.Sheet.{sheet}
 use Rattle.frank_wolfe.specs.Vectors.{ones}
-use Rattle.method.specs.Problem.{problem}
+use Rattle.method.specs.Plain.{plain-problem}
 use Rattle.method.specs.Iterates.{scores, residual}
 use Rattle.method.specs.Answers.{steps-from, steps-used}
 use Rattle.iteration.specs.declared.State.{State}
@@ -20,7 +20,7 @@ use Rattle.iteration.specs.States.{iterate-of, pick-at, boat-products, Holds}
 pub record Going (b s : List ℕ) (x : State) : Type 0 where
   pub held : Holds b s (x .steps) x
   pub left : x .steps < sheet s .steps
-  pub undecided : steps-from (sheet s .steps - x .steps) (x .steps) (problem b s) (iterate-of b s (x .steps)) ≡ steps-used (problem b s)
+  pub undecided : steps-from (sheet s .steps - x .steps) (x .steps) (plain-problem b s) (iterate-of b s (x .steps)) ≡ steps-used (plain-problem b s)
 
 -- the first slots are the shares of the iterate after t steps, one a boat
 pub record Shares-at (b s : List ℕ) (t : ℕ) (qs : List ℕ) : Type 0 where
@@ -30,7 +30,7 @@ pub record Shares-at (b s : List ℕ) (t : ℕ) (qs : List ℕ) : Type 0 where
 -- the first slots are the scores under the residual after t steps, one a boat
 pub record Scores-at (b s : List ℕ) (t : ℕ) (ps : List ℤ) : Type 0 where
   pub room : boats b ≤ length ps
-  pub are : take (boats b) ps ≡ scores (ones (columns b)) (residual (problem b s) t (iterate-of b s t)) (rows b)
+  pub are : take (boats b) ps ≡ scores (ones (columns b)) (residual (plain-problem b s) t (iterate-of b s t)) (rows b)
 
 -- the first slots are the products of a boat's row less the target with every row
 pub record Products (b s : List ℕ) (boat : ℕ) (ps : List ℤ) : Type 0 where

@@ -5,7 +5,7 @@ ghost use mathlib.Core.Path.{_≡_};
 ghost use mathlib.Core.List.{_++_};
 ghost use Prim.Native.Nat.{_+_, _*_, _%_, _≤_, _<_};
 ghost use lib.ListN.{length, getD, set, drop};
-ghost use Rattle.method.specs.Problem.{problem};
+ghost use Rattle.method.specs.Plain.{plain-problem};
 ghost use Rattle.method.specs.Answers.{run-answer, run-iterate};
 ghost use Rattle.files.specs.Book.{boats};
 ghost use Rattle.files.specs.Sheet.{files-refusal};
@@ -66,10 +66,10 @@ pub fn run_from(
     requires { ⌜ Shares-at (now book) (now sheet) 0 (now shares) ⌝ }
     requires { ⌜ Scores-at (now book) (now sheet) 0 (now scores) ⌝ }
     requires { ⌜ 64 * boats (now book) ≤ length (now memory) ⌝ }
-    ensures { λ r. ⌜ r ≡ run-answer (problem (now (book .entry)) (now (sheet .entry))) ⌝ }
-    ensures { λ _. ⌜ now (shares .exit) ≡ run-iterate (problem (now (book .entry)) (now (sheet .entry))) .shares ++ drop (boats (now (book .entry))) (now (shares .entry)) ⌝ }
-    ensures { λ _. ⌜ now (scores .exit) ≡ scores-of (now (book .entry)) (now (sheet .entry)) (run-answer (problem (now (book .entry)) (now (sheet .entry))) .steps) ++ drop (boats (now (book .entry))) (now (scores .entry)) ⌝ }
-    ensures { λ _. ⌜ now (memory .exit) ≡ memory-after (now (book .entry)) (now (sheet .entry)) (run-answer (problem (now (book .entry)) (now (sheet .entry))) .steps) (now (memory .entry)) .products ⌝ }
+    ensures { λ r. ⌜ r ≡ run-answer (plain-problem (now (book .entry)) (now (sheet .entry))) ⌝ }
+    ensures { λ _. ⌜ now (shares .exit) ≡ run-iterate (plain-problem (now (book .entry)) (now (sheet .entry))) .shares ++ drop (boats (now (book .entry))) (now (shares .entry)) ⌝ }
+    ensures { λ _. ⌜ now (scores .exit) ≡ scores-of (now (book .entry)) (now (sheet .entry)) (run-answer (plain-problem (now (book .entry)) (now (sheet .entry))) .steps) ++ drop (boats (now (book .entry))) (now (scores .entry)) ⌝ }
+    ensures { λ _. ⌜ now (memory .exit) ≡ memory-after (now (book .entry)) (now (sheet .entry)) (run-answer (plain-problem (now (book .entry)) (now (sheet .entry))) .steps) (now (memory .entry)) .products ⌝ }
 {
     let steps = files::steps(sheet);
     let boats = layout.boats;

@@ -19,4 +19,4 @@ returns-4 c = search (needs, some-out)
 pub body-refusal-spec : {M : Type 1} → statement M
 body-refusal-spec =
     tie.close
-    (tie.spec (λ c. search needs) (λ c κs. search needs) (λ c. search needs) (λ c. search needs) returns returns-2 (λ c κs. search needs) returns-3 returns-4)
+    (tie.spec (λ c. search needs) (λ c κs. search needs) (λ c. search needs) returns returns-2 (λ c κs. search needs) returns-3 returns-4)

@@ -33,6 +33,9 @@ returns-4 c =
     let at-if1 = at-if2 .before .before .before in
     columns-out _ _ (at-if1 .before .is-between .ensures) (at-if1 .if1 .left) _ (at-if2 .before .ends-with .ensures) (at-if2 .if2 .left) _ (at-if3 .before .before .boats .ensures) _ (at-if3 .before .is-between2 .ensures) (at-if3 .if3 .left) _ (c .before .before .columns .ensures .0) _ (c .before .is-between3 .ensures) (c .if4 .taken)
 
+mul-count : tie.Need-mul-count
+mul-count c = omega (arith, few-values _ _ _ _ (c .before .before .before .before .is-between2 .ensures) (c .before .before .before .if3 .left) (c .before .is-between3 .ensures) (c .if4 .left))
+
 mul-body-refusal : tie.Need-mul-body-refusal
 mul-body-refusal c = omega (arith, few-values _ _ _ _ (c .before .before .before .before .is-between2 .ensures) (c .before .before .before .if3 .left) (c .before .is-between3 .ensures) (c .if4 .left))
 
@@ -50,4 +53,4 @@ returns-5 c =
 pub book-refusal-spec : {M : Type 1} → statement M
 book-refusal-spec =
     tie.close
-    (tie.spec (λ c κs. search needs) returns (λ c. search needs) ends-with-requires returns-2 boats-requires (λ c κs. search needs) returns-3 columns-requires (λ c κs. search needs) returns-4 mul-body-refusal body-refusal-requires returns-5)
+    (tie.spec (λ c κs. search needs) returns (λ c. search needs) ends-with-requires returns-2 boats-requires (λ c κs. search needs) returns-3 columns-requires (λ c κs. search needs) returns-4 mul-count mul-body-refusal body-refusal-requires returns-5)

@@ -1,11 +1,11 @@
--- `file_parts::ends_with` meets its contract: `Compared` is the loop's invariant.
+-- `files::ends_with` meets its contract: `Compared` is the loop's invariant.
 use Prim.Native.Nat.{_-_}
 use native.Mathlib.Omega.{arith}
 use borrow.Author.Needs.{needs}
 use lib.ListN.{length}
-use Rattle.file_parts.proofs.Letters.{Compared, compared-start, compared-more, compared-differ, compared-end}
-use Rattle.file_parts.proofs.ends_with.Statement.{statement}
-use Rattle.file_parts.proofs.ends_with.Tie as tie
+use Rattle.files.proofs.Letters.{Compared, compared-start, compared-more, compared-differ, compared-end}
+use Rattle.files.proofs.ends_with.Statement.{statement}
+use Rattle.files.proofs.ends_with.Tie as tie
 
 abbrev Inv-loop : tie.InvT-loop
 Inv-loop b letters at i₀ i = Compared b letters at i
