@@ -1,15 +1,15 @@
--- `search::run` meets its contract.
-use Rattle.method.specs.Problem.{problem}
+-- `plain_run::run` meets its contract.
+use Rattle.method.specs.Plain.{plain-problem}
 use Rattle.method.specs.Answers.{run-iterate}
 use Rattle.iteration.proofs.States.{book-fits, sheet-fits}
 use Rattle.runs.proofs.Memory.{room-for, room-always}
 use Rattle.runs.proofs.Runs.{first-done}
 use Rattle.runs.proofs.Keeping.{boats-fit, cleared, cleared-shares, cleared-rest, behind, picks, first-held, first-room, first-shares, shared-end, scores-start, scores-for}
 use borrow.Author.Needs.{needs}
-use Rattle.search.proofs.run.Statement.{statement}
-use Rattle.search.proofs.run.Tie as tie
-use Rattle.search.proofs.run.Reads as reads
-use Rattle.search.proofs.run.Lts as lts
+use Rattle.plain_run.proofs.run.Statement.{statement}
+use Rattle.plain_run.proofs.run.Tie as tie
+use Rattle.plain_run.proofs.run.Reads as reads
+use Rattle.plain_run.proofs.run.Lts as lts
 use Rattle.files.proofs.steps.Reads as steps-reads
 use Rattle.iteration.proofs.State.fresh.Reads as fresh-reads
 use Rattle.iteration.proofs.first_answer.Reads as first-answer-reads
@@ -17,7 +17,7 @@ use Rattle.iteration.proofs.layout_of.Reads as layout-of-reads
 use Rattle.iteration.proofs.least_product_of.Reads as least-product-of-reads
 use Rattle.verdicts.proofs.stops.Reads as stops-reads
 use Rattle.runs.proofs.add_shares.Reads as add-shares-reads
-use Rattle.search.proofs.clear.Reads as clear-reads
+use Rattle.plain_run.proofs.clear.Reads as clear-reads
 use Rattle.runs.proofs.run_from.Reads as run-from-reads
 
 layout-of-requires : tie.Need-layout-of-requires
@@ -99,7 +99,7 @@ returns-2 c =
     let at-clear = at-run-from .before .before .before .before .before .before .before .before .before .before .before .before .before in
     let at-layout-of = at-clear .before .before in
     let start = at-layout-of .before .before .before .before in
-    (at-run-from .run-from .ensures .0, behind (run-iterate (problem (start .args .book .now) (start .args .sheet .now)) .shares) (at-run-from .run-from .ensures .1 .0) (cleared-rest _ _ (start .pre .0) (at-layout-of .layout-of .ensures) _ (start .pre .1) (at-clear .clear .ensures)))
+    (at-run-from .run-from .ensures .0, behind (run-iterate (plain-problem (start .args .book .now) (start .args .sheet .now)) .shares) (at-run-from .run-from .ensures .1 .0) (cleared-rest _ _ (start .pre .0) (at-layout-of .layout-of .ensures) _ (start .pre .1) (at-clear .clear .ensures)))
 
 slice-aggregate-run-from-3 : tie.Need-slice-aggregate-run-from-3
 slice-aggregate-run-from-3 c = search needs
@@ -128,7 +128,7 @@ returns-3 c =
     let at-clear = at-run-from2 .before .before .before .before .before .before .before .before .before .before .before .before .before .before in
     let at-layout-of = at-clear .before .before in
     let start = at-layout-of .before .before .before .before in
-    (at-run-from2 .run-from2 .ensures .0, behind (run-iterate (problem (start .args .book .now) (start .args .sheet .now)) .shares) (at-run-from2 .run-from2 .ensures .1 .0) (cleared-rest _ _ (start .pre .0) (at-layout-of .layout-of .ensures) _ (start .pre .1) (at-clear .clear .ensures)))
+    (at-run-from2 .run-from2 .ensures .0, behind (run-iterate (plain-problem (start .args .book .now) (start .args .sheet .now)) .shares) (at-run-from2 .run-from2 .ensures .1 .0) (cleared-rest _ _ (start .pre .0) (at-layout-of .layout-of .ensures) _ (start .pre .1) (at-clear .clear .ensures)))
 
 slice-aggregate-run-from-5 : tie.Need-slice-aggregate-run-from-5
 slice-aggregate-run-from-5 c = search needs
@@ -156,7 +156,7 @@ returns-4 c =
     let at-clear = at-run-from3 .before .before .before .before .before .before .before .before .before .before .before .before .before .before in
     let at-layout-of = at-clear .before .before in
     let start = at-layout-of .before .before .before .before in
-    (at-run-from3 .run-from3 .ensures .0, behind (run-iterate (problem (start .args .book .now) (start .args .sheet .now)) .shares) (at-run-from3 .run-from3 .ensures .1 .0) (cleared-rest _ _ (start .pre .0) (at-layout-of .layout-of .ensures) _ (start .pre .1) (at-clear .clear .ensures)))
+    (at-run-from3 .run-from3 .ensures .0, behind (run-iterate (plain-problem (start .args .book .now) (start .args .sheet .now)) .shares) (at-run-from3 .run-from3 .ensures .1 .0) (cleared-rest _ _ (start .pre .0) (at-layout-of .layout-of .ensures) _ (start .pre .1) (at-clear .clear .ensures)))
 
 pub run-spec : {M : Type 1} → statement M
 run-spec =

@@ -1,4 +1,4 @@
--- `search::clear` meets its contract; `Inv-loop` is what its loop keeps.
+-- `plain_run::clear` meets its contract; `Inv-loop` is what its loop keeps.
 use mathlib.Core.Path.{_≡_, sym, ap, _∙_}
 use mathlib.Core.List.{List, _++_}
 use Prim.Native.Nat.{ℕ, _-_}
@@ -6,10 +6,10 @@ use lib.ListN.{length, drop, replicate, length-replicate, getD-replicate}
 use native.Mathlib.Omega.{arith}
 use Rattle.integers.proofs.Filling.{Filled, filled-start, filled-long, filled-more, filled-end}
 use borrow.Author.Needs.{needs}
-use Rattle.search.proofs.clear.Statement.{statement}
-use Rattle.search.proofs.clear.Tie as tie
-use Rattle.search.proofs.clear.Reads as reads
-use Rattle.search.proofs.clear.Lts as lts
+use Rattle.plain_run.proofs.clear.Statement.{statement}
+use Rattle.plain_run.proofs.clear.Tie as tie
+use Rattle.plain_run.proofs.clear.Reads as reads
+use Rattle.plain_run.proofs.clear.Lts as lts
 
 cleared : (n : ℕ) (old new : List ℕ) → new ≡ replicate n 0 ++ drop (length (replicate {A = ℕ} n 0)) old → new ≡ replicate n 0 ++ drop n old
 cleared n old new e = e ∙ ap (λ (m : ℕ). replicate n 0 ++ drop m old) (length-replicate n 0)
