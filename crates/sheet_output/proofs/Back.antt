@@ -16,26 +16,26 @@ use Rattle.sheet_output.proofs.Values.{length-values-bytes, values-back
 
 -- ---- a body and a trailer of `size` bytes
 module _ (bs t : List ℕ) (size : ℕ) (l : length t ≡ size) where
-  file-length : length (bs ++ t) ≡ length bs + size
+  pub file-length : length (bs ++ t) ≡ length bs + size
   file-length = length-append bs t ∙ ap (λ n. length bs + n) l
 
-  file-trailer : trailer size (bs ++ t) ≡ t
+  pub file-trailer : trailer size (bs ++ t) ≡ t
   unfolding trailer
   file-trailer = drop-at bs t (length (bs ++ t) - size) (omega (arith, file-length))
 
-  file-body : (back : ℕ) → length bs ≡ back → body size back (bs ++ t) ≡ bs
+  pub file-body : (back : ℕ) → length bs ≡ back → body size back (bs ++ t) ≡ bs
   unfolding body
   file-body back e =
       let z : length (bs ++ t) - size - back ≡ 0 = omega (arith, file-length) in
       rw z (take-at bs t back e)
 
-  body-passed : (count place range : ℕ) → length bs ≡ 2 * count → number 0 4 t ≡ 2 * count → all-in-range (values count bs) ≡ true → body-refusal size count place range (bs ++ t) ≡ 0
+  pub body-passed : (count place range : ℕ) → length bs ≡ 2 * count → number 0 4 t ≡ 2 * count → all-in-range (values count bs) ≡ true → body-refusal size count place range (bs ++ t) ≡ 0
   unfolding body-refusal reaches
   body-passed count place range e b h =
       let k : 2 * count ≤ length (bs ++ t) - size = omega (arith, file-length) in
       simp (file-trailer, b, eq-eqb (2 * count) (2 * count) refl, le-leb _ _ k, file-body (2 * count) e, h)
 
-between-both : (least most n : ℕ) → least ≤ n → n ≤ most → between least most n ≡ true
+pub between-both : (least most n : ℕ) → least ≤ n → n ≤ most → between least most n ≡ true
 unfolding between
 between-both least most n h k = simp (le-leb least n h, le-leb n most k)
 

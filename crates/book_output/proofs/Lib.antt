@@ -1,0 +1,4 @@
+-- The laws behind the proofs of this crate.
+pub mod Rows
+pub mod Back
+pub mod Placing

@@ -1,0 +1,46 @@
+-- `book_output::put_book_trailer` meets its contract.
+use Rattle.book_output.proofs.Placing.{book-trailer-placed}
+use borrow.Author.Needs.{needs}
+use Rattle.book_output.proofs.put_book_trailer.Statement.{statement}
+use Rattle.book_output.proofs.put_book_trailer.Tie as tie
+
+put-requires : tie.Need-put-requires
+put-requires c κs = search needs
+
+add-put : tie.Need-add-put
+add-put c = search needs
+
+put-requires-2 : tie.Need-put-requires-2
+put-requires-2 c κs = search needs
+
+add-put-2 : tie.Need-add-put-2
+add-put-2 c = search needs
+
+put-requires-3 : tie.Need-put-requires-3
+put-requires-3 c κs = search needs
+
+add-put-3 : tie.Need-add-put-3
+add-put-3 c = search needs
+
+put-requires-4 : tie.Need-put-requires-4
+put-requires-4 c κs = search needs
+
+same-length : tie.Need-same-length
+same-length c = search needs
+
+returns : tie.Need-returns
+returns c = search (needs, book-trailer-placed)
+
+pub put-book-trailer-spec : {M : Type 1} → statement M
+put-book-trailer-spec =
+    tie.close
+    (tie.spec
+    put-requires
+    add-put
+    put-requires-2
+    add-put-2
+    put-requires-3
+    add-put-3
+    put-requires-4
+    same-length
+    returns)

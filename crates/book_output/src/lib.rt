@@ -1,0 +1,23 @@
+// A fleet book's trailer put into a buffer, right after the rows.
+//
+// A helper for other crates, whose callers prove that there is room: put_book_trailer.
+ghost use mathlib.Core.Path.{_≡_};
+ghost use Prim.Native.Nat.{_+_, _≤_};
+ghost use lib.ListN.{length};
+ghost use Rattle.card_output.specs.Output.{placed};
+ghost use Rattle.book_output.specs.Output.{book-trailer};
+use card_output::put;
+
+// The letters WBK1 as a number.
+const WBK1: u64 = 827015767;
+
+// A fleet book's trailer from `at` on, which is also its back count.
+pub fn put_book_trailer(output: &mut [u8], at: usize, boats: usize, columns: usize)
+    requires { ⌜ at + 12 ≤ length (now output) ⌝ }
+    ensures { λ _. ⌜ now (output .exit) ≡ placed (now (output .entry)) at (book-trailer at boats columns) ⌝ }
+{
+    put(output, at, 4, at as u64);
+    put(output, at + 4, 2, boats as u64);
+    put(output, at + 6, 2, columns as u64);
+    put(output, at + 8, 4, WBK1);
+}
