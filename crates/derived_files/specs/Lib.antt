@@ -1,0 +1,4 @@
+-- The definitions of this crate.
+pub mod Derived
+pub mod Accepted
+pub mod Places
