@@ -29,7 +29,12 @@ same-length : tie.Need-same-length
 same-length c = search needs
 
 returns : tie.Need-returns
-returns c = search (needs, book-trailer-placed)
+returns c =
+    let at-put3 = c .before .before .before .before .before .before in
+    let at-put2 = at-put3 .before .before .before .before in
+    let at-put = at-put2 .before .before .before .before in
+    let start = at-put .before .before .before in
+    book-trailer-placed _ _ _ _ (start .pre) (at-put .put .ensures) (at-put2 .put2 .ensures) (at-put3 .put3 .ensures) (c .before .before .put4 .ensures)
 
 pub put-book-trailer-spec : {M : Type 1} → statement M
 put-book-trailer-spec =
