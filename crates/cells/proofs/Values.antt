@@ -1,6 +1,6 @@
 -- The values of 64 cells and the first refusal among them are right.
 use mathlib.Core.Path.{_≡_, refl, sym, ap, _∙_}
-use mathlib.Core.Bool.{Bool, true, false, _&&_, not, cond, true≢false}
+use mathlib.Core.Bool.{Bool, true, false, _&&_, _||_, not, cond, true≢false}
 use mathlib.Core.List.{List, [], _∷_, _++_, map}
 use mathlib.Core.Logic.{_⊎_, inl, inr}
 use Prim.Native.Nat.{ℕ, zero, suc, _+_, _-_, _*_, _≤_, _<_}
@@ -10,9 +10,10 @@ use lib.Dec.{eqb, ltb}
 use lib.IntN.{ℤ, pos}
 use lib.ListN.{length, getD, drop, replicate, length-append, length-replicate, length-map, List·getD-map, List·getD-append}
 use lib.Seq.{length-take-le, getD-take, getD-append-add, take-at}
-use Rattle.files.specs.Bytes.{between, same, number, values, all-in-range, length-in-range, trailer, body, reaches, body-refusal}
+use Rattle.frank_wolfe.specs.Vectors.{sum}
+use Rattle.files.specs.Bytes.{between, number, values, all-in-range, length-in-range, trailer, body, reaches, body-refusal}
 use Rattle.files.specs.Book.{columns, book-refusal}
-use Rattle.files.specs.Sheet.{WSH1, sheet, sheet-columns, sheet-refusal}
+use Rattle.files.specs.Sheet.{WSH1, WSH2, sheet, sheet-columns, sheet-lettered, sheet-back, sheet-refusal-in, sheet-refusal}
 use Rattle.files.specs.Fits.{Book-fits}
 use Rattle.files.proofs.Accepted.{book-accepted}
 use Rattle.rounding.specs.Rounding.{half-even, rounded}
@@ -94,22 +95,23 @@ next-not : (g : Bool) (k x m : ℕ) → cond (not g) k x ≡ m → (k ≡ m → 
 next-not true k x m e n = (refl, e)
 next-not false k x m e n = absurd (n e)
 
-not-refused : (t : Bool) → cond {A = ℕ} t 0 17 ≡ 17 → t ≡ true → ⊥
-not-refused true h e = omega arith
-not-refused false h e = true≢false (sym e)
+-- a body whose values are in range is not refused by 17, nor is the sheet by its factors
+body-passes : (g t u : Bool) → t ≡ true → (let n = cond (not g) 16 (cond t 0 17) in cond (not (eqb n 0)) n (cond u 0 46)) ≡ 17 → ⊥
+body-passes true true true e h = omega arith
+body-passes true true false e h = omega arith
+body-passes true false u e h = true≢false (sym e)
+body-passes false t u e h = omega arith
 
 pub target-passes : (c : ℕ) (s : List ℕ) → all-in-range (sheet s .target) ≡ true → sheet-refusal c s ≡ 17 → ⊥
-unfolding sheet-refusal body-refusal sheet
+unfolding sheet-refusal-in body-refusal sheet
 target-passes c s good h =
     let back = number 0 4 (trailer 16 s) in
     let p1 = next-not (length-in-range 16 s) 11 _ 17 h (λ e. omega arith) in
-    let p2 = next-not (same (drop 12 (trailer 16 s)) WSH1) 12 _ 17 (p1 .1) (λ e. omega arith) in
-    let p3 = next-not (eqb (sheet-columns s) c) 13 _ 17 (p2 .1) (λ e. omega arith) in
+    let p2 = next-not (sheet-lettered WSH1 s || sheet-lettered WSH2 s) 12 _ 17 (p1 .1) (λ e. omega arith) in
+    let p3 = next-not (between c c (sheet-columns s)) 13 _ 17 (p2 .1) (λ e. omega arith) in
     let p4 = next-not (between 1 360 (number 6 2 (trailer 16 s))) 14 _ 17 (p3 .1) (λ e. omega arith) in
     let p5 = next (ltb 1024000000 (number 8 4 (trailer 16 s))) 15 _ 17 (p4 .1) (λ e. omega arith) in
-    let p6 = next-not (eqb back (2 * c) && reaches 16 back s) 16 _ 17 p5 (λ e. omega arith) .1 in
-    let q : sheet-columns s ≡ c = eqb-true (sheet-columns s) c (p3 .0) in
-    not-refused (all-in-range (values c (body 16 (2 * c) s))) p6 (rw q at good)
+    body-passes (eqb back (sheet-back s) && reaches 16 back s) (all-in-range (values (sheet-columns s) (body 16 (sheet-back s) s))) (between 1 64 (sum (sheet s .factors))) good p5
 
 -- ---- all of them
 pub default-value : cell-value unweighed ≡ pos 0

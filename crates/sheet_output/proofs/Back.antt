@@ -1,14 +1,16 @@
 -- A sheet that is written reads back.
-use mathlib.Core.Path.{_≡_, refl, ap, _∙_}
-use mathlib.Core.Bool.{true}
+use mathlib.Core.Path.{_≡_, refl, sym, ap, _∙_}
+use mathlib.Core.Bool.{true, false}
 use mathlib.Core.List.{List, [], _++_, append-nil}
 use Prim.Native.Nat.{ℕ, _+_, _*_, _-_, _≤_}
 use native.Mathlib.Omega.{arith}
 use borrow.Author.Tests.{le-leb, eq-eqb, le-ltb}
 use lib.ListN.{length, drop, length-append}
 use lib.Seq.{drop-at, take-at}
+use Rattle.frank_wolfe.specs.Vectors.{ones, sum}
+use Rattle.frank_wolfe.proofs.Vectors.{sum-ones}
 use Rattle.files.specs.Bytes.{number-bytes, little-endian, number, values, same, between, all-in-range, length-in-range, trailer, body, reaches, body-refusal}
-use Rattle.files.specs.Sheet.{Sheet, sheet, sheet-columns, WSH1, sheet-refusal}
+use Rattle.files.specs.Sheet.{Sheet, sheet, sheet-columns, WSH1, WSH2, sheet-lettered, factor-bytes, sheet-refusal-in, sheet-refusal}
 use Rattle.card_format.proofs.Bytes.{read-bytes}
 use Rattle.sheet_output.specs.Output.{values-bytes, sheet-trailer, sheet-bytes}
 use Rattle.sheet_output.specs.Back.{Sheet-fit, Sheet-reads-back}
@@ -29,11 +31,11 @@ module _ (bs t : List ℕ) (size : ℕ) (l : length t ≡ size) where
       let z : length (bs ++ t) - size - back ≡ 0 = omega (arith, file-length) in
       rw z (take-at bs t back e)
 
-  pub body-passed : (count place range : ℕ) → length bs ≡ 2 * count → number 0 4 t ≡ 2 * count → all-in-range (values count bs) ≡ true → body-refusal size count place range (bs ++ t) ≡ 0
+  pub body-passed : (back count place range : ℕ) → length bs ≡ back → number 0 4 t ≡ back → all-in-range (values count bs) ≡ true → body-refusal size back count place range (bs ++ t) ≡ 0
   unfolding body-refusal reaches
-  body-passed count place range e b h =
-      let k : 2 * count ≤ length (bs ++ t) - size = omega (arith, file-length) in
-      simp (file-trailer, b, eq-eqb (2 * count) (2 * count) refl, le-leb _ _ k, file-body (2 * count) e, h)
+  body-passed back count place range e b h =
+      let k : back ≤ length (bs ++ t) - size = omega (arith, file-length) in
+      simp (file-trailer, b, eq-eqb back back refl, le-leb _ _ k, file-body back e, h)
 
 pub between-both : (least most n : ℕ) → least ≤ n → n ≤ most → between least most n ≡ true
 unfolding between
@@ -64,6 +66,10 @@ module _ (back c k t : ℕ) where
   sheet-letters : same (drop 12 (sheet-trailer back c k t)) WSH1 ≡ true
   unfolding sheet-trailer number-bytes same
   sheet-letters = refl
+
+  no-second-letters : same (drop 12 (sheet-trailer back c k t)) WSH2 ≡ false
+  unfolding sheet-trailer number-bytes same
+  no-second-letters = refl
 
 module _ (s : Sheet) (f : Sheet-fit s) where
   c : ℕ
@@ -108,33 +114,62 @@ module _ (s : Sheet) (f : Sheet-fit s) where
   unfolding c
   target-back = rw append-nil at (values-back (s .target) [] (f .in-range))
 
-  own-sheet : sheet (sheet-bytes s) ≡ s
-  unfolding sheet sheet-bytes sheet-foot c
-  own-sheet = rw (sheet-columns-back, file-body (values-bytes (s .target)) sheet-foot 16 sheet-foot-length (2 * c) target-long, target-back, sheet-trailer-back, steps-back, tolerance-back)
+  first-edition : sheet-lettered WSH1 (sheet-bytes s) ≡ true
+  unfolding sheet-lettered sheet-foot
+  first-edition = rw sheet-trailer-back (sheet-letters _ c (s .steps) (s .tolerance))
 
-  own-sheet-body : body-refusal 16 c 16 17 (sheet-bytes s) ≡ 0
+  not-second : sheet-lettered WSH2 (sheet-bytes s) ≡ false
+  unfolding sheet-lettered sheet-foot
+  not-second = rw sheet-trailer-back (no-second-letters _ c (s .steps) (s .tolerance))
+
+  no-factor-bytes : factor-bytes (sheet-bytes s) ≡ 0
+  unfolding factor-bytes
+  no-factor-bytes = rw not-second
+
+  own-back : 2 * c + 0 ≡ 2 * c
+  own-back = omega arith
+
+  own-factors : ones c ≡ s .factors
+  unfolding c
+  own-factors = sym (f .plain)
+
+  own-body : body 16 (2 * c) (sheet-bytes s) ≡ values-bytes (s .target)
+  unfolding sheet-bytes sheet-foot c
+  own-body = file-body (values-bytes (s .target)) sheet-foot 16 sheet-foot-length (2 * c) target-long
+
+  own-sheet : sheet (sheet-bytes s) ≡ s
+  unfolding sheet
+  own-sheet = rw (not-second, sheet-columns-back, no-factor-bytes, own-back, own-body, target-back, own-factors, sheet-trailer-back, steps-back, tolerance-back)
+
+  own-sheet-body : body-refusal 16 (2 * c) c 16 17 (sheet-bytes s) ≡ 0
   unfolding sheet-bytes sheet-foot c
   own-sheet-body =
-      body-passed (values-bytes (s .target)) sheet-foot 16 sheet-foot-length c 16 17 target-long
+      body-passed (values-bytes (s .target)) sheet-foot 16 sheet-foot-length (2 * c) c 16 17 target-long
       (sheet-back-at _ c (s .steps) (s .tolerance) ∙ read-bytes 4 _ (omega (arith, few-columns, target-long)) ∙ target-long)
       (rw target-back (f .in-range))
 
-  sheet-foot-letters : same (drop 12 sheet-foot) WSH1 ≡ true
-  unfolding sheet-foot
-  sheet-foot-letters = sheet-letters _ c (s .steps) (s .tolerance)
+  own-total : sum (s .factors) ≡ c
+  own-total = sym (ap sum own-factors) ∙ sum-ones c
+
+  some-columns : 1 ≤ c
+  unfolding c
+  some-columns = f .some-columns
 
   sheet-accepted : sheet-refusal c (sheet-bytes s) ≡ 0
-  unfolding sheet-refusal length-in-range
+  unfolding sheet-refusal-in length-in-range
   sheet-accepted =
       simp (
         sheet-length,
-        sheet-trailer-back,
+        first-edition,
         sheet-columns-back,
+        no-factor-bytes,
+        own-back,
         own-sheet,
+        own-total,
         between-both 16 40000 (2 * c + 16) (omega arith) (omega (arith, few-columns)),
-        sheet-foot-letters,
-        eq-eqb c c refl,
+        between-both c c c (omega arith) (omega arith),
         between-both 1 360 (s .steps) (f .some-steps) (f .most-steps),
+        between-both 1 64 c some-columns few-columns,
         le-ltb 1024000000 (s .tolerance) (f .most-tolerance),
         own-sheet-body,
       )

@@ -4,12 +4,15 @@ use mathlib.Core.Bool.{true}
 use mathlib.Core.List.{List}
 use Prim.Native.Nat.{ℕ, _+_, _*_, _≤_}
 use lib.ListN.{length}
+use Rattle.frank_wolfe.specs.Vectors.{ones}
 use Rattle.files.specs.Bytes.{all-in-range}
 use Rattle.files.specs.Sheet.{Sheet, sheet, sheet-columns, sheet-refusal}
 use Rattle.sheet_output.specs.Output.{sheet-bytes}
 
--- what a sheet can ask for
+-- what a sheet of the edition WSH1 can ask for: every factor is 1
 pub record Sheet-fit (s : Sheet) : Type 0 where
+  pub plain : s .factors ≡ ones (length (s .target))
+  pub some-columns : 1 ≤ length (s .target)
   pub most-columns : length (s .target) ≤ 64
   pub in-range : all-in-range (s .target) ≡ true
   pub some-steps : 1 ≤ s .steps

@@ -1,4 +1,4 @@
--- The bytes of a sheet, without front text. Definitions only.
+-- The bytes of a sheet of the edition WSH1, without front text. Definitions only.
 use mathlib.Core.List.{List, [], _∷_, _++_}
 use Prim.Native.Nat.{ℕ, _-_}
 use lib.ListN.{length}
@@ -20,6 +20,6 @@ values-bytes (x ∷ xs) = number-bytes 2 (bits x) ++ values-bytes xs
 unfoldable pub sheet-trailer : (back columns steps tolerance : ℕ) → List ℕ
 sheet-trailer back c steps tolerance = number-bytes 4 back ++ (number-bytes 2 c ++ (number-bytes 2 steps ++ (number-bytes 4 tolerance ++ WSH1)))
 
--- a sheet that asks for this
+-- a sheet that asks for this, with every factor 1
 unfoldable pub sheet-bytes : Sheet → List ℕ
 sheet-bytes s = values-bytes (s .target) ++ sheet-trailer (length (values-bytes (s .target))) (length (s .target)) (s .steps) (s .tolerance)
