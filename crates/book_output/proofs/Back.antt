@@ -10,7 +10,7 @@ use lib.IntN.{ℤ}
 use Rattle.files.specs.Bytes.{number-bytes, little-endian, number, same, length-in-range, trailer, body-refusal}
 use Rattle.files.specs.Book.{boats, columns, rows, rows-from, WBK1, book-refusal}
 use Rattle.files.proofs.Rows.{rows-flat}
-use Rattle.card_format.proofs.Bytes.{read-bytes}
+use Rattle.files.proofs.Bytes.{read-bytes}
 use Rattle.sheet_output.proofs.Back.{file-length, file-trailer, file-body, body-passed, between-both}
 use Rattle.book_output.specs.Output.{rows-bytes, book-trailer, book-bytes}
 use Rattle.book_output.specs.Back.{Rows-fit, Book-reads-back}

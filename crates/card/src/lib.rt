@@ -21,7 +21,7 @@ pub enum Written {
     Filed(Answer, usize),
 }
 
-// ENTRY. The card of a run, written to the first bytes of `output`: refuses files and a buffer that do not serve (1 to 17, then 22)
+// ENTRY. The card of a run, written to the first bytes of `output`: refuses files and a buffer that do not serve (1 to 17, 46, then 22)
 // and leaves the buffer as it was; else gives the run's answer and the card's length. Later bytes are as they were. The third
 // clause says that the bytes read back as this answer and its shares, and what holds of them (Filing-right).
 pub fn write_card(book: &[u8], sheet: &[u8], output: &mut [u8]) -> Written
@@ -35,7 +35,7 @@ pub fn write_card(book: &[u8], sheet: &[u8], output: &mut [u8]) -> Written
     }
     let boats = files::boats(book);
     let mut shares = [0u16; 256];
-    let answer = search::run(book, sheet, &mut shares);
+    let answer = factored::run(book, sheet, &mut shares);
     let back = 4 * card_output::holding(shares, boats);
     if output.len() < back + 36 {
         return Written::Refused(22);
@@ -64,7 +64,7 @@ fn fill(from: [u16; 256], count: usize, to: &mut [u16])
     }
 }
 
-// ENTRY. The card check: refuses files, a share list or a card that does not serve (1 to 17, 21, then 31 to 39) and leaves the
+// ENTRY. The card check: refuses files, a share list or a card that does not serve (1 to 17, 46, 21, then 31 to 39) and leaves the
 // list as it was; else gives the card's answer and fills the list's first slots with its shares, one a boat. It does not rerun
 // the search. The third clause says that a card is accepted exactly when it is true, and what it vouches for (Check-right).
 pub fn check_card(book: &[u8], sheet: &[u8], card: &[u8], shares: &mut [u16]) -> Searched

@@ -14,7 +14,7 @@ use Rattle.method.proofs.Weights.{fixed-fits, weight-positive}
 use Rattle.card_format.specs.Format.{pairs, trailer-bytes, card-fields, card-shares, card-answer}
 use Rattle.card_format.specs.Checks.{card-refusal}
 use Rattle.card_format.specs.Truth.{Card-true, Accepted-exactly, Accepted-vouches}
-use Rattle.card_format.proofs.Bytes.{drop-bytes}
+use Rattle.files.proofs.Bytes.{drop-bytes}
 use Rattle.card_format.proofs.Trailer.{length-trailer, file-length}
 use Rattle.card_format.proofs.Vouches.{accepted-exactly, accepted-vouches}
 use Rattle.card.specs.Filing.{Reads-back}

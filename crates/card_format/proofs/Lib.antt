@@ -1,5 +1,4 @@
 -- The laws behind the proofs of this crate: laws of the bytes of a card, and what an accepted or a written card vouches for.
-pub mod Bytes
 pub mod Pairs
 pub mod Trailer
 pub mod Truth

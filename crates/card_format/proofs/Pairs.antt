@@ -15,7 +15,7 @@ use Rattle.files.proofs.Refusal.{and-true}
 use Rattle.method.specs.Iterates.{support}
 use Rattle.card_format.specs.Format.{pair, pairs, shares-into}
 use Rattle.card_format.specs.Checks.{pairs-in-order}
-use Rattle.card_format.proofs.Bytes.{length-bytes, read-bytes, drop-bytes, field}
+use Rattle.files.proofs.Bytes.{length-bytes, read-bytes, drop-bytes, field}
 
 -- ---- One pair
 

@@ -1,30 +1,16 @@
 -- A card's trailer, written and read back; and the parts of a file that is a front, pairs and a trailer.
-use mathlib.Core.Path.{_≡_, refl, sym, ap, ap₂, _∙_}
+use mathlib.Core.Path.{_≡_, refl, sym, ap, _∙_}
 use mathlib.Core.Bool.{true}
 use mathlib.Core.List.{List, [], _∷_, _++_, append-assoc}
 use Prim.Native.Nat.{ℕ, _+_, _-_, _≤_, _<_}
 use native.Mathlib.Omega.{arith}
-use borrow.Author.Tests.{eqb-true}
-use lib.Dec.{eqb}
 use lib.ListN.{length, take, drop, length-append, take-append-drop}
 use lib.Seq.{drop-drop, drop-at, take-at}
 use Rattle.files.specs.Bytes.{number-bytes, all-bytes, little-endian, number, same, trailer, body}
-use Rattle.files.proofs.Refusal.{and-true}
 use Rattle.method.specs.declared.Test.{Test}
 use Rattle.method.specs.declared.Test.the-variants.{Former, Sharper}
 use Rattle.card_format.specs.Format.{Fields, letters, trailer-bytes, fields}
-use Rattle.card_format.proofs.Bytes.{read-bytes, field}
-
--- ---- The same bytes
-
-pub same-eq : (xs ys : List ℕ) → same xs ys ≡ true → xs ≡ ys
-unfolding same
-same-eq [] [] h = refl
-same-eq [] (y ∷ ys) h = absurd (let z : _≡_ {A = ℕ} 0 1 = cc in omega arith)
-same-eq (x ∷ xs) [] h = absurd (let z : _≡_ {A = ℕ} 0 1 = cc in omega arith)
-same-eq (x ∷ xs) (y ∷ ys) h =
-    let p = and-true (eqb x y) (same xs ys) h in
-    ap₂ _∷_ (eqb-true x y (p .0)) (same-eq xs ys (p .1))
+use Rattle.files.proofs.Bytes.{read-bytes, field}
 
 -- ---- Fields
 

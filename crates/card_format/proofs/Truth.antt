@@ -29,9 +29,10 @@ use Rattle.method.proofs.Shares.{share-most}
 use Rattle.card_format.specs.Format.{Fields, letters, pairs, trailer-bytes, fields, card-fields, lettered, card-test, card-body, pair-count, card-shares, card-answer}
 use Rattle.card_format.specs.Checks.{back-fits, pairs-in-order, shares-total, numbers-agree, truth-refusal, card-refusal}
 use Rattle.card_format.specs.Truth.{Card-true}
-use Rattle.card_format.proofs.Bytes.{drop-bytes}
+use Rattle.files.proofs.Bytes.{drop-bytes}
 use Rattle.card_format.proofs.Pairs.{Parsed, parse, Readable, readable}
-use Rattle.card_format.proofs.Trailer.{same-eq, Fields-fit, length-trailer, letters-written, fields-read, fields-written, file-length, file-trailer, file-body, file-parts}
+use Rattle.files.proofs.Letters.{same-eq}
+use Rattle.card_format.proofs.Trailer.{Fields-fit, length-trailer, letters-written, fields-read, fields-written, file-length, file-trailer, file-body, file-parts}
 
 -- ---- The tests, one by one
 

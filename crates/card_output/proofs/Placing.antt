@@ -16,7 +16,7 @@ use Rattle.method.specs.declared.Answer.{Answer}
 use Rattle.method.specs.Answers.{verdict-number}
 use Rattle.method.specs.Iterates.{support}
 use Rattle.card_format.specs.Format.{pair, pairs, WCD2, letters, trailer-bytes, answer-fields}
-use Rattle.card_format.proofs.Bytes.{length-bytes}
+use Rattle.files.proofs.Bytes.{length-bytes}
 use Rattle.card_format.proofs.Pairs.{pair-some}
 use Rattle.card_output.specs.Output.{placed}
 

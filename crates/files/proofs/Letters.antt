@@ -1,15 +1,16 @@
 -- The comparison of two lists of bytes from an offset, byte by byte.
-use mathlib.Core.Path.{_≡_, sym, _∙_}
+use mathlib.Core.Path.{_≡_, refl, sym, ap₂, _∙_}
 use mathlib.Core.Bool.{true, false, _&&_}
-use mathlib.Core.List.{List}
+use mathlib.Core.List.{List, [], _∷_}
 use Prim.Native.Nat.{ℕ, suc, _+_, _≤_, _<_}
 use native.Mathlib.Omega.{arith}
 use native.Mathlib.Numerals.{add-one}
-use borrow.Author.Tests.{eq-eqb, ne-eqb}
+use borrow.Author.Tests.{eq-eqb, ne-eqb, eqb-true}
 use lib.Dec.{eqb}
 use lib.ListN.{length, getD, drop, drop-of-length-le}
 use lib.Seq.{drop-cons}
 use Rattle.files.specs.Bytes.{same}
+use Rattle.files.proofs.Refusal.{and-true}
 
 -- after i bytes that are the same, the rest decides
 pub record Compared (bs ls : List ℕ) (at i : ℕ) : Type 0 where
@@ -37,3 +38,13 @@ module _ {bs ls : List ℕ} {at : ℕ} where
     pub compared-end : length ls ≤ i → true ≡ same (drop at bs) ls
     unfolding same
     compared-end h = sym (s .decides ∙ rw (drop-of-length-le bs {i = at + i} (omega (arith, s .to-end)), drop-of-length-le ls {i = i} h))
+
+-- ---- the same bytes are one list
+pub same-eq : (xs ys : List ℕ) → same xs ys ≡ true → xs ≡ ys
+unfolding same
+same-eq [] [] h = refl
+same-eq [] (y ∷ ys) h = absurd (let z : _≡_ {A = ℕ} 0 1 = cc in omega arith)
+same-eq (x ∷ xs) [] h = absurd (let z : _≡_ {A = ℕ} 0 1 = cc in omega arith)
+same-eq (x ∷ xs) (y ∷ ys) h =
+    let p = and-true (eqb x y) (same xs ys) h in
+    ap₂ _∷_ (eqb-true x y (p .0)) (same-eq xs ys (p .1))

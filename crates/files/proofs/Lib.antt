@@ -5,7 +5,9 @@ pub mod Values
 pub mod Rows
 pub mod Fields
 pub mod Refusal
+pub mod Bytes
 pub mod Access
 pub mod Accepted
 pub mod Front
+pub mod Editions
 pub mod Forms

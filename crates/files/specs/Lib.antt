@@ -4,3 +4,4 @@ pub mod Book
 pub mod Sheet
 pub mod Fits
 pub mod Front
+pub mod Editions

@@ -10,6 +10,8 @@ use lib.ListN.{length, take, drop, length-append, length-drop}
 use lib.Seq.{take-at}
 use Rattle.files.specs.Book.{boats}
 use Rattle.files.specs.Sheet.{files-refusal}
+use Rattle.files.specs.Editions.{Editions}
+use Rattle.files.proofs.Editions.{editions-alike}
 use Rattle.method.specs.Problem.{problem}
 use Rattle.method.specs.declared.Answer.{Answer}
 use Rattle.method.specs.declared.Searched.{Searched}
@@ -32,6 +34,20 @@ run-right b s ok =
 run-share-count : (b s : List ℕ) → files-refusal b s ≡ 0 → length (run-iterate (problem b s) .shares) ≡ boats b
 unfolding run-iterate
 run-share-count b s ok = share-count b s ok (steps-used (problem b s))
+
+-- ---- Sheets that differ in their edition alone
+module _ (b s s′ : List ℕ) where
+  pub same-files : Editions s s′ → files-refusal b s′ ≡ files-refusal b s
+  unfolding files-refusal
+  same-files d = rw (editions-alike s s′ d .1)
+
+  pub same-search : (slots : ℕ) → Editions s s′ → search-refusal b s′ slots ≡ search-refusal b s slots
+  unfolding search-refusal
+  same-search slots d = rw (same-files d)
+
+  pub same-problem : Editions s s′ → problem b s′ ≡ problem b s
+  unfolding problem
+  same-problem d = rw (editions-alike s s′ d .0)
 
 -- a search that is not refused has files that are not, and a slot for each boat
 pub search-accepted : (b s : List ℕ) (slots : ℕ) → search-refusal b s slots ≡ 0 → (files-refusal b s ≡ 0) × (boats b ≤ slots)
@@ -78,6 +94,7 @@ outcome-right b s slots n r now e f g =
       number = ap refusal-number f ∙ outcome-number n (run-answer (problem b s)) ∙ e ∙ ap (search-refusal b s) (sym same-length);
       refused = λ m q. outcome-refused n m (run-answer (problem b s)) (sym f ∙ q) .1;
       answered = λ a q. let h = outcome-answered n (run-answer (problem b s)) a (sym f ∙ q) in rw (← h .1, kept (h .0)) (run-right b s (accepted (h .0) .0));
+      editions = λ s′ d. (same-search b s s′ (length now) d, same-problem b s s′ d);
     }
   where
     qs : List ℕ

@@ -4,6 +4,7 @@ use mathlib.Core.List.{List}
 use Prim.Native.Nat.{ℕ, _≤_}
 use lib.ListN.{length, take}
 use Rattle.files.specs.Book.{boats}
+use Rattle.files.specs.Editions.{Editions}
 use Rattle.method.specs.declared.Answer.{Answer}
 use Rattle.method.specs.declared.Searched.{Searched}
 use Rattle.method.specs.declared.Searched.the-variants.{Refused, Answered}
@@ -30,3 +31,5 @@ pub record Outcome-right (b s : List ℕ) (r : Searched) (slots : List ℕ) : Ty
   pub refused : (n : ℕ) → r ≡ Refused n → 1 ≤ n
   -- the shares of a run are in the first slots, one a boat
   pub answered : (a : Answer) → r ≡ Answered a → Run-right (problem b s) a (take (boats b) slots)
+  -- a sheet of the other edition that asks for the same, every factor 1, is refused by the same number and is the same problem
+  pub editions : (s′ : List ℕ) → Editions s s′ → (search-refusal b s′ (length slots) ≡ search-refusal b s (length slots)) × (problem b s′ ≡ problem b s)

@@ -10,11 +10,9 @@ ghost use Rattle.method.specs.Answers.{outcome, search-refusal, slots-after, ru
 ghost use Rattle.method.specs.Promise.{Outcome-right};
 ghost use Rattle.files.specs.Book.{boats};
 ghost use Rattle.files.specs.Sheet.{files-refusal};
-use iteration::State;
-use method::Answer;
 use method::Searched;
 
-// ENTRY. The search: refuses files and a share list that do not serve (1 to 17, then 21) and leaves the list as it was;
+// ENTRY. The search: refuses files and a share list that do not serve (1 to 17, 46, then 21) and leaves the list as it was;
 // else gives the answer of the run of the problem that the files make, and fills the list's first slots with the shares, one a
 // boat. The first two clauses give the outcome and every slot; the third says what holds of them: the bounds against every
 // mixture (Run-bounds), and that after each step they are those of the published method (Published-run).
@@ -30,5 +28,5 @@ pub fn search(book: &[u8], sheet: &[u8], shares: &mut [u16]) -> Searched
     if shares.len() < files::boats(book) {
         return Searched::Refused(21);
     }
-    Searched::Answered(run(book, sheet, shares))
+    Searched::Answered(factored::run(book, sheet, shares))
 }

@@ -11,7 +11,7 @@ use Rattle.frank_wolfe.specs.Vectors.{ones, sum}
 use Rattle.frank_wolfe.proofs.Vectors.{sum-ones}
 use Rattle.files.specs.Bytes.{number-bytes, little-endian, number, values, same, between, all-in-range, length-in-range, trailer, body, reaches, body-refusal}
 use Rattle.files.specs.Sheet.{Sheet, sheet, sheet-columns, WSH1, WSH2, sheet-lettered, factor-bytes, sheet-refusal-in, sheet-refusal}
-use Rattle.card_format.proofs.Bytes.{read-bytes}
+use Rattle.files.proofs.Bytes.{read-bytes}
 use Rattle.sheet_output.specs.Output.{values-bytes, sheet-trailer, sheet-bytes}
 use Rattle.sheet_output.specs.Back.{Sheet-fit, Sheet-reads-back}
 use Rattle.sheet_output.proofs.Values.{length-values-bytes, values-back}

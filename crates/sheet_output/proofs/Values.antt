@@ -9,7 +9,7 @@ use lib.ListN.{length, drop}
 use lib.IntN.{ℤ, pos, negsuc}
 use Rattle.files.specs.Bytes.{number-bytes, little-endian, number, value, values, in-range, all-in-range}
 use Rattle.files.proofs.Refusal.{and-true}
-use Rattle.card_format.proofs.Bytes.{read-bytes}
+use Rattle.files.proofs.Bytes.{read-bytes}
 use Rattle.sheet_output.specs.Output.{bits, values-bytes}
 
 -- ---- one value

@@ -13,7 +13,7 @@ use mir.Val.{toZ, ofZ}
 use Rattle.integers.proofs.Bounds.{read}
 use Rattle.files.specs.Bytes.{number-bytes, all-in-range}
 use Rattle.files.proofs.Accepted.{value-bounds}
-use Rattle.card_format.proofs.Bytes.{length-bytes}
+use Rattle.files.proofs.Bytes.{length-bytes}
 use Rattle.card_output.specs.Output.{placed}
 use Rattle.card_output.proofs.Placing.{placed-nil, placed-length, placed-then}
 use Rattle.sheet_output.specs.Output.{bits, values-bytes}

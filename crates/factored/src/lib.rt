@@ -1,0 +1,87 @@
+// A run, and the answer of a list of shares, with the factors of the sheet. Where all are 1 the book and the sheet serve as they are; else
+// a book and a sheet in which each column stands as often as its factor says are made in local memory.
+//
+// Helpers for other crates, whose callers prove what they require: run, answer_of.
+ghost use mathlib.Core.Path.{_≡_};
+ghost use mathlib.Core.Bool.{true};
+ghost use mathlib.Core.List.{_++_};
+ghost use Prim.Native.Nat.{_≤_};
+ghost use lib.ListN.{length, take, drop};
+ghost use Rattle.frank_wolfe.specs.Vectors.{sum};
+ghost use Rattle.files.specs.Book.{boats};
+ghost use Rattle.files.specs.Sheet.{WSH2, sheet-lettered, files-refusal};
+ghost use Rattle.method.specs.Problem.{fixed, weight, problem};
+ghost use Rattle.method.specs.Answers.{run-answer, run-iterate};
+ghost use Rattle.method.specs.Bounds.{answer-of};
+ghost use Rattle.iteration.specs.States.{file-layout};
+use iteration::Layout;
+use iteration::State;
+use method::Answer;
+use method::Test;
+
+// The run of a sheet of the edition WSH2, on derived files.
+fn derived_run(book: &[u8], sheet: &[u8], shares: &mut [u16]) -> Answer
+    requires { ⌜ files-refusal (now book) (now sheet) ≡ 0 ⌝ }
+    requires { ⌜ sheet-lettered WSH2 (now sheet) ≡ true ⌝ }
+    requires { ⌜ boats (now book) ≤ length (now shares) ⌝ }
+    ensures { λ r. ⌜ r ≡ run-answer (problem (now (book .entry)) (now (sheet .entry))) ⌝ }
+    ensures { λ _. ⌜ now (shares .exit) ≡ run-iterate (problem (now (book .entry)) (now (sheet .entry))) .shares ++ drop (boats (now (book .entry))) (now (shares .entry)) ⌝ }
+{
+    let factors = factors::factors_of(sheet);
+    let mut own_book = [0u8; 32780];
+    let n = derived_files::put_book(&mut own_book, book, factors);
+    let mut own_sheet = [0u8; 144];
+    let m = derived_files::put_sheet(&mut own_sheet, sheet, factors);
+    plain_run::run(&own_book[..n], &own_sheet[..m], shares)
+}
+
+// The run of files that are not refused: steps until one stops it. It leaves the shares in the first slots, one a boat.
+pub fn run(book: &[u8], sheet: &[u8], shares: &mut [u16]) -> Answer
+    requires { ⌜ files-refusal (now book) (now sheet) ≡ 0 ⌝ }
+    requires { ⌜ boats (now book) ≤ length (now shares) ⌝ }
+    ensures { λ r. ⌜ r ≡ run-answer (problem (now (book .entry)) (now (sheet .entry))) ⌝ }
+    ensures { λ _. ⌜ now (shares .exit) ≡ run-iterate (problem (now (book .entry)) (now (sheet .entry))) .shares ++ drop (boats (now (book .entry))) (now (shares .entry)) ⌝ }
+{
+    if factors::is_plain(sheet) {
+        return plain_run::run(book, sheet, shares);
+    }
+    derived_run(book, sheet, shares)
+}
+
+// The answer of the first shares, one a boat, after t steps, for a sheet of the edition WSH2, on derived files.
+fn derived_answer(test: Test, book: &[u8], sheet: &[u8], shares: [u16; 256], t: u32) -> Answer
+    requires { ⌜ files-refusal (now book) (now sheet) ≡ 0 ⌝ }
+    requires { ⌜ sheet-lettered WSH2 (now sheet) ≡ true ⌝ }
+    requires { do ⌜ (1 ≤ t) × (t ≤ (← ⟦State::MOST_STEPS⟧)) ⌝ }
+    requires { ⌜ sum (take (boats (now book)) shares) ≡ weight fixed t ⌝ }
+    ensures { λ x. ⌜ x ≡ answer-of test (problem (now (book .entry)) (now (sheet .entry))) (take (boats (now (book .entry))) shares) t ⌝ }
+{
+    let factors = factors::factors_of(sheet);
+    let mut own_book = [0u8; 32780];
+    let n = derived_files::put_book(&mut own_book, book, factors);
+    let mut own_sheet = [0u8; 144];
+    let m = derived_files::put_sheet(&mut own_sheet, sheet, factors);
+    let layout = iteration::layout_of(&own_book[..n], &own_sheet[..m]);
+    mixture::answer_of(test, &own_book[..n], &own_sheet[..m], layout, shares, t)
+}
+
+// The answer of the first shares, one a boat, after t steps, judged by the test.
+pub fn answer_of(
+    test: Test,
+    book: &[u8],
+    sheet: &[u8],
+    layout: Layout,
+    shares: [u16; 256],
+    t: u32,
+) -> Answer
+    requires { ⌜ files-refusal (now book) (now sheet) ≡ 0 ⌝ }
+    requires { ⌜ layout ≡ file-layout (now book) (now sheet) ⌝ }
+    requires { do ⌜ (1 ≤ t) × (t ≤ (← ⟦State::MOST_STEPS⟧)) ⌝ }
+    requires { ⌜ sum (take (boats (now book)) shares) ≡ weight fixed t ⌝ }
+    ensures { λ x. ⌜ x ≡ answer-of test (problem (now (book .entry)) (now (sheet .entry))) (take (boats (now (book .entry))) shares) t ⌝ }
+{
+    if factors::is_plain(sheet) {
+        return mixture::answer_of(test, book, sheet, layout, shares, t);
+    }
+    derived_answer(test, book, sheet, shares, t)
+}
