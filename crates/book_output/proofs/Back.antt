@@ -78,10 +78,10 @@ module _ (vs : List (List ℤ)) (c : ℕ) (f : Rows-fit vs c) where
   unfolding rows book-bytes foot
   own-rows = rw (own-boats, own-columns, file-body (rows-bytes vs) foot 12 foot-length (2 * (length vs * c)) rows-long) bare
 
-  own-body : body-refusal 12 (length vs * c) 5 6 (book-bytes vs c) ≡ 0
+  own-body : body-refusal 12 (2 * (length vs * c)) (length vs * c) 5 6 (book-bytes vs c) ≡ 0
   unfolding book-bytes foot
   own-body =
-      body-passed (rows-bytes vs) foot 12 foot-length (length vs * c) 5 6 rows-long
+      body-passed (rows-bytes vs) foot 12 foot-length (2 * (length vs * c)) (length vs * c) 5 6 rows-long
       (book-back-at _ (length vs) c ∙ read-bytes 4 _ (omega (arith, cells, rows-long)) ∙ rows-long)
       (sym (rows-flat (length vs) c (rows-bytes vs)) ∙ rw bare (f .in-range))
 

@@ -9,7 +9,7 @@ use lib.Dec.{eqb}
 use lib.ListN.{length, take, getD, length-append, length-map}
 use mir.Syntax.{w8}
 use mir.Val.{Fits}
-use Rattle.frank_wolfe.specs.Vectors.{sum}
+use Rattle.frank_wolfe.specs.Vectors.{ones, sum}
 use Rattle.files.specs.Book.{boats, columns, rows, book-refusal}
 use Rattle.files.specs.Fits.{Sheet-fits}
 use Rattle.files.specs.Sheet.{sheet, target-offset, sheet-refusal, files-refusal}
@@ -22,14 +22,16 @@ use Rattle.sheet_output.specs.Back.{Sheet-fit, Sheet-reads-back}
 use Rattle.sheet_output.proofs.Values.{length-values-bytes}
 use Rattle.sheet_output.proofs.Back.{sheet-trailer-length, sheet-reads-back}
 use Rattle.sheet_output.proofs.Writing.{front-taken}
-use Rattle.repeating.specs.Repeating.{repeated}
+use Rattle.method.specs.Problem.{problem}
+use Rattle.method.specs.Plain.{plain-problem}
+use Rattle.repeating.specs.Repeating.{repeated, plain-of}
 use Rattle.repeating.proofs.Repeating.{length-repeated}
 use Rattle.book_output.specs.Output.{rows-bytes, book-trailer, book-bytes}
 use Rattle.book_output.specs.Back.{Rows-fit, Book-reads-back}
 use Rattle.book_output.proofs.Back.{book-trailer-length, book-reads-back}
 use Rattle.derived_files.specs.Places.{places, picked, cells, picked-rows-bytes, Inside, Below}
 use Rattle.derived_files.specs.Derived.{derived-rows, derived-book, derived, derived-sheet}
-use Rattle.derived_files.specs.Accepted.{Book-derived, Sheet-derived, Files-derived}
+use Rattle.derived_files.specs.Accepted.{Factors-fit, Book-derived, Sheet-derived, Files-derived, Files-twin}
 use Rattle.derived_files.proofs.Columns.{length-places}
 use Rattle.derived_files.proofs.Repeating.{places-below, picked-repeated, repeated-in-range, rows-in-range, Every, map-every, map-kept}
 use Rattle.derived_files.proofs.Rows.{cells-are, cells-most, length-picked-rows}
@@ -108,10 +110,12 @@ module _ (fs s : List ℕ) (known : Sheet-fits (length fs) s) where
   unfolding derived
   target-long = length-repeated fs (sheet s .target) (known .target-length)
 
-  sheet-fit : sum fs ≤ 64 → Sheet-fit (derived fs s)
+  sheet-fit : 1 ≤ sum fs → sum fs ≤ 64 → Sheet-fit (derived fs s)
   unfolding derived
-  sheet-fit h =
+  sheet-fit g h =
       record {
+        plain = ap ones (sym target-long);
+        some-columns = omega (arith, target-long);
         most-columns = omega (arith, target-long);
         in-range = repeated-in-range fs (sheet s .target) (known .target-in-range);
         some-steps = known .some-steps;
@@ -146,7 +150,7 @@ module _ (fs s : List ℕ) (known : Sheet-fits (length fs) s) where
 
 pub sheet-derived : Sheet-derived
 unfolding Sheet-derived derived-sheet Sheet-reads-back
-sheet-derived c fs s known f = sheet-reads-back (derived fs s) (sheet-fit fs s (rw (f .each-column) known) (f .most-columns))
+sheet-derived c fs s known f = sheet-reads-back (derived fs s) (sheet-fit fs s (rw (f .each-column) known) (f .some-columns) (f .most-columns))
 
 -- ---- both
 book-passed : (b s : List ℕ) → files-refusal b s ≡ 0 → book-refusal b ≡ 0
@@ -164,3 +168,23 @@ files-derived fs b s ok f =
     let known = files-accepted b s ok .1 in
     let t = sheet-derived (columns b) fs s known f in
     rw (k .accepted, k .columns-back, ← target-long fs s (rw (f .each-column) known)) (t .accepted)
+
+-- ---- by the sheet's own factors
+own-fit : (c : ℕ) (s : List ℕ) → Sheet-fits c s → Factors-fit c (sheet s .factors)
+own-fit c s g = record { each-column = g .factor-count; some-columns = g .some-factor; most-columns = g .few-factors }
+
+pub files-twin : Files-twin
+unfolding Files-twin Files-derived Book-derived Sheet-derived derived-rows derived plain-problem plain-of problem
+files-twin b s ok =
+    let fs = sheet s .factors in
+    let known = files-accepted b s ok .1 in
+    let f = own-fit (columns b) s known in
+    let k = book-derived fs b (book-passed b s ok) f in
+    let t = sheet-derived (columns b) fs s known f in
+    record {
+      book-fits = k .most-bytes;
+      sheet-fits = t .most-bytes;
+      accepted = files-derived fs b s ok f;
+      same-boats = k .boats-back ∙ row-count fs b (book-passed b s ok) (f .each-column);
+      plain-twin = rw (k .columns-back, k .rows-back, t .sheet-back);
+    }

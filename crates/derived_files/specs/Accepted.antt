@@ -1,12 +1,16 @@
--- A derived book and a derived sheet are not refused, and read back as what was derived.
+-- A derived book and a derived sheet are not refused, and read back as what was derived. By the sheet's own factors they are the
+-- files of the plain twin of the problem.
 use mathlib.Core.Path.{_≡_}
 use mathlib.Core.List.{List}
 use Prim.Native.Nat.{ℕ, _≤_}
 use lib.ListN.{length}
 use Rattle.frank_wolfe.specs.Vectors.{sum}
-use Rattle.files.specs.Book.{columns, book-refusal}
-use Rattle.files.specs.Sheet.{files-refusal}
+use Rattle.files.specs.Book.{boats, columns, book-refusal}
+use Rattle.files.specs.Sheet.{sheet, files-refusal}
 use Rattle.files.specs.Fits.{Sheet-fits}
+use Rattle.method.specs.Problem.{problem}
+use Rattle.method.specs.Plain.{plain-problem}
+use Rattle.repeating.specs.Repeating.{plain-of}
 use Rattle.book_output.specs.Back.{Book-of}
 use Rattle.sheet_output.specs.Back.{Sheet-of}
 use Rattle.derived_files.specs.Derived.{derived-rows, derived-book, derived, derived-sheet}
@@ -26,3 +30,22 @@ Sheet-derived = (c : ℕ) (fs s : List ℕ) → Sheet-fits c s → Factors-fit c
 -- both serve a search
 unfoldable pub Files-derived : Type 0
 Files-derived = (fs b s : List ℕ) → files-refusal b s ≡ 0 → Factors-fit (columns b) fs → files-refusal (derived-book fs b) (derived-sheet fs s) ≡ 0
+
+-- ---- By the sheet's own factors
+
+abbrev pub twin-book : (book sheet : List ℕ) → List ℕ
+twin-book b s = derived-book (sheet s .factors) b
+
+abbrev pub twin-sheet : (sheet : List ℕ) → List ℕ
+twin-sheet s = derived-sheet (sheet s .factors) s
+
+-- a plain search on them is about the plain twin of the problem of b and s
+pub record Twin-files (b s : List ℕ) : Type 0 where
+  pub book-fits : length (twin-book b s) ≤ 32780
+  pub sheet-fits : length (twin-sheet s) ≤ 144
+  pub accepted : files-refusal (twin-book b s) (twin-sheet s) ≡ 0
+  pub same-boats : boats (twin-book b s) ≡ boats b
+  pub plain-twin : plain-problem (twin-book b s) (twin-sheet s) ≡ plain-of (problem b s)
+
+unfoldable pub Files-twin : Type 0
+Files-twin = (b s : List ℕ) → files-refusal b s ≡ 0 → Twin-files b s
