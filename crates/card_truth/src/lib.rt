@@ -71,7 +71,6 @@ pub fn judged(
         card_input::test_of(card),
         book,
         sheet,
-        layout,
         shares,
         card_input::steps_used(card),
     );

@@ -153,7 +153,7 @@ unfolding Sheet-derived derived-sheet Sheet-reads-back
 sheet-derived c fs s known f = sheet-reads-back (derived fs s) (sheet-fit fs s (rw (f .each-column) known) (f .some-columns) (f .most-columns))
 
 -- ---- both
-book-passed : (b s : List ℕ) → files-refusal b s ≡ 0 → book-refusal b ≡ 0
+pub book-passed : (b s : List ℕ) → files-refusal b s ≡ 0 → book-refusal b ≡ 0
 unfolding files-refusal
 book-passed b s e = by (eqb (book-refusal b) 0) refl e
   where

@@ -11,10 +11,9 @@ ghost use Rattle.frank_wolfe.specs.Vectors.{sum};
 ghost use Rattle.files.specs.Book.{boats};
 ghost use Rattle.files.specs.Sheet.{WSH2, sheet-lettered, files-refusal};
 ghost use Rattle.method.specs.Problem.{fixed, weight, problem};
+ghost use Rattle.method.specs.Plain.{plain-problem};
 ghost use Rattle.method.specs.Answers.{run-answer, run-iterate};
 ghost use Rattle.method.specs.Bounds.{answer-of};
-ghost use Rattle.iteration.specs.States.{file-layout};
-use iteration::Layout;
 use iteration::State;
 use method::Answer;
 use method::Test;
@@ -48,7 +47,18 @@ pub fn run(book: &[u8], sheet: &[u8], shares: &mut [u16]) -> Answer
     derived_run(book, sheet, shares)
 }
 
-// The answer of the first shares, one a boat, after t steps, for a sheet of the edition WSH2, on derived files.
+// The answer of the first shares, one a boat, after t steps, with every factor 1.
+fn plain_answer(test: Test, book: &[u8], sheet: &[u8], shares: [u16; 256], t: u32) -> Answer
+    requires { ⌜ files-refusal (now book) (now sheet) ≡ 0 ⌝ }
+    requires { do ⌜ (1 ≤ t) × (t ≤ (← ⟦State::MOST_STEPS⟧)) ⌝ }
+    requires { ⌜ sum (take (boats (now book)) shares) ≡ weight fixed t ⌝ }
+    ensures { λ x. ⌜ x ≡ answer-of test (plain-problem (now (book .entry)) (now (sheet .entry))) (take (boats (now (book .entry))) shares) t ⌝ }
+{
+    let layout = iteration::layout_of(book, sheet);
+    mixture::answer_of(test, book, sheet, layout, shares, t)
+}
+
+// The same with the factors of a sheet of the edition WSH2, on derived files.
 fn derived_answer(test: Test, book: &[u8], sheet: &[u8], shares: [u16; 256], t: u32) -> Answer
     requires { ⌜ files-refusal (now book) (now sheet) ≡ 0 ⌝ }
     requires { ⌜ sheet-lettered WSH2 (now sheet) ≡ true ⌝ }
@@ -61,27 +71,18 @@ fn derived_answer(test: Test, book: &[u8], sheet: &[u8], shares: [u16; 256], t: 
     let n = derived_files::put_book(&mut own_book, book, factors);
     let mut own_sheet = [0u8; 144];
     let m = derived_files::put_sheet(&mut own_sheet, sheet, factors);
-    let layout = iteration::layout_of(&own_book[..n], &own_sheet[..m]);
-    mixture::answer_of(test, &own_book[..n], &own_sheet[..m], layout, shares, t)
+    plain_answer(test, &own_book[..n], &own_sheet[..m], shares, t)
 }
 
 // The answer of the first shares, one a boat, after t steps, judged by the test.
-pub fn answer_of(
-    test: Test,
-    book: &[u8],
-    sheet: &[u8],
-    layout: Layout,
-    shares: [u16; 256],
-    t: u32,
-) -> Answer
+pub fn answer_of(test: Test, book: &[u8], sheet: &[u8], shares: [u16; 256], t: u32) -> Answer
     requires { ⌜ files-refusal (now book) (now sheet) ≡ 0 ⌝ }
-    requires { ⌜ layout ≡ file-layout (now book) (now sheet) ⌝ }
     requires { do ⌜ (1 ≤ t) × (t ≤ (← ⟦State::MOST_STEPS⟧)) ⌝ }
     requires { ⌜ sum (take (boats (now book)) shares) ≡ weight fixed t ⌝ }
     ensures { λ x. ⌜ x ≡ answer-of test (problem (now (book .entry)) (now (sheet .entry))) (take (boats (now (book .entry))) shares) t ⌝ }
 {
     if factors::is_plain(sheet) {
-        return mixture::answer_of(test, book, sheet, layout, shares, t);
+        return plain_answer(test, book, sheet, shares, t);
     }
     derived_answer(test, book, sheet, shares, t)
 }

@@ -104,3 +104,11 @@ module _ (s : List ℕ) (w : Sheet-whole s) where
 
     pub plain-ones : g ≡ false → true ≡ all-ones (sheet s .factors)
     plain-ones t = sym (rw (plain-factors t) (ones-all (sheet-columns s)))
+
+  -- a factor other than 1 stands in the edition WSH2 alone
+  pub second-edition : all-ones (sheet s .factors) ≡ false → sheet-lettered WSH2 s ≡ true
+  second-edition e = by (sheet-lettered WSH2 s) refl
+    where
+      by : (t : Bool) → sheet-lettered WSH2 s ≡ t → t ≡ true
+      by true l = refl
+      by false l = sym e ∙ sym (plain-ones false (sym (sym (sheet-letters-at s (omega arith) WSH2) ∙ l)) refl)

@@ -10,7 +10,7 @@ use lib.ListN.{length, take, drop, length-append, length-drop}
 use lib.Seq.{take-at}
 use Rattle.files.specs.Book.{boats}
 use Rattle.files.specs.Sheet.{files-refusal}
-use Rattle.files.specs.Editions.{Editions}
+use Rattle.files.specs.Editions.{Editions, Editions-alike}
 use Rattle.files.proofs.Editions.{editions-alike}
 use Rattle.method.specs.Problem.{problem}
 use Rattle.method.specs.declared.Answer.{Answer}
@@ -38,7 +38,7 @@ run-share-count b s ok = share-count b s ok (steps-used (problem b s))
 -- ---- Sheets that differ in their edition alone
 module _ (b s s′ : List ℕ) where
   pub same-files : Editions s s′ → files-refusal b s′ ≡ files-refusal b s
-  unfolding files-refusal
+  unfolding files-refusal Editions-alike
   same-files d = rw (editions-alike s s′ d .1)
 
   pub same-search : (slots : ℕ) → Editions s s′ → search-refusal b s′ slots ≡ search-refusal b s slots
@@ -46,7 +46,7 @@ module _ (b s s′ : List ℕ) where
   same-search slots d = rw (same-files d)
 
   pub same-problem : Editions s s′ → problem b s′ ≡ problem b s
-  unfolding problem
+  unfolding problem Editions-alike
   same-problem d = rw (editions-alike s s′ d .0)
 
 -- a search that is not refused has files that are not, and a slot for each boat
