@@ -11,6 +11,7 @@ use lib.IntN.{ℤ, pos}
 use lib.ListN.{length, take, replicate, length-replicate}
 use lib.Seq.{take-at, drop-at}
 use Rattle.integers.proofs.Filling.{drop-replicate}
+use Rattle.frank_wolfe.specs.Vectors.{ones}
 use Rattle.files.specs.Bytes.{between, all-in-range}
 use Rattle.files.specs.Book.{columns, book-refusal}
 use Rattle.files.specs.Sheet.{Sheet}
@@ -96,6 +97,8 @@ module _ {b : List ℕ} {cs : List ScaleCell} {k t : ℕ} (p : Passed b cs k t) 
       let q = between-true 1 360 k (p .steps-passed) in
       sheet-reads-back (asked b cs k t)
       (record {
+        plain = ap ones (sym target-length);
+        some-columns = omega (arith, target-length, book .some-columns);
         most-columns = omega (arith, target-length, book .most-columns);
         in-range = in-range;
         some-steps = q .0;
@@ -125,6 +128,7 @@ module _ {b : List ℕ} {cs : List ScaleCell} {k t : ℕ} (p : Passed b cs k t) 
         later-bytes = drop-at bs (replicate (144 - length bs) 0) (length bs) refl;
         accepted = rw made-is (sym (book-passed b bs (book-refusal b) refl (scale-accepted b cs (p .all-cells) (p .cells-passed) .0) (length target) _ target-length refl) ∙ of .accepted);
         target-is = rw (made-is, of .sheet-back, own-values) (sym (take-at target padding (columns b) target-length));
+        factors-are = rw made-is (ap (λ (x : Sheet). x .factors) (of .sheet-back));
         steps-are = rw made-is (ap (λ (x : Sheet). x .steps) (of .sheet-back));
         tolerance-is = rw made-is (ap (λ (x : Sheet). x .tolerance) (of .sheet-back));
         values-right = accepted-values b cs k t (p .all-cells) (p .cells-passed);

@@ -4,6 +4,7 @@ use mathlib.Core.List.{List}
 use mathlib.Core.Logic.{_⊎_}
 use Prim.Native.Nat.{ℕ, zero, suc, _-_, _≤_, _<_}
 use lib.ListN.{take, drop, replicate}
+use Rattle.frank_wolfe.specs.Vectors.{ones}
 use Rattle.files.specs.Book.{columns}
 use Rattle.files.specs.Sheet.{sheet, files-refusal}
 use Rattle.cells.specs.declared.ScaleCell.{ScaleCell}
@@ -23,6 +24,7 @@ pub record Sheet-accepted (b : List ℕ) (cs : List ScaleCell) (steps tolerance 
   -- the sheet is one for this book, and asks for the cells' values with these steps and this tolerance
   pub accepted : files-refusal b (made r) ≡ 0
   pub target-is : sheet (made r) .target ≡ take (columns b) (sheet-values b cs .values)
+  pub factors-are : sheet (made r) .factors ≡ ones (columns b)
   pub steps-are : sheet (made r) .steps ≡ steps
   pub tolerance-is : sheet (made r) .tolerance ≡ tolerance
   pub values-right : Values-accepted b cs (sheet-values b cs .values)

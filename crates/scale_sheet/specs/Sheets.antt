@@ -4,7 +4,9 @@ use mathlib.Core.List.{List, _++_, map}
 use Prim.Native.Nat.{ℕ, zero, suc, _-_}
 use lib.Dec.{eqb, ltb}
 use lib.ListN.{length, replicate}
+use Rattle.frank_wolfe.specs.Vectors.{ones}
 use Rattle.files.specs.Bytes.{between}
+use Rattle.files.specs.Book.{columns}
 use Rattle.files.specs.Sheet.{Sheet}
 use Rattle.cells.specs.declared.ScaleCell.{ScaleCell}
 use Rattle.cells.specs.Cells.{cell-value, read-cells, scale-refusal}
@@ -19,9 +21,9 @@ scale-sheet-refusal b cs steps tolerance =
     (cond (ltb 1024000000 tolerance) 15
     0))
 
--- what the sheet asks for: the values of the cells that are read, with these steps and this tolerance
+-- what the sheet asks for: the values of the cells that are read, every factor 1, with these steps and this tolerance
 abbrev pub asked : (book : List ℕ) → List ScaleCell → (steps tolerance : ℕ) → Sheet
-asked b cs k t = record { target = map cell-value (read-cells b cs); steps = k; tolerance = t }
+asked b cs k t = record { target = map cell-value (read-cells b cs); factors = ones (columns b); steps = k; tolerance = t }
 
 -- no byte
 abbrev pub refused-sheet : (refusal : ℕ) → ScaleSheet

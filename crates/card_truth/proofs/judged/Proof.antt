@@ -6,7 +6,7 @@ use Rattle.card_truth.proofs.judged.Statement.{statement}
 use Rattle.card_truth.proofs.judged.Tie as tie
 use Rattle.card_truth.proofs.judged.Reads as reads
 use Rattle.card_truth.proofs.judged.Lts as lts
-use Rattle.mixture.proofs.answer_of.Reads as answer-of-reads
+use Rattle.factored.proofs.answer_of.Reads as answer-of-reads
 use Rattle.card_truth.proofs.numbers_agree.Reads as numbers-agree-reads
 use Rattle.card_truth.proofs.shares_total.Reads as shares-total-reads
 use Rattle.card_input.proofs.steps_used.Reads as steps-used-reads
@@ -39,7 +39,7 @@ answer-of-requires : tie.Need-answer-of-requires
 answer-of-requires c κs =
     let at-if1 = c .before .before in
     let start = at-if1 .before .before .before .before .before in
-    (start .pre .0, (start .pre .1 .0, (steps-asked _ _ _ (start .pre .0) (start .pre .1 .0) (start .pre .1 .1) (start .args .shares) _ (at-if1 .before .shares-total .ensures) (at-if1 .if1 .left) (c .steps-used .ensures .0), total-asked _ _ _ (start .pre .0) (start .pre .1 .0) (start .pre .1 .1) (start .args .shares) _ (at-if1 .before .shares-total .ensures) (at-if1 .if1 .left) (c .steps-used .ensures .0))))
+    (start .pre .0, (steps-asked _ _ _ (start .pre .0) (start .pre .1 .0) (start .pre .1 .1) (start .args .shares) _ (at-if1 .before .shares-total .ensures) (at-if1 .if1 .left) (c .steps-used .ensures .0), total-asked _ _ _ (start .pre .0) (start .pre .1 .0) (start .pre .1 .1) (start .args .shares) _ (at-if1 .before .shares-total .ensures) (at-if1 .if1 .left) (c .steps-used .ensures .0)))
 
 steps-requires : tie.Need-steps-requires
 steps-requires c κs =
