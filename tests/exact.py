@@ -7,7 +7,12 @@ fractions.Fraction, and turns the fractions into whole numbers only at the end.
 
 The problem: the rows of a fleet book are the vertices, the target of a sheet
 is the point u, and f(x) = |x - u|^2 / 2 is minimised over the convex hull of
-the rows.  With x_0 the row of boat 0 and k = 0, 1, 2, ...
+the rows.  The inner product counts each column as often as its factor says,
+
+    <x, y> = sum over the columns of factor * x * y,     |x|^2 = <x, x>,
+
+and the gradient of f in it is x - u.  With x_0 the row of boat 0 and
+k = 0, 1, 2, ...
 
     s       = a row v where <x_k - u, v> is least: the lowest-numbered of
               those with a weight above 0, else the lowest-numbered
@@ -31,9 +36,10 @@ then the body, then the trailer.  "back" is the size of the body in bytes.
 
     fleet book  body: rows, boat 0 first, 2 bytes a value
                 trailer, 12 bytes: back 4, boats 2, columns 2, "WBK1"
-    sheet       body: the target, 2 bytes a value
+    sheet       body: the target, 2 bytes a value, then the factors of the
+                columns, 1 byte each
                 trailer, 16 bytes: back 4, columns 2, steps 2, tolerance 4,
-                "WSH1"
+                "WSH2"; the edition "WSH1" has no factors, and each is 1
     card        body: boat 2, share 2 for each boat with a share above zero,
                 boats ascending
                 trailer, 36 bytes: back 4, verdict 2, steps used 2,
@@ -52,7 +58,8 @@ is its body and trailer, without front text.
 
 A refusal is a number; 0 stands for accepted.  The first that applies, in the
 call's own order, is the one given back: in number order, but a sheet made of
-cells has 41 to 43, cell by cell, right after 6 and before 14 and 15.
+cells has 41 to 43, cell by cell, right after 6 and before 14 and 15, and 46 is
+the last of a sheet's own, right after 17.
 
      1  book shorter than 12 or longer than 40,000 bytes
      2  letters not WBK1
@@ -61,11 +68,12 @@ cells has 41 to 43, cell by cell, right after 6 and before 14 and 15.
      5  back not 2 * boats * columns, or reaching before the first byte
      6  a value outside -2,000 to 2,000
     11  sheet shorter than 16 or longer than 40,000 bytes
-    12  letters not WSH1
+    12  letters not WSH1 or WSH2
     13  columns not those of the book
     14  steps outside 1 to 360
     15  tolerance above 1,024,000,000
-    16  back not 2 * columns, or reaching before the first byte
+    16  back not 2 * columns (WSH2: 3 * columns), or reaching before the first
+        byte
     17  a value outside -2,000 to 2,000
     21  share list shorter than the number of boats
     22  card buffer shorter than the card
@@ -81,6 +89,7 @@ cells has 41 to 43, cell by cell, right after 6 and before 14 and 15.
     41  cell not weighed
     42  a reading not finite, or a net beyond 1,048,576 kilograms either way
     43  unit outside 1 to 10,000, or a value outside -2,000 to 2,000
+    46  factors that total 0 or more than 64
 
 Use from a shell:  python3 tests/exact.py FLEET SHEET
 """
@@ -101,6 +110,7 @@ MOST_COLUMNS = 64
 MOST_VALUE = 2000
 MOST_STEPS = 360
 MOST_TOLERANCE = 1024000000
+MOST_FACTORS = 64
 MOST_KILOGRAMS = 1048576
 MOST_UNIT = 10000
 
@@ -111,6 +121,9 @@ VERDICT_NAMES = {WITHIN: "within", BEYOND: "beyond", SPENT: "spent"}
 BOOK_TRAILER = struct.Struct("<IHH4s")
 SHEET_TRAILER = struct.Struct("<IHHI4s")
 CARD_TRAILER = struct.Struct("<IHHIQQHH4s")
+
+# Bytes of a sheet's body for each column, by its letters.
+SHEET_EDITIONS = {b"WSH1": 2, b"WSH2": 3}
 
 
 @dataclass(frozen=True)
@@ -134,10 +147,21 @@ def split(file, layout):
     return layout.unpack(file[before:]), file[:before]
 
 
-def body_values(before, back):
-    """The signed 16-bit values in the last `back` bytes before a trailer."""
-    body = before[len(before) - back:]
+def body_of(before, back):
+    """The last `back` bytes before a trailer."""
+    return before[len(before) - back:]
+
+
+def values_of(body):
+    """The signed 16-bit values of these bytes."""
     return [value for (value,) in struct.iter_unpack("<h", body)]
+
+
+def sheet_body(before, columns, letters):
+    """Target and factors of a sheet; WSH1 has the factor 1 for every column."""
+    body = body_of(before, SHEET_EDITIONS[letters] * columns)
+    target, factors = values_of(body[:2 * columns]), list(body[2 * columns:])
+    return target, factors if letters == b"WSH2" else [1] * columns
 
 
 def out_of_range(values):
@@ -158,7 +182,7 @@ def book_refusal(book: bytes) -> int:
         return 4
     if back != 2 * boats * columns or back > len(before):
         return 5
-    if out_of_range(body_values(before, back)):
+    if out_of_range(values_of(body_of(before, back))):
         return 6
     return 0
 
@@ -168,7 +192,7 @@ def sheet_refusal(sheet: bytes, columns: int) -> int:
     if len(sheet) < SHEET_TRAILER.size or len(sheet) > MOST_BYTES:
         return 11
     (back, own_columns, steps, tolerance, letters), before = split(sheet, SHEET_TRAILER)
-    if letters != b"WSH1":
+    if letters not in SHEET_EDITIONS:
         return 12
     if own_columns != columns:
         return 13
@@ -176,10 +200,13 @@ def sheet_refusal(sheet: bytes, columns: int) -> int:
         return 14
     if tolerance > MOST_TOLERANCE:
         return 15
-    if back != 2 * own_columns or back > len(before):
+    if back != SHEET_EDITIONS[letters] * own_columns or back > len(before):
         return 16
-    if out_of_range(body_values(before, back)):
+    target, factors = sheet_body(before, own_columns, letters)
+    if out_of_range(target):
         return 17
+    if sum(factors) < 1 or sum(factors) > MOST_FACTORS:
+        return 46
     return 0
 
 
@@ -195,14 +222,15 @@ def files_refusal(book: bytes, sheet: bytes) -> int:
 def read_book(book: bytes) -> list[list[int]]:
     """The rows of an accepted fleet book, boat 0 first."""
     (back, boats, columns, _), before = split(book, BOOK_TRAILER)
-    values = body_values(before, back)
+    values = values_of(body_of(before, back))
     return [values[i * columns:(i + 1) * columns] for i in range(boats)]
 
 
-def read_sheet(sheet: bytes) -> tuple[list[int], int, int]:
-    """Target, steps and tolerance of an accepted sheet."""
-    (back, _, steps, tolerance, _), before = split(sheet, SHEET_TRAILER)
-    return body_values(before, back), steps, tolerance
+def read_sheet(sheet: bytes) -> tuple[list[int], int, int, list[int]]:
+    """Target, steps, tolerance and factors of an accepted sheet."""
+    (_, columns, steps, tolerance, letters), before = split(sheet, SHEET_TRAILER)
+    target, factors = sheet_body(before, columns, letters)
+    return target, steps, tolerance, factors
 
 
 # --------------------------------------------------------------- the method
@@ -217,29 +245,36 @@ def over_common_denominator(values):
 
 
 def dot(left, right):
-    """Inner product of two lists of whole numbers."""
+    """Sum of the products of two lists of whole numbers."""
     return sum(map(mul, left, right))
 
 
-def measure(point, rows, target):
+def factors_or_ones(factors, columns):
+    """The factors; where none are given, as on a sheet WSH1, 1 for each column."""
+    return [1] * columns if factors is None else list(factors)
+
+
+def measure(point, rows, target, factors=None):
     """Squared distance and duality gap of a point, and its minimizers.
 
     The minimizers are the rows v where <x - u, v> is least, by number.
 
     The gradient x - u is put over one common denominator so that the inner
-    products with all rows are sums of whole numbers.  This only saves time:
-    the values are those of the fractions.
+    products with all rows are sums of whole numbers, and its columns are
+    multiplied by their factors once.  This only saves time: the values are
+    those of the fractions.
     """
     gradient = [x - u for x, u in zip(point, target)]
     slope, d = over_common_denominator(gradient)     # gradient = slope / d
-    scores = [dot(slope, row) for row in rows]       # <x - u, v> = score / d
+    factored = list(map(mul, factors_or_ones(factors, len(target)), slope))
+    scores = [dot(factored, row) for row in rows]    # <x - u, v> = score / d
     least = min(scores)
     minimizers = [i for i, score in enumerate(scores) if score == least]
     # The target is whole, so d is a common denominator of the point as well.
     place = [x.numerator * (d // x.denominator) for x in point]
-    squared_distance = Fraction(dot(slope, slope), d * d)
+    squared_distance = Fraction(dot(factored, slope), d * d)
     # The greatest <x - u, x - v> is <x - u, x> less the least <x - u, v>.
-    duality_gap = Fraction(dot(slope, place), d * d) - Fraction(least, d)
+    duality_gap = Fraction(dot(factored, place), d * d) - Fraction(least, d)
     return squared_distance, duality_gap, minimizers
 
 
@@ -280,14 +315,14 @@ def judge(squared_distance, duality_gap, tolerance, step, steps, test=sharper_te
     return 0
 
 
-def iterates(rows, target, choose=next_vertex):
+def iterates(rows, target, factors=None, choose=next_vertex):
     """The published iteration: the number of steps, weights, point, squared
     distance and duality gap after each; all but the first are fractions.
     """
     point = [Fraction(value) for value in rows[0]]
     weights = [Fraction(0)] * len(rows)
     weights[0] = Fraction(1)
-    _, _, minimizers = measure(point, rows, target)
+    _, _, minimizers = measure(point, rows, target, factors)
     k = 0
     while True:
         vertex = choose(minimizers, weights)
@@ -298,39 +333,40 @@ def iterates(rows, target, choose=next_vertex):
         weights = [rest * w if w else w for w in weights]
         weights[vertex] += gamma
         k += 1
-        squared_distance, duality_gap, minimizers = measure(point, rows, target)
+        squared_distance, duality_gap, minimizers = measure(point, rows, target, factors)
         yield k, weights, point, squared_distance, duality_gap
 
 
-def frank_wolfe(rows, target, steps, tolerance, test=sharper_test, choose=next_vertex):
+def frank_wolfe(rows, target, steps, tolerance, factors=None, test=sharper_test, choose=next_vertex):
     """The published iteration, judged after each step, up to the first verdict,
     which is given back behind the rest.
     """
-    for k, weights, point, squared_distance, duality_gap in iterates(rows, target, choose):
+    for k, weights, point, squared_distance, duality_gap in iterates(rows, target, factors, choose):
         verdict = judge(squared_distance, duality_gap, tolerance, k, steps, test)
         if verdict:
             return k, weights, point, squared_distance, duality_gap, verdict
 
 
-def squared_diameter(rows):
+def squared_diameter(rows, factors=None):
     """D^2, the greatest squared distance between two rows."""
-    return max(sum((x - y) ** 2 for x, y in zip(one, other)) for one in rows for other in rows)
+    factors = factors_or_ones(factors, len(rows[0]))
+    return max(sum(f * (x - y) ** 2 for f, x, y in zip(factors, one, other)) for one in rows for other in rows)
 
 
-def measures(rows, target, steps):
+def measures(rows, target, steps, factors=None):
     """Squared distance and duality gap after 1, 2, ..., `steps` steps, with no regard to verdicts."""
-    return [(distance, gap) for _, _, _, distance, gap in islice(iterates(rows, target), steps)]
+    return [(distance, gap) for _, _, _, distance, gap in islice(iterates(rows, target, factors), steps)]
 
 
-def gaps_of(rows, target, steps):
+def gaps_of(rows, target, steps, factors=None):
     """The duality gaps of these."""
-    return [gap for _, gap in measures(rows, target, steps)]
+    return [gap for _, gap in measures(rows, target, steps, factors)]
 
 
-def gap_ratios(rows, target, steps):
-    """4 (K + 2) times each of these gaps, over D^2; K is `steps`, and the rows are not all equal."""
-    diameter = squared_diameter(rows)
-    return [4 * (steps + 2) * gap / diameter for gap in gaps_of(rows, target, steps)]
+def gap_ratios(rows, target, steps, factors=None):
+    """4 (K + 2) times each of these gaps, over D^2; K is `steps`, and D^2 is not 0."""
+    diameter = squared_diameter(rows, factors)
+    return [4 * (steps + 2) * gap / diameter for gap in gaps_of(rows, target, steps, factors)]
 
 
 def whole(value):
@@ -358,10 +394,10 @@ def answer_of(t, squared_distance, duality_gap, verdict, tolerance):
     return Answer(t, w, distance, gap, verdict, carried)
 
 
-def run(rows, target, steps, tolerance, test=sharper_test, choose=next_vertex):
+def run(rows, target, steps, tolerance, factors=None, test=sharper_test, choose=next_vertex):
     """Answer and shares of one search."""
     t, weights, _, squared_distance, duality_gap, verdict = frank_wolfe(
-        rows, target, steps, tolerance, test, choose)
+        rows, target, steps, tolerance, factors, test, choose)
     answer = answer_of(t, squared_distance, duality_gap, verdict, tolerance)
     return answer, [whole(weight * answer.weight) for weight in weights]
 
@@ -387,8 +423,8 @@ def write_card(book: bytes, sheet: bytes, buffer: bytes):
     if refusal:
         return refusal, None, 0, bytes(buffer)
     rows = read_book(book)
-    target, steps, tolerance = read_sheet(sheet)
-    answer, shares = run(rows, target, steps, tolerance)
+    target, steps, tolerance, factors = read_sheet(sheet)
+    answer, shares = run(rows, target, steps, tolerance, factors)
     card = card_bytes(answer, shares, tolerance, len(rows), len(target))
     if len(buffer) < len(card):
         return 22, None, 0, bytes(buffer)
@@ -404,16 +440,15 @@ def check_card(book: bytes, sheet: bytes, card: bytes, slots: list[int]):
     if refusal:
         return refusal, None, list(slots)
     rows = read_book(book)
-    target, steps, tolerance = read_sheet(sheet)
     if len(slots) < len(rows):
         return 21, None, list(slots)
-    refusal, answer, shares = judge_card(rows, target, steps, tolerance, card)
+    refusal, answer, shares = judge_card(rows, *read_sheet(sheet), card)
     if refusal:
         return refusal, None, list(slots)
     return 0, answer, shares + list(slots[len(rows):])
 
 
-def judge_card(rows, target, steps, tolerance, card):
+def judge_card(rows, target, steps, tolerance, factors, card):
     """Checks 31 to 39: refusal, answer and shares of a card."""
     if len(card) < CARD_TRAILER.size or len(card) > MOST_BYTES:
         return 31, None, None
@@ -441,7 +476,7 @@ def judge_card(rows, target, steps, tolerance, card):
     for boat, share in entries:
         weight = Fraction(share, w)
         point = [x + weight * value for x, value in zip(point, rows[boat])]
-    squared_distance, duality_gap, _ = measure(point, rows, target)
+    squared_distance, duality_gap, _ = measure(point, rows, target, factors)
     # 0 where no verdict is due yet; it then differs from every card's verdict.
     true_verdict = judge(squared_distance, duality_gap, tolerance, t, steps, TESTS[letters])
     if (squared_distance * w * w != distance or duality_gap * w * w != gap
@@ -596,7 +631,7 @@ def listing(book: bytes, sheet: bytes) -> bytes:
     refusal, answer, shares = search(book, sheet, [0] * MOST_BOATS)
     if refusal:
         return refused(refusal)
-    _, steps, tolerance = read_sheet(sheet)
+    _, steps, tolerance, _ = read_sheet(sheet)
     return listing_lines(read_book(book), steps, tolerance, answer, shares)
 
 
@@ -605,7 +640,7 @@ def card_listing(book: bytes, sheet: bytes, card: bytes) -> bytes:
     refusal, answer, shares = check_card(book, sheet, card, [0] * MOST_BOATS)
     if refusal:
         return refused(refusal)
-    _, steps, tolerance = read_sheet(sheet)
+    _, steps, tolerance, _ = read_sheet(sheet)
     return listing_lines(read_book(book), steps, tolerance, answer, shares)
 
 
@@ -633,9 +668,11 @@ def make_book(rows, front: bytes = b"", back=None, boats=None, columns=None,
 
 
 def make_sheet(target, steps: int, tolerance: int, front: bytes = b"", back=None,
-               columns=None, letters: bytes = b"WSH1") -> bytes:
-    """A sheet of the given target, steps and tolerance."""
-    body = b"".join(struct.pack("<h", value) for value in target)
+               columns=None, letters=None, factors=None) -> bytes:
+    """A sheet of the given target, steps and tolerance: WSH2 where factors are given, else WSH1."""
+    body = b"".join(struct.pack("<h", value) for value in target) + bytes(factors or [])
+    if letters is None:
+        letters = b"WSH1" if factors is None else b"WSH2"
     return front + body + SHEET_TRAILER.pack(
         len(body) if back is None else back,
         len(target) if columns is None else columns,
@@ -656,10 +693,10 @@ def true_card(book: bytes, sheet: bytes, shares, steps: int, front: bytes = b"",
               letters: bytes = b"WCD2") -> bytes:
     """The card of these shares with the E, G and verdict that are true of them by the test of the letters; Spent where none is due yet."""
     rows = read_book(book)
-    target, most, tolerance = read_sheet(sheet)
+    target, most, tolerance, factors = read_sheet(sheet)
     w = total_of_steps(steps)
     point = [Fraction(dot(shares, column), w) for column in zip(*rows)]
-    squared_distance, duality_gap, _ = measure(point, rows, target)
+    squared_distance, duality_gap, _ = measure(point, rows, target, factors)
     verdict = judge(squared_distance, duality_gap, tolerance, steps, most, TESTS[letters]) or SPENT
     answer = answer_of(steps, squared_distance, duality_gap, verdict, tolerance)
     entries = [(boat, share) for boat, share in enumerate(shares) if share]

@@ -114,10 +114,15 @@ def readers():
     sheet = make_sheet((-3, 4, 5), 360, 1024000000)
     agree("sheet bytes", sheet, bytes.fromhex("fdff04000500" "06000000" "0300" "6801"
                                               "0000093d") + b"WSH1")
-    agree("sheet fields", exact.read_sheet(sheet), ([-3, 4, 5], 360, 1024000000))
+    agree("sheet fields", exact.read_sheet(sheet), ([-3, 4, 5], 360, 1024000000, [1, 1, 1]))
+    factored = make_sheet((-3, 4, 5), 360, 1024000000, factors=(0, 7, 255))
+    agree("factored sheet bytes", factored, bytes.fromhex("fdff04000500" "0007ff" "09000000" "0300" "6801"
+                                                          "0000093d") + b"WSH2")
+    agree("factored sheet fields", exact.read_sheet(factored), ([-3, 4, 5], 360, 1024000000, [0, 7, 255]))
     for front in (b"x", b"\xff" * 31, book, sheet):
         agree("book front text", exact.read_book(front + book), exact.read_book(book))
         agree("sheet front text", exact.read_sheet(front + sheet), exact.read_sheet(sheet))
+        agree("factored sheet front text", exact.read_sheet(front + factored), exact.read_sheet(factored))
         agree("listing front text", exact.listing(front + BOOK_A, front + SHEET_A), LISTING_A)
 
 
@@ -180,7 +185,9 @@ def book_and_sheet_refusals():
         ("smallest", make_sheet((1,), 1, 0), 1, 0),
         ("40,000 bytes", make_sheet((1, 1), 9, 1, front=b"f" * full), 2, 0),
         ("40,001 bytes", make_sheet((1, 1), 9, 1, front=b"f" * (full + 1)), 2, 11),
-        ("letters", make_sheet((1, 1), 9, 1, letters=b"WSH2"), 2, 12),
+        ("letters", make_sheet((1, 1), 9, 1, letters=b"WSH3"), 2, 12),
+        ("letters before the first edition", make_sheet((1, 1), 9, 1, letters=b"WSH0"), 2, 12),
+        ("letters of the other edition", make_sheet((1, 1), 9, 1, letters=b"WSH2"), 2, 16),
         ("a book's letters", make_sheet((1, 1), 9, 1, letters=b"WBK1"), 2, 12),
         ("one column less", make_sheet((1,), 9, 1), 2, 13),
         ("one column more", make_sheet((1, 1, 1), 9, 1), 2, 13),
@@ -207,6 +214,53 @@ def book_and_sheet_refusals():
         ("value -2,001", make_sheet((0, -2001), 9, 1), 2, 17),
         ("value out of range in front text",
          make_sheet((0, 0), 9, 1, front=b"\xff\x7f" * 4), 2, 0),
+        ("no columns for none", make_sheet((), 9, 1), 0, 46),
+        ("65 columns for 65", make_sheet((0,) * 65, 9, 1), 65, 46),
+    ]
+    # Sheets with factors; a good one is `factored()`.
+    def factored(target=(1, 1), steps=9, tolerance=1, factors=(3, 5), **fields):
+        return make_sheet(target, steps, tolerance, factors=factors, **fields)
+
+    full = 40000 - len(factored())
+    sheets += [
+        ("factors", factored(), 2, 0),
+        ("factors, 15 bytes", factored()[-15:], 2, 11),
+        ("factors, 16 bytes, no body", factored()[-16:], 2, 16),
+        ("factors, smallest", make_sheet((1,), 1, 0, factors=(1,)), 1, 0),
+        ("factors, 40,000 bytes", factored(front=b"f" * full), 2, 0),
+        ("factors, 40,001 bytes", factored(front=b"f" * (full + 1)), 2, 11),
+        ("factors, letters of the other edition", factored(letters=b"WSH1"), 2, 16),
+        ("factors read as front text", factored(letters=b"WSH1", back=4), 2, 0),
+        ("factors, one column less", factored(columns=1), 2, 13),
+        ("factors, 0 steps", factored(steps=0), 2, 14),
+        ("factors, tolerance one more", factored(tolerance=1024000001), 2, 15),
+        ("factors, back 2 * columns", factored(back=4), 2, 16),
+        ("factors, back one less", factored(back=5), 2, 16),
+        ("factors, back one more", factored(back=7, front=b"x"), 2, 16),
+        ("factors, back 4 * columns", factored(back=8, front=b"xx"), 2, 16),
+        ("factors, back before the first byte", factored()[1:], 2, 16),
+        ("factors, one byte of front text", b"x" + factored(), 2, 0),
+        ("factors, value 2,001", factored(target=(1, 2001)), 2, 17),
+        ("factors, first value -2,001", factored(target=(-2001, 1)), 2, 17),
+        ("factors that would be values out of range", factored(factors=(0x3f, 0x00)), 2, 0),
+        ("factors of total 0", factored(factors=(0, 0)), 2, 46),
+        ("factors of total 1", factored(factors=(0, 1)), 2, 0),
+        ("factors 1 and 0", factored(factors=(1, 0)), 2, 0),
+        ("factors of total 64", factored(factors=(31, 33)), 2, 0),
+        ("factors 0 and 64", factored(factors=(0, 64)), 2, 0),
+        ("factors of total 65", factored(factors=(32, 33)), 2, 46),
+        ("factors 65 and 0", factored(factors=(65, 0)), 2, 46),
+        ("factors of total 256", factored(factors=(128, 128)), 2, 46),
+        ("factors of total 257", factored(factors=(255, 2)), 2, 46),
+        ("factors 255", factored(factors=(255, 255)), 2, 46),
+        ("one column, factor 0", factored((1,), factors=(0,)), 1, 46),
+        ("one column, factor 64", factored((1,), factors=(64,)), 1, 0),
+        ("one column, factor 65", factored((1,), factors=(65,)), 1, 46),
+        ("64 columns, factors 1", factored((0,) * 64, factors=(1,) * 64), 64, 0),
+        ("64 columns, one factor 2", factored((0,) * 64, factors=(1,) * 63 + (2,)), 64, 46),
+        ("64 columns, all on the last", factored((0,) * 64, factors=(0,) * 63 + (64,)), 64, 0),
+        ("64 columns, factors 255", factored((0,) * 64, factors=(255,) * 64), 64, 46),
+        ("64 columns, factors 0", factored((0,) * 64, factors=(0,) * 64), 64, 46),
     ]
     for label, sheet, columns, wanted in sheets:
         agree("sheet, " + label, exact.sheet_refusal(sheet, columns), wanted)
@@ -383,7 +437,7 @@ def two_tests():
 def editions():
     """A run by the former test, and cards of both editions of both runs."""
     book, sheet = make_book(P), make_sheet((5, 5), 9, 1)
-    answer, shares = exact.run(P, (5, 5), 9, 1, exact.former_test)
+    answer, shares = exact.run(P, (5, 5), 9, 1, test=exact.former_test)
     agree("former run", (answer, shares), (exact.Answer(2, 3, 170, 32, 2, 106), [0, 1, 2]))
     # The sharper verdict of the first step is not due by the former test, which goes on; the second step's is by both.
     for letters, first, second in ((b"WCD1", 38, 0), (b"WCD2", 0, 0)):
@@ -401,7 +455,7 @@ def editions():
     for number in range(200):
         rows = [[draw.randint(-9, 9) for _ in range(3)] for _ in range(draw.randint(1, 6))]
         case = rows, [draw.randint(-15, 15) for _ in range(3)], draw.randint(1, 12), draw.randint(0, 60)
-        sharper, former = exact.run(*case)[0], exact.run(*case, exact.former_test)[0]
+        sharper, former = exact.run(*case)[0], exact.run(*case, test=exact.former_test)[0]
         agree("run %d, steps" % number, sharper.steps <= former.steps, True)
         agree("run %d, Beyond" % number, former.verdict != exact.BEYOND or sharper.verdict == exact.BEYOND, True)
 
@@ -409,23 +463,23 @@ def editions():
 def filed_before():
     """The cards of crates/edition_test/data are those of runs by the former test and tie rule, byte for byte."""
     for name, (_, book, sheet) in make_data.FILED_BEFORE.items():
-        rows, (target, steps, tolerance) = exact.read_book(book), exact.read_sheet(sheet)
-        answer, shares = exact.run(rows, target, steps, tolerance, exact.former_test, exact.former_vertex)
+        rows, (target, steps, tolerance, factors) = exact.read_book(book), exact.read_sheet(sheet)
+        answer, shares = exact.run(rows, target, steps, tolerance, factors, exact.former_test, exact.former_vertex)
         card = printing.data_file("edition_test", name + ".wcd")
         agree("card %s" % name, card, exact.card_bytes(answer, shares, tolerance, len(rows), len(target), b"WCD1"))
         agree("card %s checked" % name, exact.check_card(book, sheet, card, [0] * len(rows)), (0, answer, shares))
 
 
 def two_faults():
-    """With two faults the lower number is given back, whatever the pair."""
+    """With two faults the one that is checked first is given back, whatever the pair."""
     long_front = b"f" * 40000
     book_faults = {
         1: dict(front=long_front), 2: dict(letters=b"XXXX"), 3: dict(boats=0),
         4: dict(columns=65), 5: dict(back=1), 6: dict(rows=[(0, 0), (4, 0), (0, -2001)])}
     sheet_faults = {
         11: dict(front=long_front), 12: dict(letters=b"XXXX"), 13: dict(columns=3),
-        14: dict(steps=361), 15: dict(tolerance=1024000001), 16: dict(back=6),
-        17: dict(target=(1, 2001))}
+        14: dict(steps=361), 15: dict(tolerance=1024000001), 16: dict(back=5),
+        17: dict(target=(1, 2001)), 46: dict(factors=(0, 0))}
     card_faults = {
         31: dict(front=long_front), 32: dict(letters=b"XXXX"), 33: dict(boats=4),
         34: dict(verdict=7), 35: dict(back=6), 36: dict(entries=[(0, 3), (1, 1), (9, 2)]),
@@ -448,28 +502,30 @@ def two_faults():
                 card.update(card_faults.get(fault, {}))
         return make_book(**book), make_sheet(**sheet), near_card(**card), [8] * slots
 
-    numbers = sorted(list(book_faults) + list(sheet_faults) + [21, 37] + list(card_faults))
-    for i, low in enumerate(numbers):
-        for high in numbers[i:]:
-            book, sheet, card, slots = build(sorted({low, high}))
-            agree("check, faults %d and %d" % (low, high),
-                  exact.check_card(book, sheet, card, slots), (low, None, slots))
-            if low <= 21:
-                agree("search, faults %d and %d" % (low, high),
-                      exact.search(book, sheet, slots), (low, None, slots))
-            if low <= 17:
-                agree("writer, faults %d and %d" % (low, high),
-                      exact.write_card(book, sheet, b""), (low, None, 0, b""))
+    # In the order of the card check: 46 is the last of the sheet's.
+    files = list(book_faults) + list(sheet_faults)
+    numbers = files + [21] + sorted([37] + list(card_faults))
+    for i, first in enumerate(numbers):
+        for other in numbers[i:]:
+            book, sheet, card, slots = build(sorted({first, other}))
+            agree("check, faults %d and %d" % (first, other),
+                  exact.check_card(book, sheet, card, slots), (first, None, slots))
+            if first in files + [21]:
+                agree("search, faults %d and %d" % (first, other),
+                      exact.search(book, sheet, slots), (first, None, slots))
+            if first in files:
+                agree("writer, faults %d and %d" % (first, other),
+                      exact.write_card(book, sheet, b""), (first, None, 0, b""))
 
 
-def plain_measure(rows, shares, target):
+def plain_measure(rows, shares, target, factors=None):
     """Squared distance and duality gap straight from their definitions."""
-    total = sum(shares)
+    total, f = sum(shares), factors or [1] * len(target)
     x = [sum(Fraction(s, total) * row[j] for s, row in zip(shares, rows))
          for j in range(len(target))]
     slope = [a - u for a, u in zip(x, target)]
-    distance = sum(a * a for a in slope)
-    gap = max(sum(a * (b - v) for a, b, v in zip(slope, x, row)) for row in rows)
+    distance = sum(f[j] * a * a for j, a in enumerate(slope))
+    gap = max(sum(f[j] * slope[j] * (x[j] - row[j]) for j in range(len(f))) for row in rows)
     return distance, gap
 
 
@@ -522,6 +578,129 @@ def random_books():
             agree(label + ", check", exact.check_card(book, sheet, front + buffer[:size],
                                                       [0] * boats), (0, answer, shares))
     agree("every verdict among the random books", min(verdicts.values()) > 5, True)
+
+
+# ---- columns that count more
+
+# name, rows, target, factors, tolerance, steps, verdict, t, shares, E, G, carried; r is y - W u, and r' has each column times its factor.
+FACTORED = [
+    # Step 1 from r = (-1, -1), r' = (-1, -2): the scores are 0, -4, -8, and boat 2 is picked where factors 1 1 have a tie and take boat 1.
+    # Then r = (-1, 3), r' = (-1, 6), scores 0, -4, 24: boat 1 gets 2. y = (8, 4), r = (5, 1), r' = (5, 2): E = 25 + 2, and
+    # G = 5 * 8 + 2 * 4 - 3 * 0, the least score 0 at boat 0. Tolerance 1: 27 - 9 are short.
+    ("k", P, (1, 1), (1, 2), 1, 2, 3, 2, [0, 2, 1], 27, 48, 18),
+    # E is the tolerance times 9.
+    ("l", P, (1, 1), (1, 2), 3, 9, 1, 2, [0, 2, 1], 27, 48, None),
+    # The rows differ in a column that does not count: D^2 is 0, every score is equal and boat 0 is picked. r = (-3, -1), r' = (-3, 0).
+    ("m", [(0, 0), (0, 4)], (3, 1), (1, 0), 8, 5, 2, 1, [1, 0], 9, 0, 9),
+    ("n", [(0, 0), (0, 4)], (3, 1), (1, 0), 9, 5, 1, 1, [1, 0], 9, 0, None),
+    # One column has all 64. r' = (-64, 0), scores 0, -256, 0: boat 1; E = 64 * 9. Then r' = (192, 0), scores 0, 768, 0: boat 0 gets 2.
+    # y = (4, 0), r = (1, -3), E = 64, which is above 7 * 9 and not above 8 * 9; G = 64 * 4.
+    ("o", P, (1, 1), (64, 0), 8, 2, 1, 2, [2, 1, 0], 64, 256, None),
+    ("p", P, (1, 1), (64, 0), 7, 2, 3, 2, [2, 1, 0], 64, 256, 1),
+    # Every factor 1: sheet a.
+    ("q", P, (1, 1), (1, 1), 1, 9, 1, 3, [3, 1, 2], 8, 56, None),
+    # The greatest squared distance, 64 * 4000^2, in one column.
+    ("r", [(2000,)], (-2000,), (64,), 1024000000, 1, 1, 1, [1], 1024000000, 0, None),
+    ("s", [(2000,)], (-2000,), (64,), 1023999999, 1, 2, 1, [1], 1024000000, 0, 1024000000),
+]
+
+
+def factored_sheets():
+    """The sheets worked out above through every call."""
+    for name, rows, target, factors, tolerance, steps, verdict, t, shares, e, g, carried in FACTORED:
+        book, sheet = make_book(rows), make_sheet(target, steps, tolerance, factors=factors)
+        wanted = exact.Answer(t, t * (t + 1) // 2, e, g, verdict, carried)
+        agree("case %s search" % name, exact.search(book, sheet, [7] * (len(rows) + 2)), (0, wanted, shares + [7, 7]))
+        refusal, answer, size, buffer = exact.write_card(book, sheet, b"\xaa" * 60)
+        agree("case %s writer" % name, (refusal, answer), (0, wanted))
+        card = make_card([(boat, s) for boat, s in enumerate(shares) if s], verdict, t, tolerance, e, g, len(rows), len(target))
+        agree("case %s card" % name, buffer, card.ljust(60, b"\xaa"))
+        agree("case %s check" % name, exact.check_card(book, sheet, b"front" + card, [9] * len(rows)), (0, wanted, shares))
+        agree("case %s listings" % name, exact.card_listing(book, sheet, card), exact.listing(book, sheet))
+    agree("case k listing", exact.listing(make_book(P), make_sheet((1, 1), 2, 1, factors=(1, 2))),
+          b"fleet 3 2\nsheet 1 2\nspent 2 3\ndistance 27\ngap 48\nboat 1 2\nboat 2 1\n")
+    agree("without factors boat 1 is picked first", exact.search(make_book(P), make_sheet((1, 1), 2, 1), [0] * 3)[1:],
+          (exact.Answer(2, 3, 26, 44, 3, 17), [0, 1, 2]))
+    rows = [(0, 0), (0, 4)]
+    agree("D^2 of m", (exact.squared_diameter(rows, (1, 0)), exact.squared_diameter(rows), exact.squared_diameter(rows, (0, 3))), (0, 16, 48))
+    agree("D^2 of P", [exact.squared_diameter(P, f) for f in (None, (1, 2), (64, 0), (1, 0))], [32, 48, 1024, 16])
+    for factors, wanted in (((0, 0), 46), ((1, 0), 0), ((64, 1), 46), ((64, 0), 0)):
+        agree("factors %r" % (factors,), exact.search(make_book(P), make_sheet((1, 1), 9, 100, factors=factors), [0] * 3)[0], wanted)
+
+
+def factored_cards():
+    """Cards that are true by one set of factors, judged by others."""
+    book = make_book(P)
+    plain, double, first = (make_sheet((1, 1), 2, 1, factors=factors) for factors in (None, (1, 2), (64, 0)))
+    ones = make_sheet((1, 1), 2, 1, factors=(1, 1))
+    card_c = make_card([(1, 1), (2, 2)], 3, 2, 1, 26, 44, 3, 2)
+    card_k = make_card([(1, 2), (2, 1)], 3, 2, 1, 27, 48, 3, 2)
+    for label, card, wanted in (("c", card_c, (0, 38, 38, 0)), ("k", card_k, (38, 0, 38, 38))):
+        got = tuple(exact.check_card(book, sheet, card, [0] * 3)[0] for sheet in (plain, double, first, ones))
+        agree("card %s by the factors 1 1, 1 2, 64 0, and 1 1 again" % label, got, wanted)
+    # Shares 0 1 2: y = (4, 8), r = (1, 5). By the factors 1 2 that is E = 1 + 50 and r' = (1, 10), G = 4 + 80 - 0.
+    agree("c's shares by the factors 1 2", exact.check_card(book, double, make_card([(1, 1), (2, 2)], 3, 2, 1, 51, 84, 3, 2), [0] * 3)[0], 0)
+    # E by the factors and G without them, and the other way round.
+    for e, g in ((27, 44), (26, 48), (29, 48), (27, 50)):
+        agree("E %d and G %d" % (e, g), exact.check_card(book, double, make_card([(1, 2), (2, 1)], 3, 2, 1, e, g, 3, 2), [0] * 3)[0], 38)
+    # A column in which all boats and the target agree may have any factor.
+    book = make_book([(0, 5), (4, 5)])
+    card = make_card([(0, 2), (1, 1)], 1, 2, 1, 1, 4, 2, 2)
+    for factors, wanted in ((None, 0), ((1, 0), 0), ((1, 63), 0), ((1, 64), 46), ((2, 1), 38)):
+        agree("card by %r" % (factors,), exact.check_card(book, make_sheet((1, 5), 9, 1, factors=factors), card, [0] * 2)[0], wanted)
+    # The better of two: 2 0 1 has r = (-3, 1), 2 1 0 has r = (1, -3), equal by the factors 1 1.
+    book = make_book(P)
+    for factors, better in (((1, 1), 1), ((1, 2), 1), ((2, 1), 2), ((0, 1), 1), ((1, 0), 2)):
+        sheet = make_sheet((1, 1), 9, 1000, factors=factors)
+        one, other = exact.true_card(book, sheet, [2, 0, 1], 2), exact.true_card(book, sheet, [2, 1, 0], 2)
+        agree("better by %r" % (factors,), exact.better_card(book, sheet, one, other)[:2], (0, better))
+
+
+def drawn_factors(draw, columns):
+    """Factors of total 1 to 64, zeros among them."""
+    while True:
+        factors = [draw.choice((0, 1, 1, 2, draw.randint(0, 64 // columns))) for _ in range(columns)]
+        if 1 <= sum(factors) <= 64:
+            return factors
+
+
+def often(row, factors):
+    """The values of a row, each as often as its factor says."""
+    return [value for value, factor in zip(row, factors) for _ in range(factor)]
+
+
+def factored_books():
+    """Drawn runs with factors: straight from the definitions, as columns that stand so often, and by the bounds."""
+    draw = random.Random(25)
+    changed = 0
+    for number in range(300):
+        boats, columns, reach = draw.randint(1, 7), draw.randint(1, 5), draw.choice((2, 10, 2000))
+        rows = [[draw.randint(-reach, reach) for _ in range(columns)] for _ in range(boats)]
+        target = [draw.randint(-reach, reach) for _ in range(columns)]
+        if draw.random() < 0.5:
+            target = [sum(column) // boats for column in zip(*rows)]
+        steps, tolerance, factors = draw.randint(1, 15), draw.choice((0, 1, reach, reach * reach)), drawn_factors(draw, columns)
+        label = "factored book %d" % number
+        answer, shares = exact.run(rows, target, steps, tolerance, factors)
+        square = answer.weight ** 2
+        distance, gap = plain_measure(rows, shares, target, factors)
+        agree(label + ", E and G", (answer.distance, answer.gap), (distance * square, gap * square))
+        # The same search of columns that stand as often as their factors say.
+        repeated = [often(row, factors) for row in rows]
+        agree(label + ", columns repeated", exact.run(repeated, often(target, factors), steps, tolerance), (answer, shares))
+        agree(label + ", D^2", exact.squared_diameter(rows, factors), exact.squared_diameter(repeated))
+        changed += shares != exact.run(rows, target, steps, tolerance)[1]
+        best = min(plain_measure(rows, [int(i == j) for i in range(boats)], target, factors)[0] for j in range(boats))
+        spread = exact.squared_diameter(rows, factors)
+        agree(label + ", bounds", distance - best <= min(Fraction(4 * spread, answer.steps + 2), 2 * gap), True)
+        # A sheet WSH2 of the factor 1 is the sheet WSH1.
+        book, plain, ones = make_book(rows), make_sheet(target, steps, tolerance), make_sheet(target, steps, tolerance, factors=[1] * columns)
+        agree(label + ", factors 1", exact.write_card(book, ones, bytes(80)), exact.write_card(book, plain, bytes(80)))
+        sheet = make_sheet(target, steps, tolerance, factors=factors)
+        card = exact.true_card(book, sheet, shares, answer.steps)
+        agree(label + ", card", (card, exact.check_card(book, sheet, card, [0] * boats)),
+              (exact.card_bytes(answer, shares, tolerance, boats, columns), (0, answer, shares)))
+    agree("factors change the shares often", changed > 100, True)
 
 
 def ties_and_start():
@@ -650,7 +829,8 @@ def damaged_files():
         return bytes(file)
 
     for _ in range(3000):
-        book, sheet, card = damaged(BOOK_A), damaged(SHEET_A), damaged(CARD_A)
+        sheet = draw.choice((SHEET_A, make_sheet((1, 1), 9, 1, factors=(1, 1)), make_sheet((1, 1), 9, 1, factors=(3, 0))))
+        book, sheet, card = damaged(BOOK_A), damaged(sheet), damaged(CARD_A)
         slots = [6] * draw.choice((0, 2, 3, 3, 4))
         try:
             files = exact.files_refusal(book, sheet)
@@ -830,7 +1010,7 @@ def better_of_two():
 
 def main():
     for part in (marked_sheets, readers, book_and_sheet_refusals, lent_lists, card_refusals,
-                 two_tests, editions, filed_before, two_faults, ties_and_start, drawn_ties, random_books, full_size, damaged_files,
+                 two_tests, editions, filed_before, two_faults, ties_and_start, drawn_ties, random_books, factored_sheets, factored_cards, factored_books, full_size, damaged_files,
                  from_a_shell, whole_numbers, scale_cells, subtractions, gap_bounds, better_of_two):
         part()
     if differences:

@@ -45,8 +45,8 @@ def filed_before():
 
 def border(book, sheet):
     """The greatest tolerance at which a search ends Beyond: the greatest below (d - g)^2 / d after some step; 0 if there is none."""
-    target, steps, _ = exact.read_sheet(sheet)
-    limits = [math.ceil((d - g) ** 2 / d) - 1 for d, g in exact.measures(exact.read_book(book), target, steps) if d > g]
+    target, steps, _, factors = exact.read_sheet(sheet)
+    limits = [math.ceil((d - g) ** 2 / d) - 1 for d, g in exact.measures(exact.read_book(book), target, steps, factors) if d > g]
     return max(limits, default=0)
 
 

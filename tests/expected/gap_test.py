@@ -29,11 +29,11 @@ def draw_files(draws, number, plan):
 def one(draws, number, plan, totals):
     book, sheet = draw_files(draws, number, plan)
     rows = exact.read_book(book)
-    target, steps, _ = exact.read_sheet(sheet)
-    diameter = exact.squared_diameter(rows)
-    gaps = exact.gaps_of(rows, target, steps)
+    target, steps, _, factors = exact.read_sheet(sheet)
+    diameter = exact.squared_diameter(rows, factors)
+    gaps = exact.gaps_of(rows, target, steps, factors)
     kept = [4 * (steps + 2) * gap <= 27 * diameter for gap in gaps]
-    ratios = exact.gap_ratios(rows, target, steps) if diameter else [0] * steps
+    ratios = exact.gap_ratios(rows, target, steps, factors) if diameter else [0] * steps
     thousandths = [ratio * 1000 // 1 for ratio in ratios]
     least = min(thousandths)
     t = thousandths.index(least) + 1

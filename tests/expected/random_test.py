@@ -52,7 +52,7 @@ def report(word, number, book, sheet, out):
         out.append(b"floor %d\n" % answer.carried)
     if answer.verdict == exact.SPENT:
         out.append(b"shortfall %d\n" % answer.carried)
-    _, steps, tolerance = exact.read_sheet(sheet)
+    _, steps, tolerance, _ = exact.read_sheet(sheet)
     out.append(exact.listing_lines(exact.read_book(book), steps, tolerance, answer, shares))
 
 
