@@ -143,7 +143,7 @@ fn sheet(book: &[u8], c: &Lists, steps: u32, tolerance: u32) -> Result<Vec<u8>, 
     if tolerance > 1_024_000_000 {
         return Err(15);
     }
-    Ok(sheet_of(&target, steps as u16, tolerance))
+    Ok(sheet_of(&target, None, steps as u16, tolerance))
 }
 
 // ------------------------------------------------------------------ the cells

@@ -213,8 +213,30 @@ fn target(rng: &mut Random, rows: &[Vec<i16>]) -> Vec<i16> {
     }
 }
 
+/// Factors for so many columns, none for a sheet WSH1: 1 each, small ones, all on one column, or brought to a total at the limits.
+fn factors(rng: &mut Random, columns: usize) -> Option<Vec<u8>> {
+    let kind = rng.below(12);
+    let most = (64 / columns).max(1);
+    let mut drawn: Vec<u8> = (0..columns)
+        .map(|_| match kind {
+            6 => 1,
+            7 => rng.below(2) as u8,
+            8 => 0,
+            9 | 10 => rng.below(most + 1) as u8,
+            _ => rng.of(&[0, 1, 63, 64, 65, 128, 255]),
+        })
+        .collect();
+    if kind == 8 || kind == 10 {
+        let total: usize = rng.of(&[64, 64, 64, 1, 63, 65, 0]);
+        let chosen = rng.below(columns);
+        let others: usize = drawn.iter().map(|f| usize::from(*f)).sum::<usize>() - usize::from(drawn[chosen]);
+        drawn[chosen] = total.saturating_sub(others) as u8;
+    }
+    (kind > 5).then_some(drawn)
+}
+
 /// A tolerance, also next to where the verdict of the run changes.
-fn tolerance(rng: &mut Random, rows: &[Vec<i16>], target: &[i16], steps: u16) -> u32 {
+fn tolerance(rng: &mut Random, rows: &[Vec<i16>], target: &[i16], factors: Option<&[u8]>, steps: u16) -> u32 {
     const MOST: i128 = 1_024_000_000;
     match rng.below(8) {
         0 => 0,
@@ -223,7 +245,9 @@ fn tolerance(rng: &mut Random, rows: &[Vec<i16>], target: &[i16], steps: u16) ->
         3 => MOST as u32 - rng.below(2) as u32,
         _ => {
             let short = 1 + rng.below(usize::from(steps).min(12));
-            let problem = reference::read_files(&book_of(rows), &sheet_of(target, short as u16, 0)).unwrap();
+            let Ok(problem) = reference::read_files(&book_of(rows), &sheet_of(target, factors, short as u16, 0)) else {
+                return 0;
+            };
             let (e, g) = problem.distance_and_gap(&problem.shares_after(short));
             let weight = (short * (short + 1) / 2) as i128;
             let bound = match rng.below(3) {
@@ -331,7 +355,9 @@ fn damage_book(rng: &mut Random, file: &mut Vec<u8>, boats: usize, columns: usiz
 }
 
 fn damage_sheet(rng: &mut Random, file: &mut Vec<u8>, columns: usize) {
-    match rng.below(10) {
+    // Where the values end: one byte a column further from the file's end where the sheet has factors.
+    let values = if file.ends_with(b"WSH2") { 16 + columns } else { 16 };
+    match rng.below(11) {
         0 | 1 => damage_any(rng, file, 16),
         2 | 3 => put(file, 12, 2, rng.of(&[0, 1, 64, 65, columns as u64 + 1, columns as u64 - 1])),
         4 => put(file, 10, 2, rng.of(&[0, 361, 362, 65535])),
@@ -340,7 +366,9 @@ fn damage_sheet(rng: &mut Random, file: &mut Vec<u8>, columns: usize) {
             let back = moved(rng, get(file, 16, 4));
             put(file, 16, 4, back);
         }
-        _ => damage_value(rng, file, 16, columns),
+        // The last byte of the body, which is a factor or a half of a value.
+        8 => put(file, 17, 1, rng.of(&[0, 1, 63, 64, 65, 255])),
+        _ => damage_value(rng, file, values, columns),
     }
 }
 
@@ -379,9 +407,10 @@ fn files(rng: &mut Random) -> (Vec<u8>, Vec<u8>) {
     let (boats, columns, steps) = sizes(rng);
     let rows = rows(rng, boats, columns);
     let target = target(rng, &rows);
-    let tolerance = tolerance(rng, &rows, &target, steps);
+    let factors = factors(rng, columns);
+    let tolerance = tolerance(rng, &rows, &target, factors.as_deref(), steps);
     let plain_book = book_of(&rows);
-    let plain_sheet = sheet_of(&target, steps, tolerance);
+    let plain_sheet = sheet_of(&target, factors.as_deref(), steps, tolerance);
     let mut book = with_front(rng, plain_book);
     let mut sheet = with_front(rng, plain_sheet);
     match rng.below(18) {
@@ -594,7 +623,7 @@ fn compare_listing(rng: &mut Random) -> Compared {
 
 /// The refusals that each call can give, all of which the gate's comparison and a long one must meet.
 fn refusals(call: &str) -> Vec<u32> {
-    let mut numbers: Vec<u32> = (1..=6).chain(11..=17).collect();
+    let mut numbers: Vec<u32> = (1..=6).chain(11..=17).chain([46]).collect();
     match call {
         "sheet_values" => return (1..=6).chain(41..=43).collect(),
         "scale_sheet" => return (1..=6).chain(41..=43).chain(14..=15).collect(),

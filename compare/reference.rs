@@ -73,6 +73,7 @@ pub struct Answer {
 pub struct Problem {
     pub rows: Vec<Vec<i128>>,
     pub target: Vec<i128>,
+    pub factors: Vec<i128>,
     pub steps: usize,
     pub tolerance: i128,
 }
@@ -117,13 +118,22 @@ pub fn read_book(book: &[u8]) -> Result<Vec<Vec<i128>>, u32> {
     Ok(values.chunks(columns).map(|row| row.to_vec()).collect())
 }
 
-/// Target, steps and tolerance of a sheet for a book of so many columns, or the number that refuses it.
-fn read_sheet(sheet: &[u8], columns: usize) -> Result<(Vec<i128>, usize, i128), u32> {
+/// A sheet.
+struct Sheet {
+    target: Vec<i128>,
+    factors: Vec<i128>,
+    steps: usize,
+    tolerance: i128,
+}
+
+/// A sheet for a book of so many columns, or the number that refuses it.
+fn read_sheet(sheet: &[u8], columns: usize) -> Result<Sheet, u32> {
     if sheet.len() < 16 || sheet.len() > MOST_BYTES {
         return Err(11);
     }
     let (before, trailer) = sheet.split_at(sheet.len() - 16);
-    if &trailer[12..] != b"WSH1" {
+    let factored = &trailer[12..] == b"WSH2";
+    if !factored && &trailer[12..] != b"WSH1" {
         return Err(12);
     }
     if unsigned(&trailer[4..6]) as usize != columns {
@@ -138,27 +148,33 @@ fn read_sheet(sheet: &[u8], columns: usize) -> Result<(Vec<i128>, usize, i128), 
         return Err(15);
     }
     let back = unsigned(&trailer[..4]) as usize;
-    if back != 2 * columns || back > before.len() {
+    if back != if factored { 3 * columns } else { 2 * columns } || back > before.len() {
         return Err(16);
     }
-    let target: Vec<i128> = before[before.len() - back..].chunks(2).map(signed16).collect();
+    let (values, rest) = before[before.len() - back..].split_at(2 * columns);
+    let target: Vec<i128> = values.chunks(2).map(signed16).collect();
     if !target.iter().all(in_range) {
         return Err(17);
     }
-    Ok((target, steps, tolerance))
+    let factors = if factored { rest.iter().map(|f| i128::from(*f)).collect() } else { vec![1; columns] };
+    if !(1..=64).contains(&factors.iter().sum::<i128>()) {
+        return Err(46);
+    }
+    Ok(Sheet { target, factors, steps, tolerance })
 }
 
 pub fn read_files(book: &[u8], sheet: &[u8]) -> Result<Problem, u32> {
     let rows = read_book(book)?;
-    let (target, steps, tolerance) = read_sheet(sheet, rows[0].len())?;
-    Ok(Problem { rows, target, steps, tolerance })
-}
-
-fn inner(a: &[i128], b: &[i128]) -> i128 {
-    a.iter().zip(b).map(|(x, y)| x * y).sum()
+    let Sheet { target, factors, steps, tolerance } = read_sheet(sheet, rows[0].len())?;
+    Ok(Problem { rows, target, factors, steps, tolerance })
 }
 
 impl Problem {
+    /// The sum over the columns of factor times product.
+    fn inner(&self, a: &[i128], b: &[i128]) -> i128 {
+        self.factors.iter().zip(a.iter().zip(b)).map(|(f, (x, y))| f * x * y).sum()
+    }
+
     /// Sum over boats of share times row, and that less the total of the shares times the target.
     fn point_and_residual(&self, shares: &[u16]) -> (Vec<i128>, Vec<i128>) {
         let total: i128 = shares.iter().map(|q| i128::from(*q)).sum();
@@ -180,14 +196,14 @@ impl Problem {
         let (y, r) = self.point_and_residual(shares);
         let gap = self.rows.iter().map(|v| {
             let direction: Vec<i128> = y.iter().zip(v).map(|(p, x)| p - total * x).collect();
-            inner(&r, &direction)
+            self.inner(&r, &direction)
         });
-        (inner(&r, &r), gap.max().unwrap())
+        (self.inner(&r, &r), gap.max().unwrap())
     }
 
     /// Of the boats of least score in some direction the lowest-numbered that holds shares, else the lowest-numbered.
     fn pick(&self, direction: &[i128], shares: &[u16]) -> usize {
-        let scores: Vec<i128> = self.rows.iter().map(|v| inner(direction, v)).collect();
+        let scores: Vec<i128> = self.rows.iter().map(|v| self.inner(direction, v)).collect();
         let least = scores.iter().min().unwrap();
         let equal: Vec<usize> = (0..scores.len()).filter(|i| scores[*i] == *least).collect();
         let holding = equal.iter().copied().find(|i| shares[*i] > 0);
