@@ -107,7 +107,7 @@ struct Input {
 }
 
 fn input(rows: &[Vec<i16>], target: &[i16], steps: u16, tolerance: u32) -> Input {
-    Input { book: book_of(rows), sheet: sheet_of(target, steps, tolerance) }
+    Input { book: book_of(rows), sheet: sheet_of(target, None, steps, tolerance) }
 }
 
 fn random_rows(rng: &mut Random, boats: usize, columns: usize) -> Vec<Vec<i16>> {
@@ -159,6 +159,18 @@ fn one_step(boats: usize, columns: usize) -> Input {
     let rows = random_rows(&mut rng, boats, columns);
     let target = vec![0; columns];
     input(&rows, &target, 360, 1_024_000_000)
+}
+
+/// The same files with a factor for each column.
+fn factored(x: &Input, factors: &[u8]) -> Input {
+    let (target, trailer) = x.sheet.split_at(x.sheet.len() - 16);
+    let back = (target.len() + factors.len()) as u32;
+    Input { book: x.book.clone(), sheet: [target, factors, &back.to_le_bytes(), &trailer[4..12], b"WSH2"].concat() }
+}
+
+/// Half of the columns twice, the others not at all.
+fn every_other(columns: usize) -> Vec<u8> {
+    (0..columns).map(|c| if c % 2 == 0 { 2 } else { 0 }).collect()
 }
 
 // ------------------------------------------------------------------ the measures
@@ -372,6 +384,44 @@ fn print_calls(inputs: &[(&str, Input)], repeats: u32) {
     }
 }
 
+/// The library's search of a sheet with factors beside that of the sheet without, in turn.
+fn print_factors(repeats: u32) {
+    println!("| input | factors | steps without, with | without | with | with / without |");
+    println!("|---|---|---|---|---|---|");
+    let inputs = [
+        ("full size, few boats picked", few_boats(256, 64, 360)),
+        ("full size, many boats picked", many_boats(256, 64, 360)),
+        ("typical, many boats picked, 40 x 20 x 60", many_boats(40, 20, 60)),
+        ("one step, 256 x 64", one_step(256, 64)),
+        ("one step, 3 x 2", one_step(3, 2)),
+    ];
+    for (name, x) in &inputs {
+        let columns = (x.sheet.len() - 16) / 2;
+        for (kind, factors) in [("1 each", vec![1; columns]), ("2 and 0 in turn", every_other(columns))] {
+            let other = factored(x, &factors);
+            let mut shares = [0u16; 256];
+            let replies = [x, &other].map(|x| library_search(&x.book, &x.sheet, &mut shares));
+            assert!(replies.iter().all(|reply| reply.refusal == 0), "a sheet is refused");
+            assert!(kind != "1 each" || replies[0] == replies[1], "factors of 1 change the answer");
+            let calls = batch(|| {
+                black_box(library_search(black_box(&x.book), black_box(&x.sheet), &mut shares));
+            });
+            let mut times = [const { Vec::new() }; 2];
+            for _ in 0..repeats {
+                for (x, times) in [x, &other].into_iter().zip(&mut times) {
+                    shares.fill(0);
+                    times.push(time(calls, || {
+                        black_box(library_search(black_box(&x.book), black_box(&x.sheet), &mut shares));
+                    }));
+                }
+            }
+            let [without, with] = &times;
+            let (steps, more) = (replies[0].steps, replies[1].steps);
+            println!("| {name} | {kind} | {steps}, {more} | {:.2} | {:.2} | {:.3} |", microseconds(without), microseconds(with), ratio(with, without));
+        }
+    }
+}
+
 extern "C" fn search_once(input: *mut c_void) {
     // `print_stack` passes an input that outlives the call.
     let x = unsafe { &*input.cast::<Input>() };
@@ -395,12 +445,13 @@ extern "C" fn listing_once(input: *mut c_void) {
 const CALLS: [(&str, extern "C" fn(*mut c_void)); 3] =
     [("search", search_once), ("write_card", write_card_once), ("listing", listing_once)];
 
-/// The stack that the calls use at full size.
+/// The stack that the calls use at full size, without factors and with them.
 fn print_stack() {
     let mut x = many_boats(256, 64, 360);
-    let argument: *mut c_void = (&raw mut x).cast();
+    let mut y = factored(&x, &every_other(64));
     for (name, call) in CALLS {
-        println!("stack of {name} at full size: {} bytes", unsafe { stack_of(call, argument) });
+        let [without, with] = [&raw mut x, &raw mut y].map(|input| unsafe { stack_of(call, input.cast()) });
+        println!("stack of {name} at full size: {without} bytes, with factors {with}");
     }
 }
 
@@ -428,6 +479,10 @@ fn main() {
     println!("How the time grows, few boats picked:");
     println!();
     print_growth(repeats);
+    println!();
+    println!("The library's search with factors beside the one without:");
+    println!();
+    print_factors(repeats);
     println!();
     print_stack();
 }

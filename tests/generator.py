@@ -3,6 +3,7 @@
 SCALES = [1, 2, 10, 200, 2000]
 SPECIAL = [0, 1, 2, 3, 5, 8, 10, 64, 65, 256, 360, 361]
 LIMITS = [2000, 2001, 63536, 63535]
+TOTALS = [64, 64, 1, 63, 65, 0, 64, 255]
 
 
 class Draws:
@@ -96,6 +97,28 @@ def draw_sheet(draws, plan, book, rows, tolerance):
     file += plan.steps.to_bytes(2, "little")
     file += tolerance.to_bytes(4, "little")
     return file + b"WSH1"
+
+
+def factor(kind, x):
+    """A factor from a drawn byte: 1, of a small or a larger range, any byte, or 0."""
+    return 1 if kind == 0 else x % {1: 2, 2: 4, 3: 256, 4: 14, 5: 2}.get(kind, 1)
+
+
+def draw_factors(draws, columns):
+    """Factors for so many columns. Half of the kinds bring them to a total of the list, by the factor of one column, where it can be."""
+    kind = draws.draw(8)
+    chosen = draws.draw(columns)
+    total = TOTALS[draws.draw(8)]
+    factors = [factor(kind, draws.draw(256)) for _ in range(columns)]
+    if kind > 3:
+        factors[chosen] = max(total - (sum(factors) - factors[chosen]), 0)
+    return factors
+
+
+def factored_sheet(sheet, factors):
+    """The sheet with factors, of tolerance 0, of the values and steps of one without."""
+    back = (3 * len(factors)).to_bytes(4, "little")
+    return sheet[:-16] + bytes(factors) + back + sheet[-12:-8] + bytes(4) + b"WSH2"
 
 
 def draw_mirrored(draws):

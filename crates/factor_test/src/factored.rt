@@ -1,0 +1,76 @@
+// Sheets with drawn factors, made of sheets without.
+use samples::Plan;
+
+// Totals to which drawn factors are brought.
+const TOTALS: [u64; 8] = [64, 64, 1, 63, 65, 0, 64, 255];
+
+// A factor from a drawn byte: 1, of a small or a larger range, 0, or any byte.
+fn factor(kind: u64, x: u64) -> u64 {
+    if kind == 0 {
+        return 1;
+    }
+    if kind == 1 {
+        return x % 2;
+    }
+    if kind == 2 {
+        return x % 4;
+    }
+    if kind == 3 {
+        return x % 256;
+    }
+    if kind == 4 {
+        return x % 14;
+    }
+    if kind == 5 {
+        return x % 2;
+    }
+    0
+}
+
+// Puts a factor for each column, and gives back their total.
+fn put_drawn(buffer: &mut [u8], at: usize, seed: &mut u64, columns: u64, kind: u64) -> u64 {
+    let mut next = at;
+    let mut total = 0;
+    let mut i = 0;
+    while i < columns {
+        let x = factor(kind, samples::draw(seed, 256));
+        next = buffers::put_number(buffer, next, x, 1);
+        total = (total % 65536) + (x % 256);
+        i += 1;
+    }
+    total
+}
+
+// Puts another factor at `place`, so that a total becomes `wanted` where it can.
+fn settle(buffer: &mut [u8], place: usize, total: u64, wanted: u64) {
+    let x = buffers::wide(buffers::byte_at(buffer, place));
+    let others = buffers::less((total % 65536) as usize, x as usize);
+    let rest = buffers::less((wanted % 65536) as usize, others);
+    buffers::put_number(buffer, place, rest as u64, 1);
+}
+
+// Puts factors, and gives back the offset after them. Half of the kinds bring them to a total of the list.
+fn put_factors(buffer: &mut [u8], at: usize, seed: &mut u64, columns: u64) -> usize {
+    let kind = samples::draw(seed, 8);
+    let chosen = samples::draw(seed, columns);
+    let i = samples::draw(seed, 8) % 8;
+    let total = put_drawn(buffer, at, seed, columns, kind);
+    if 3 < kind {
+        let place = at % 65536 + (chosen % 65536) as usize;
+        settle(buffer, place, total, TOTALS[i as usize]);
+    }
+    at % 65536 + (columns % 65536) as usize
+}
+
+// Puts a sheet with factors of the values of `from`, a sheet without that ends at `end`, and gives back where it ends.
+pub fn put_sheet(buffer: &mut [u8], seed: &mut u64, plan: Plan, from: &[u8], end: usize) -> usize {
+    let columns = plan.columns;
+    let values = buffers::between(from, 0, buffers::less(end, 16));
+    let at = buffers::put_bytes(buffer, 0, values);
+    let a = put_factors(buffer, at, seed, columns);
+    let b = buffers::put_number(buffer, a, 3 * (columns % 65536), 4);
+    let c = buffers::put_number(buffer, b, columns, 2);
+    let d = buffers::put_number(buffer, c, plan.steps, 2);
+    let e = buffers::put_number(buffer, d, 0, 4);
+    buffers::put_bytes(buffer, e, b"WSH2")
+}
