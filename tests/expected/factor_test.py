@@ -53,11 +53,11 @@ def chosen(book, sheet, first, second):
 
 
 def cards(book, plain, sheet, other):
-    sheets = (plain, sheet, other)
     text, buffer, first = written(book, sheet)
-    yield text + "sum %d\n" % checksum(buffer) + checked(book, sheets, first)
+    yield text + "sum %d\n" % checksum(buffer)
     text, _, second = written(book, plain)
-    yield text + checked(book, sheets, second)
+    yield text
+    yield "".join(checked(book, (plain, sheet, other), card) for card in (first, second))
     yield chosen(book, sheet, first, second) + chosen(book, plain, second, first)
 
 
@@ -69,7 +69,6 @@ def one(draws, number, plan):
     plain, sheet, other = (with_tolerance(file, tolerance) for file in (plain, sheet, other))
     yield "case %d\n" % number + found(book, sheet)
     yield from cards(book, plain, sheet, other)
-    # The program's buffer has 256 bytes, zeros behind the sheet; damage that falls past the sheet is not read.
     yield found(book, generator.damage(draws, sheet))
 
 

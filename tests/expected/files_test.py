@@ -35,6 +35,13 @@ def sheet(columns, size, length=None, back=None, steps=9, tolerance=1, letters=b
     return ending(file, 16, len(file) if length is None else length, value)
 
 
+def factored(factors=(1, 1, 1), columns=3, length=None, back=None, letters=b"WSH2", value=None, **fields):
+    """A sheet with factors, of which these are the last, and values of 0."""
+    factors = [0] * (columns - len(factors)) + list(factors)
+    file = make_sheet([0] * columns, fields.get("steps", 9), fields.get("tolerance", 1), back=back, letters=letters, factors=factors)
+    return ending(file, 16, len(file) if length is None else length, value)
+
+
 def letters_off(letters):
     """The letters, then with one of the four places off by one, place by place; each with its number."""
     number, = struct.unpack("<I", letters)
@@ -85,6 +92,8 @@ def sheet_cases():
         yield f"sheet steps {n}", sheet(3, 6, steps=n), 3
     for n in (0, 1024000000, 1024000001, 4294967295):
         yield f"sheet tolerance {n}", sheet(3, 6, tolerance=n), 3
+    for n in (64, 65):
+        yield f"sheet of {n} columns for {n}", sheet(n, 2 * n), n
     for back in (0, 5, 6, 7, 6 + 256, 6 + 65536, 6 + 16777216, 4294967295):
         yield f"sheet back {back}", sheet(3, 6, back=back), 3
     yield "sheet body short by a byte", sheet(3, 6, length=21), 3
@@ -105,6 +114,36 @@ def sheet_cases():
     yield "sheet steps and value", sheet(3, 6, steps=0, value=(2, 2001)), 3
 
 
+def factored_cases():
+    for n in (15, 16, 24, 25, 26, 40000, 40001):
+        yield f"sheet with factors length {n}", factored(length=n), 3
+    for letters in (843600726, 843600728, 860377943, 826823511):
+        yield f"sheet with factors letters {letters}", factored(letters=struct.pack("<I", letters)), 3
+    for n in (2, 4):
+        yield f"sheet with factors for columns {n}", factored(), n
+    for n in (0, 361):
+        yield f"sheet with factors steps {n}", factored(steps=n), 3
+    yield "sheet with factors tolerance 1024000001", factored(tolerance=1024000001), 3
+    for back in (0, 6, 8, 9, 10, 12, 9 + 256, 9 + 16777216):
+        yield f"sheet with factors back {back}", factored(back=back, length=40000 if back > 12 else max(back, 9) + 16), 3
+    for place, length, before in (("first value", 25, 9), ("middle value", 25, 7), ("last value", 25, 5), ("front just before the body", 27, 11)):
+        for v in VALUES:
+            yield f"sheet with factors {place} {v % 65536}", factored(length=length, value=(before, v)), 3
+
+
+def factor_cases():
+    for factors in ((0, 0, 0), (1, 0, 0), (0, 0, 1), (0, 63, 0), (64, 0, 0), (21, 21, 22), (65, 0, 0), (0, 64, 1), (22, 21, 22),
+                    (128, 64, 64), (255, 1, 1), (255, 255, 255)):
+        yield "sheet factors %d %d %d" % factors, factored(factors), 3
+    for n in (0, 1, 64, 65):
+        yield f"sheet factor {n} of one column", factored((n,), 1), 1
+    for total, factors in ((64, (0, 0, 64)), (65, (1, 0, 64)), (0, (0, 0, 0))):
+        yield f"sheet factors of 64 columns total {total}", factored(factors, 64), 64
+    yield "sheet factors of no columns for none", factored((), 0), 0
+    yield "sheet back and factors", factored((0, 0, 0), back=10, length=26), 3
+    yield "sheet value and factors", factored((0, 0, 0), value=(9, 2001)), 3
+
+
 def both_cases():
     good = book(3, 2, 12)
     yield "both accepted", good, sheet(2, 4)
@@ -118,12 +157,15 @@ def both_cases():
     yield "book accepted, sheet tolerance out", good, sheet(2, 4, tolerance=1024000001)
     yield "book accepted, sheet back out", good, sheet(2, 4, back=5)
     yield "book accepted, sheet value out", good, sheet(2, 4, value=(2, 2001))
+    yield "book accepted, sheet with factors", good, factored((1, 1), 2)
+    yield "book accepted, sheet factors out", good, factored((0, 0), 2)
+    yield "book value out, sheet factors out", book(3, 2, 12, value=(2, 2001)), factored((0, 0), 2)
 
 
 def main():
     for name, file in book_cases():
         print(f"{name}: {book_refusal(file)}")
-    for name, file, columns in sheet_cases():
+    for name, file, columns in (*sheet_cases(), *factored_cases(), *factor_cases()):
         print(f"{name}: {sheet_refusal(file, columns)}")
     for name, fleet, asked in both_cases():
         print(f"{name}: {files_refusal(fleet, asked)}")

@@ -81,17 +81,29 @@ fn chosen(book: &[u8], sheet: &[u8], first: &[u8], second: &[u8]) {
     printing::word(b"\n");
 }
 
-// The cards of a search with factors and of one without, each by the three sheets.
+// Two cards, each by the three sheets, and the better of them by two.
+fn judged(book: &[u8], plain: &[u8], sheet: &[u8], other: &[u8], first: &[u8], second: &[u8]) {
+    checked(book, plain, sheet, other, first);
+    checked(book, plain, sheet, other, second);
+    chosen(book, sheet, first, second);
+    chosen(book, plain, second, first);
+}
+
+// The cards of a search with factors and of one without.
 fn cards(book: &[u8], plain: &[u8], sheet: &[u8], other: &[u8]) {
     let mut first = [9u8; 1060];
     let mut second = [9u8; 1060];
     let n = card_printing::written(book, sheet, &mut first, 1060);
     printing::line(b"sum", buffers::checksum(&first));
-    checked(book, plain, sheet, other, between(&first, 0, n));
     let m = card_printing::written(book, plain, &mut second, 1060);
-    checked(book, plain, sheet, other, between(&second, 0, m));
-    chosen(book, sheet, between(&first, 0, n), between(&second, 0, m));
-    chosen(book, plain, between(&second, 0, m), between(&first, 0, n));
+    judged(
+        book,
+        plain,
+        sheet,
+        other,
+        between(&first, 0, n),
+        between(&second, 0, m),
+    );
 }
 
 // Puts a tolerance into a sheet that ends at `end`.

@@ -1,6 +1,7 @@
 // The cases, one a line. A line has what differs from a good file, by the letters of its fields: L the bytes of the file, K its back
 // count, N its boats, C its columns, S its steps, T its tolerance, W its letters as a number, V a value that stands P bytes before the
-// trailer. With A it is a case for each value of a list. A line for two files has those of the sheet behind a semicolon.
+// trailer, F the three bytes before a sheet's trailer, lowest first. With A it is a case for each value of a list. A line for two files
+// has those of the sheet behind a semicolon.
 
 // Fleet books: length, letters and counts on both sides of their limits. A good one has 3 boats and 2 columns.
 pub fn books() {
@@ -91,6 +92,8 @@ sheet tolerance 0: T0
 sheet tolerance 1024000000: T1024000000
 sheet tolerance 1024000001: T1024000001
 sheet tolerance 4294967295: T4294967295
+sheet of 64 columns for 64: C64 Q64 K128 L144
+sheet of 65 columns for 65: C65 Q65 K130 L146
 ",
     );
 }
@@ -126,6 +129,70 @@ sheet steps and value: S0 P2 V2001
     );
 }
 
+// Sheets with factors, of 3 columns unless C says otherwise: length, letters, counts and back count.
+pub fn factored_sheets() {
+    crate::each_case(
+        b"sheet with factors length 15: W843600727 K9 F65793 L15
+sheet with factors length 16: W843600727 K9 F65793 L16
+sheet with factors length 24: W843600727 K9 F65793 L24
+sheet with factors length 25: W843600727 K9 F65793 L25
+sheet with factors length 26: W843600727 K9 F65793 L26
+sheet with factors length 40000: W843600727 K9 F65793 L40000
+sheet with factors length 40001: W843600727 K9 F65793 L40001
+sheet with factors letters 843600726: W843600726 K9 F65793 L25
+sheet with factors letters 843600728: W843600728 K9 F65793 L25
+sheet with factors letters 860377943: W860377943 K9 F65793 L25
+sheet with factors letters 826823511: W826823511 K9 F65793 L25
+sheet with factors for columns 2: W843600727 K9 F65793 L25 Q2
+sheet with factors for columns 4: W843600727 K9 F65793 L25 Q4
+sheet with factors steps 0: W843600727 K9 F65793 L25 S0
+sheet with factors steps 361: W843600727 K9 F65793 L25 S361
+sheet with factors tolerance 1024000001: W843600727 K9 F65793 L25 T1024000001
+sheet with factors back 0: W843600727 K0 F65793 L25
+sheet with factors back 6: W843600727 K6 F65793 L25
+sheet with factors back 8: W843600727 K8 F65793 L25
+sheet with factors back 9: W843600727 K9 F65793 L25
+sheet with factors back 10: W843600727 K10 F65793 L26
+sheet with factors back 12: W843600727 K12 F65793 L28
+sheet with factors back 265: W843600727 K265 F65793 L40000
+sheet with factors back 16777225: W843600727 K16777225 F65793 L40000
+sheet with factors first value: A W843600727 K9 F65793 L25 P9
+sheet with factors middle value: A W843600727 K9 F65793 L25 P7
+sheet with factors last value: A W843600727 K9 F65793 L25 P5
+sheet with factors front just before the body: A W843600727 K9 F65793 L27 P11
+",
+    );
+}
+
+// Their factors on both sides of the limits, and two faults.
+pub fn factors() {
+    crate::each_case(
+        b"sheet factors 0 0 0: W843600727 K9 L25 F0
+sheet factors 1 0 0: W843600727 K9 L25 F1
+sheet factors 0 0 1: W843600727 K9 L25 F65536
+sheet factors 0 63 0: W843600727 K9 L25 F16128
+sheet factors 64 0 0: W843600727 K9 L25 F64
+sheet factors 21 21 22: W843600727 K9 L25 F1447189
+sheet factors 65 0 0: W843600727 K9 L25 F65
+sheet factors 0 64 1: W843600727 K9 L25 F81920
+sheet factors 22 21 22: W843600727 K9 L25 F1447190
+sheet factors 128 64 64: W843600727 K9 L25 F4210816
+sheet factors 255 1 1: W843600727 K9 L25 F66047
+sheet factors 255 255 255: W843600727 K9 L25 F16777215
+sheet factor 0 of one column: W843600727 C1 Q1 K3 L19 F0
+sheet factor 1 of one column: W843600727 C1 Q1 K3 L19 F65536
+sheet factor 64 of one column: W843600727 C1 Q1 K3 L19 F4194304
+sheet factor 65 of one column: W843600727 C1 Q1 K3 L19 F4259840
+sheet factors of 64 columns total 64: W843600727 C64 Q64 K192 L208 F4194304
+sheet factors of 64 columns total 65: W843600727 C64 Q64 K192 L208 F4194305
+sheet factors of 64 columns total 0: W843600727 C64 Q64 K192 L208 F0
+sheet factors of no columns for none: W843600727 C0 Q0 K0 L16 F1
+sheet back and factors: W843600727 K10 L26 F0
+sheet value and factors: W843600727 K9 L25 F0 P9 V2001
+",
+    );
+}
+
 // A fleet book of 2 columns and a sheet for it.
 pub fn both() {
     crate::each_case(
@@ -140,6 +207,9 @@ book accepted, sheet steps out: ; C2 K4 L20 S361
 book accepted, sheet tolerance out: ; C2 K4 L20 T1024000001
 book accepted, sheet back out: ; C2 K5 L20
 book accepted, sheet value out: ; C2 K4 L20 P2 V2001
+book accepted, sheet with factors: ; W843600727 C2 K6 L22 F65792
+book accepted, sheet factors out: ; W843600727 C2 K6 L22 F0
+book value out, sheet factors out: P2 V2001; W843600727 C2 K6 L22 F0
 ",
     );
 }

@@ -22,6 +22,7 @@ fn put_book(file: &mut [u8], line: &[u8], value: u64) -> usize {
 // The same of a sheet, whose trailer is at 39,985.
 fn put_sheet(file: &mut [u8], line: &[u8], value: u64) -> usize {
     let place = less(39985, field(line, b'P', 39985) as usize);
+    buffers::put_number(file, 39982, field(line, b'F', 0), 3);
     buffers::put_number(file, place, value, 2);
     tables::put_fields(
         file,
@@ -117,5 +118,7 @@ fn main() {
     cases::book_bodies();
     cases::sheets();
     cases::sheet_bodies();
+    cases::factored_sheets();
+    cases::factors();
     cases::both();
 }
