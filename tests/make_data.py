@@ -33,6 +33,18 @@ FILES = {
     "h.wsh": make_sheet([2000], steps=1, tolerance=0),
     "i.wsh": make_sheet([0], steps=2, tolerance=0),
     "j.wsh": make_sheet([1, 1], steps=0, tolerance=1),
+    "k.wsh": make_sheet([1, 1], steps=2, tolerance=1, factors=[1, 2]),
+    "l.wsh": make_sheet([1, 1], steps=9, tolerance=3, factors=[1, 2]),
+    "m.wbk": make_book([[0, 0], [0, 4]]),
+    "m.wsh": make_sheet([3, 1], steps=5, tolerance=8, factors=[1, 0]),
+    "n.wsh": make_sheet([3, 1], steps=5, tolerance=9, factors=[1, 0]),
+    "o.wsh": make_sheet([1, 1], steps=2, tolerance=8, factors=[64, 0]),
+    "p.wsh": make_sheet([1, 1], steps=2, tolerance=7, factors=[64, 0]),
+    "q.wsh": make_sheet([1, 1], steps=9, tolerance=1, factors=[1, 1]),
+    "r.wbk": make_book([[2000]]),
+    "r.wsh": make_sheet([-2000], steps=1, tolerance=1024000000, factors=[64]),
+    "s.wsh": make_sheet([-2000], steps=1, tolerance=1023999999, factors=[64]),
+    "t.wsh": make_sheet([1, 1], steps=9, tolerance=1, factors=[0, 0]),
     "boats256.wbk": make_book([[i - 128] for i in range(256)]),
     "boats257.wbk": make_book([[i - 128] for i in range(257)]),
     "columns1.wsh": make_sheet([3], steps=5, tolerance=0),
@@ -78,6 +90,11 @@ FARTHER = true_card(BOOK, PAIR_SHEET, [1, 0, 0], 1)
 NEARER = true_card(BOOK, PAIR_SHEET, [2, 2, 2], 3, front=b"front text")
 AS_FAR = true_card(BOOK, PAIR_SHEET, [6, 0, 0], 3, b"more front text", b"WCD1")
 
+# Two cards of one sheet whose factors decide: shares 2 0 1 lie 3 off in the first column, 2 1 0 in the second, which counts half as much.
+FACTOR_SHEET = make_sheet([1, 1], steps=9, tolerance=1000, factors=[2, 1], front=b"with factors")
+FIRST_OFF = true_card(BOOK, FACTOR_SHEET, [2, 0, 1], 2)
+SECOND_OFF = true_card(BOOK, FACTOR_SHEET, [2, 1, 0], 2, front=b"front text")
+
 # program_test: folders by their names. The current folder has no name. In `long` each file is replaced by longer ones.
 FOLDERS = {
     "": folder(BOOK, SHEET),
@@ -101,6 +118,11 @@ FOLDERS = {
     "pair_second_damaged": folder(BOOK, PAIR_SHEET, None, FARTHER, NEARER[:-37]),
     "pair_sheet_refused": folder(BOOK, FILES["j.wsh"], None, FARTHER, NEARER),
     "pair_no_second": folder(BOOK, PAIR_SHEET, None, FARTHER),
+    "factored": folder(BOOK, FILES["k.wsh"], searched_card(BOOK, FILES["k.wsh"])),
+    "other_factors": folder(BOOK, FILES["k.wsh"], searched_card(BOOK, FILES["c.wsh"])),
+    "factors_of_another": folder(BOOK, FILES["c.wsh"], searched_card(BOOK, FILES["k.wsh"])),
+    "factors_refused": folder(BOOK, FILES["t.wsh"], CARD),
+    "pair_factors": folder(BOOK, FACTOR_SHEET, None, FIRST_OFF, SECOND_OFF),
     "pair_better_a_folder": {**folder(BOOK, PAIR_SHEET, None, FARTHER, NEARER), "better.wcd/inside": b"a folder stands in the place of the card\n"},
 }
 

@@ -1,4 +1,5 @@
-"""Pairs of cards for one book and sheet, of either edition, written by hand and drawn: near one another, equal, behind front text, damaged.
+"""Pairs of cards for one book and sheet, of either edition, written by hand and drawn: near one another, equal, behind front text, damaged,
+with factors.
 
 A file of cases has, for each, the lengths of book, sheet, first and second card in 2 bytes each, then the four files.
 """
@@ -6,7 +7,7 @@ import math
 import struct
 
 import exact
-from generator import Draws
+from generator import Draws, draw_factors
 
 P = [[0, 0], [4, 0], [0, 4]]
 MOST = exact.MOST_TOLERANCE
@@ -45,6 +46,19 @@ def by_hand():
     second = exact.true_card(book, sheet, [48092, 15739, 64, 5, 2, 1], 357)
     yield book, sheet, first, second
     yield book, sheet, second, first
+
+
+def by_factors():
+    """Two mixtures that are as far by the factors 1 1, by factors that prefer one or the other, each card also by another sheet's factors."""
+    book = exact.make_book(P)
+    for factors in (None, (1, 1), (1, 2), (2, 1), (1, 0), (0, 1), (64, 0), (31, 33)):
+        sheet = exact.make_sheet([1, 1], 9, 1000, factors=factors)
+        one, other = exact.true_card(book, sheet, [2, 0, 1], 2), exact.true_card(book, sheet, [2, 1, 0], 2, front=b"front")
+        yield book, sheet, one, other
+        yield book, sheet, other, one
+        yield book, exact.make_sheet([1, 1], 9, 1000, factors=(1, 2)), one, other
+    yield book, exact.make_sheet([1, 1], 9, 1000, factors=(0, 0)), b"", b""
+    yield book, exact.make_sheet([1, 1], 9, 1000, factors=(64, 1)), one, other
 
 
 def axes(columns, value):
@@ -121,6 +135,20 @@ def small(draws):
     yield book, sheet, cards[0], cards[1]
 
 
+def factored(draws):
+    """Drawn shares of a small drawn book by a sheet with drawn factors."""
+    for book, sheet, _, _ in small(draws):
+        target, steps, tolerance, _ = exact.read_sheet(sheet)
+        sheet = exact.make_sheet(target, steps, tolerance, factors=draw_factors(draws, len(target)))
+        cards = []
+        for _ in range(2):
+            shares = [0] * len(exact.read_book(book))
+            for share in range(1, 5):
+                shares[draws.draw(len(shares))] += share
+            cards.append(drawn_card(draws, book, sheet, shares, 4))
+        yield book, sheet, cards[0], cards[1]
+
+
 def damaged(draws):
     """A small pair with a byte of the first card, the second or both changed, or a card cut."""
     for book, sheet, *cards in small(draws):
@@ -138,6 +166,10 @@ def cases():
     for _ in range(60):
         for kind in (near, proportional, small, damaged):
             yield from kind(draws)
+    yield from by_factors()
+    draws = Draws(25)
+    for _ in range(80):
+        yield from factored(draws)
 
 
 def file_of(files):

@@ -11,7 +11,8 @@ from printing import checksum  # noqa: E402
 # In the program's order. The folder `none` does not stand in data/.
 NAMES = ["larger", "beyond", "spent", "by_hand", "other_tolerance", "other_target", "book_refused", "sheet_refused", "card_refused",
          "no_book", "no_sheet", "card_a_folder", "none", "pair_second", "pair_first", "pair_equal", "pair_first_damaged",
-         "pair_second_damaged", "pair_sheet_refused", "pair_no_second", "pair_better_a_folder"]
+         "pair_second_damaged", "pair_sheet_refused", "pair_no_second", "pair_better_a_folder", "factored", "other_factors",
+         "factors_of_another", "factors_refused", "pair_factors"]
 
 
 def contents(files, cards=("card.wcd",)):

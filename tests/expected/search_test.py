@@ -1,5 +1,5 @@
 #!/usr/bin/env python3
-"""What search_test prints: the marked sheets and the limits, searched over fractions."""
+"""What search_test prints: the marked sheets, without factors and with them, and the limits, searched over fractions."""
 import os
 import sys
 
@@ -12,6 +12,10 @@ from make_data import FILES  # noqa: E402
 MARKED = [
     ("p", "a", 12), ("p", "b", 12), ("p", "c", 12), ("p", "d", 12), ("e", "e", 12), ("e", "f", 12),
     ("g", "g", 12), ("h", "h", 12), ("h", "i", 12), ("p", "j", 12),
+]
+FACTORED = [
+    ("p", "k", 12), ("p", "l", 12), ("m", "m", 12), ("m", "n", 12), ("p", "o", 12), ("p", "p", 12), ("p", "q", 12), ("r", "r", 12),
+    ("r", "s", 12), ("p", "t", 12),
 ]
 LIMITS = [
     ("boats256", "columns1", 256), ("boats257", "columns1", 260), ("columns64", "columns64", 12),
@@ -46,7 +50,7 @@ def with_front(size):
 
 
 def main():
-    parts = [files(MARKED), files(LIMITS), with_front(40000), with_front(40001), files(LISTS)]
+    parts = [files(MARKED), files(FACTORED), files(LIMITS), with_front(40000), with_front(40001), files(LISTS)]
     sys.stdout.write("".join(text for part in parts for text in part))
 
 

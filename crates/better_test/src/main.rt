@@ -1,5 +1,5 @@
-// The better of two cards for pairs written by hand and drawn: near one another, equal, behind front text, damaged. The file of cases is
-// made by tests/pairs.py, the expected output by tests/expected/better_test.py.
+// The better of two cards for pairs written by hand and drawn: near one another, equal, behind front text, damaged, with factors.
+// The file of cases is made by tests/pairs.py, the expected output by tests/expected/better_test.py.
 use buffers::between;
 use buffers::u16_at;
 
@@ -48,5 +48,5 @@ fn each(cases: &[u8], count: u64) {
 fn main() {
     let mut cases = [0u8; 100000];
     let n = file_io::read_file(b"pairs.dat", &mut cases);
-    each(&cases[..n], 269);
+    each(&cases[..n], 375);
 }

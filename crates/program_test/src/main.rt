@@ -85,6 +85,11 @@ pair_second_damaged
 pair_sheet_refused
 pair_no_second
 pair_better_a_folder
+factored
+other_factors
+factors_of_another
+factors_refused
+pair_factors
 ",
     );
     long(b"card.wcd", 40000);

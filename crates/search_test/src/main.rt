@@ -1,4 +1,4 @@
-// The marked sheets and the limits of the files, through the search itself: the answer or the refusal, and the share list.
+// The marked sheets, without factors and with them, and the limits of the files, through the search itself: the answer or the refusal, and the share list.
 // The files of data/ are made by tests/make_data.py, the expected output by tests/expected/search_test.py.
 ghost use mathlib.Core.Path.{_≡_};
 ghost use Prim.Native.Nat.{_<_};
@@ -85,7 +85,7 @@ fn with_front(size: usize) {
     searched(between(&book, 0, n), between(&long_sheet, 0, size), 12);
 }
 
-// The marked sheets, then each limit and one more than it.
+// The marked sheets, a to j and with factors k to t, then each limit and one more than it.
 fn marked_and_limits() {
     each(
         b"p.wbk a.wsh:
@@ -98,6 +98,16 @@ g.wbk g.wsh:
 h.wbk h.wsh:
 h.wbk i.wsh:
 p.wbk j.wsh:
+p.wbk k.wsh:
+p.wbk l.wsh:
+m.wbk m.wsh:
+m.wbk n.wsh:
+p.wbk o.wsh:
+p.wbk p.wsh:
+p.wbk q.wsh:
+r.wbk r.wsh:
+r.wbk s.wsh:
+p.wbk t.wsh:
 boats256.wbk columns1.wsh: L256
 boats257.wbk columns1.wsh: L260
 columns64.wbk columns64.wsh:
