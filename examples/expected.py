@@ -36,9 +36,10 @@ def bits(value):
 
 def main():
     book = exact.make_book([[0, 0], [4, 0], [0, 4]])
-    for steps in (9, 0):
-        print("search, %d steps" % steps)
-        refusal, answer, slots = exact.search(book, exact.make_sheet([1, 1], steps, 1), [7, 7, 7, 7])
+    for words, sheet in (("9 steps", exact.make_sheet([1, 1], 9, 1)), ("0 steps", exact.make_sheet([1, 1], 0, 1)),
+                         ("factors 1 2", exact.make_sheet([1, 1], 2, 1, factors=[1, 2]))):
+        print("search, " + words)
+        refusal, answer, slots = exact.search(book, sheet, [7, 7, 7, 7])
         print_reply(refusal, answer)
         print("slots", *slots)
     sheet = exact.make_sheet([1, 1], 9, 1)

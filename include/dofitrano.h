@@ -37,12 +37,13 @@ enum dofitrano_refusal {
     DOFITRANO_BOOK_VALUE = 6,    /* a value outside -2,000 to 2,000 */
     /* the sheet */
     DOFITRANO_SHEET_LENGTH = 11,    /* shorter than 16 or longer than 40,000 bytes */
-    DOFITRANO_SHEET_LETTERS = 12,   /* letters not WSH1 */
+    DOFITRANO_SHEET_LETTERS = 12,   /* letters not WSH1 or WSH2 */
     DOFITRANO_SHEET_COLUMNS = 13,   /* columns differ from the book's */
     DOFITRANO_SHEET_STEPS = 14,     /* steps outside 1 to 360 */
     DOFITRANO_SHEET_TOLERANCE = 15, /* tolerance above 1,024,000,000 */
-    DOFITRANO_SHEET_BACK = 16,      /* back is not 2 x columns, or reaches before the first byte */
+    DOFITRANO_SHEET_BACK = 16,      /* back is not 2 x columns (WSH2: 3 x columns), or reaches before the first byte */
     DOFITRANO_SHEET_VALUE = 17,     /* a value outside -2,000 to 2,000 */
+    DOFITRANO_SHEET_FACTORS = 46,   /* the columns' factors total 0 or more than 64; tested right after 17 */
     /* the calling program */
     DOFITRANO_SHARE_LIST = 21,  /* share list shorter than the number of boats */
     DOFITRANO_CARD_BUFFER = 22, /* card buffer shorter than the card */
@@ -74,14 +75,15 @@ typedef struct dofitrano_reply {
     uint32_t verdict;   /* 1 Within, 2 Beyond, 3 Spent */
     uint32_t steps;     /* t, the steps used */
     uint32_t weight;    /* W = t (t + 1) / 2, the total of the shares */
-    uint64_t distance;  /* E: the squared distance is E / W^2 */
+    uint64_t distance;  /* E: the squared distance, each column times the sheet's factor for it, is E / W^2 */
     uint64_t gap;       /* G: the gap is G / W^2 */
     int64_t floor;      /* of Beyond: E - 2 G, which may be below 0; else 0 */
     uint64_t shortfall; /* of Spent: E - tolerance x W^2; else 0 */
 } dofitrano_reply;
 
-/* Searches a mixture of the book's boats near the sheet's target. Refuses by 1 to 17, then 21. Where it answers, the first
- * slots of `shares` are the boats' shares, one a boat and 0 for an unused boat; later slots are as they were. */
+/* Searches a mixture of the book's boats near the sheet's target. Refuses by 1 to 17, then 46, then 21. Where it answers, the first
+ * slots of `shares` are the boats' shares, one a boat and 0 for an unused boat; later slots are as they were. A sheet WSH2 has a factor
+ * for each column, by which every squared distance counts it; with WSH1 every factor is 1. All functions here take either. */
 dofitrano_reply dofitrano_search(const uint8_t *book, size_t book_length,
                                  const uint8_t *sheet, size_t sheet_length,
                                  uint16_t *shares, size_t slots);
@@ -96,13 +98,14 @@ typedef struct dofitrano_card_reply {
 #define DOFITRANO_CARD_MOST 1060
 
 /* Makes the search itself and writes its card, of the edition WCD2, to the first bytes of `output`; later bytes are as they were.
- * Refuses by 1 to 17, then 22. */
+ * Refuses by 1 to 17, then 46, then 22. */
 dofitrano_card_reply dofitrano_write_card(const uint8_t *book, size_t book_length,
                                           const uint8_t *sheet, size_t sheet_length,
                                           uint8_t *output, size_t output_length);
 
-/* Checks a card, of either edition, against its book and sheet without a search. Refuses by 1 to 17, then 21, then 31 to 39. Where it
- * accepts, it replies with the card's answer and fills the first slots of `shares` with the card's shares as dofitrano_search does. */
+/* Checks a card, of either edition, against its book and sheet without a search, by the sheet's factors. Refuses by 1 to 17, then 46,
+ * then 21, then 31 to 39. Where it accepts, it replies with the card's answer and fills the first slots of `shares` with the card's
+ * shares as dofitrano_search does. */
 dofitrano_reply dofitrano_check_card(const uint8_t *book, size_t book_length,
                                      const uint8_t *sheet, size_t sheet_length,
                                      const uint8_t *card, size_t card_length,
@@ -117,8 +120,8 @@ typedef struct dofitrano_choice {
 } dofitrano_choice;
 
 /* The better of two cards for one book and sheet: the one whose squared distance E / W^2 is the lesser, compared exactly; of equal
- * ones the first. Refuses by 1 to 17, then 31 to 39 of the first card, then 31 to 39 of the second. Where it chooses, the part is a
- * card that dofitrano_check_card accepts, with the same answer and shares. */
+ * ones the first. Refuses by 1 to 17, then 46, then 31 to 39 of the first card, then 31 to 39 of the second. Where it chooses, the part
+ * is a card that dofitrano_check_card accepts, with the same answer and shares. */
 dofitrano_choice dofitrano_better_card(const uint8_t *book, size_t book_length,
                                        const uint8_t *sheet, size_t sheet_length,
                                        const uint8_t *first, size_t first_length,
@@ -156,7 +159,7 @@ dofitrano_values dofitrano_sheet_values(const uint8_t *book, size_t book_length,
                                         const double *second, size_t second_count,
                                         const uint32_t *units, size_t unit_count);
 
-/* A sheet has at most so many bytes without front text. */
+/* A sheet WSH1, which has no factors, has at most so many bytes without front text. */
 #define DOFITRANO_SHEET_MOST 144
 
 /* A sheet by value. Where the call is refused, `length` and every byte are 0. */
@@ -166,7 +169,7 @@ typedef struct dofitrano_sheet {
     uint8_t bytes[DOFITRANO_SHEET_MOST]; /* 0 behind them */
 } dofitrano_sheet;
 
-/* The sheet whose target is the values of the cells, with these steps and this tolerance: dofitrano_search and the others take it
+/* The sheet, WSH1, whose target is the values of the cells, with these steps and this tolerance: dofitrano_search and the others take it
  * with the same book. Refuses by 1 to 6, then cell by cell by 41, 42 and 43, then by 14, then by 15. */
 dofitrano_sheet dofitrano_scale_sheet(const uint8_t *book, size_t book_length,
                                       const uint8_t *kinds, size_t kind_count,

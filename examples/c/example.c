@@ -1,5 +1,5 @@
-/* The library from C: a search and its refusal, a listing, a card written and checked, a sheet of scale cells. Files are built in
- * memory. */
+/* The library from C: a search and its refusal, a search with factors, a listing, a card written and checked, a sheet of scale cells.
+ * Files are built in memory. */
 #include <inttypes.h>
 #include <stdio.h>
 #include <string.h>
@@ -18,6 +18,12 @@ static const uint8_t sheet[] = {
     4, 0, 0, 0, 2, 0, 9, 0, 1, 0, 0, 0, 'W', 'S', 'H', '1'
 };
 #define STEPS_AT 10
+
+/* The same target, the second column counted twice: the factors 1 and 2 stand after the values. 2 steps, tolerance 1. */
+static const uint8_t factored[] = {
+    1, 0, 1, 0, 1, 2,
+    6, 0, 0, 0, 2, 0, 2, 0, 1, 0, 0, 0, 'W', 'S', 'H', '2'
+};
 
 static const char *verdict_name(uint32_t verdict)
 {
@@ -102,6 +108,9 @@ int main(void)
     no_steps[STEPS_AT] = 0;
     printf("search, 0 steps\n");
     search(no_steps, sizeof no_steps);
+
+    printf("search, factors 1 2\n");
+    search(factored, sizeof factored);
 
     printf("listing\n");
     list();

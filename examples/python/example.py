@@ -1,5 +1,5 @@
-"""The library from Python by ctypes: a search and its refusal, a listing, a card written and checked,
-a sheet of scale cells.
+"""The library from Python by ctypes: a search and its refusal, a search with factors, a listing, a card written
+and checked, a sheet of scale cells.
 
 Files are built in memory.
 
@@ -115,10 +115,10 @@ def book_of(rows):
     return body + struct.pack("<IHH4s", len(body), len(rows), len(rows[0]), b"WBK1")
 
 
-def sheet_of(target, steps, tolerance):
-    """A sheet: the target, then the trailer."""
-    body = b"".join(struct.pack("<h", value) for value in target)
-    return body + struct.pack("<IHHI4s", len(body), len(target), steps, tolerance, b"WSH1")
+def sheet_of(target, steps, tolerance, factors=None):
+    """A sheet: the target, the factors where there are any, then the trailer."""
+    body = b"".join(struct.pack("<h", value) for value in target) + bytes(factors or [])
+    return body + struct.pack("<IHHI4s", len(body), len(target), steps, tolerance, b"WSH2" if factors else b"WSH1")
 
 
 def print_reply(reply):
@@ -136,6 +136,11 @@ def main(path):
         reply, slots = search(library, book, sheet_of((1, 1), steps, 1), [7, 7, 7, 7])
         print_reply(reply)
         print("slots", *slots)
+    # The second column counts twice.
+    print("search, factors 1 2")
+    reply, slots = search(library, book, sheet_of((1, 1), 2, 1, (1, 2)), [7, 7, 7, 7])
+    print_reply(reply)
+    print("slots", *slots)
     sheet = sheet_of((1, 1), 9, 1)
     print("listing")
     print(listing(library, book, sheet), end="")
