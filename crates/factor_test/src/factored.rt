@@ -54,18 +54,20 @@ fn put_factors(buffer: &mut [u8], at: usize, seed: &mut u64, columns: u64) -> us
     let kind = samples::draw(seed, 8);
     let chosen = samples::draw(seed, columns);
     let i = samples::draw(seed, 8) % 8;
+    let end = at % 65536 + (columns % 65536) as usize;
     let total = put_drawn(buffer, at, seed, columns, kind);
-    if 3 < kind {
-        let place = at % 65536 + (chosen % 65536) as usize;
-        settle(buffer, place, total, TOTALS[i as usize]);
+    if kind < 4 {
+        return end;
     }
-    at % 65536 + (columns % 65536) as usize
+    let place = at % 65536 + (chosen % 65536) as usize;
+    settle(buffer, place, total, TOTALS[i as usize]);
+    end
 }
 
-// Puts a sheet with factors of the values of `from`, a sheet without that ends at `end`, and gives back where it ends.
-pub fn put_sheet(buffer: &mut [u8], seed: &mut u64, plan: Plan, from: &[u8], end: usize) -> usize {
+// Puts a sheet with factors of the values of `plain`, a sheet without, and gives back where it ends.
+pub fn put_sheet(buffer: &mut [u8], seed: &mut u64, plan: Plan, plain: &[u8]) -> usize {
     let columns = plan.columns;
-    let values = buffers::between(from, 0, buffers::less(end, 16));
+    let values = buffers::between(plain, 0, buffers::less(plain.len(), 16));
     let at = buffers::put_bytes(buffer, 0, values);
     let a = put_factors(buffer, at, seed, columns);
     let b = buffers::put_number(buffer, a, 3 * (columns % 65536), 4);

@@ -117,20 +117,22 @@ fn damaged(book: &[u8], sheet: &mut [u8], end: usize, seed: &mut u64) {
     found(book, between(sheet, part.start, part.end));
 }
 
-// A book, and its sheet without factors that ends at `m`: two sheets with factors are made of it.
-fn sheets(book: &[u8], plain: &mut [u8], m: usize, seed: &mut u64, plan: Plan) {
+// A book, and its sheet without factors and of tolerance 0: two sheets with factors are made of it, and all three get a tolerance.
+fn sheets(book: &[u8], bare: &[u8], seed: &mut u64, plan: Plan) {
+    let mut plain = [0u8; 256];
     let mut sheet = [0u8; 256];
     let mut other = [0u8; 256];
-    let n = factored::put_sheet(&mut sheet, seed, plan, plain, m);
-    let k = factored::put_sheet(&mut other, seed, plan, plain, m);
+    let m = buffers::put_bytes(&mut plain, 0, bare);
+    let n = factored::put_sheet(&mut sheet, seed, plan, bare);
+    let k = factored::put_sheet(&mut other, seed, plan, bare);
     let tolerance = tolerance_for(book, between(&sheet, 0, n), seed);
-    put_tolerance(plain, m, tolerance);
+    put_tolerance(&mut plain, m, tolerance);
     put_tolerance(&mut sheet, n, tolerance);
     put_tolerance(&mut other, k, tolerance);
     found(book, between(&sheet, 0, n));
     cards(
         book,
-        between(plain, 0, m),
+        between(&plain, 0, m),
         between(&sheet, 0, n),
         between(&other, 0, k),
     );
@@ -146,7 +148,7 @@ fn one(seed: &mut u64, number: u64, plan: Plan) {
     let rows = placed.rows;
     let end = placed.end;
     let m = samples::put_sheet(&mut plain, seed, plan, &book, rows, 0);
-    sheets(between(&book, 0, end), &mut plain, m, seed, plan);
+    sheets(between(&book, 0, end), between(&plain, 0, m), seed, plan);
 }
 
 // A plan of 64 columns.
