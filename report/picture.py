@@ -166,12 +166,15 @@ def legend_parts(report, axis, limit, y):
     y += 22
     if any(c.outside for c in report.figures.columns):
         yield label(20, y, "*", "out") + label(46, y, "bold: here the sheet lies outside what the fleet has, and no mixture reaches it")
+        y += 22
+    if any(c.factor != 1 for c in report.figures.columns):
+        yield label(20, y, "× n") + label(46, y, "behind a name: the column counts n times in the distance; without it, once")
 
 
 def picture(report, axis, first, last, part):
     """The picture of the columns from first to before last; `part` says which of several it is."""
     bottom = TOP + (last - first) * ROW
-    height = bottom + 112
+    height = bottom + 112 + (22 if any(c.factor != 1 for c in report.figures.columns) else 0)
     limit = band_limit(report)
     heading = title(report)
     parts = ['<svg xmlns="http://www.w3.org/2000/svg" viewBox="0 0 %d %d" width="%d" height="%d" role="img" aria-label="%s">' % (

@@ -69,10 +69,12 @@ def counted(n, thing):
 
 
 def outside_sentence(report):
-    """Which columns of the sheet no mixture can reach."""
-    names = [name for name, column in zip(report.names.columns, report.figures.columns) if column.outside]
+    """Which columns of the sheet, of those that count, no mixture can reach."""
+    columns = list(zip(report.names.columns, report.figures.columns))
+    names = [name for name, column in columns if column.factor and column.outside]
     if not names:
-        return "In each column by itself the sheet lies within the fleet; what no mixture meets is the columns together."
+        counting = "" if all(column.factor for _, column in columns) else " that counts"
+        return "In each column%s by itself the sheet lies within the fleet; what no mixture meets is the columns together." % counting
     return "The sheet lies outside the fleet in %s, where no mixture can reach it." % ", ".join(names)
 
 
@@ -227,6 +229,9 @@ def scale_sentences(report):
         yield Paragraph("%s (displacement %s t%s, %s)." % (said, decimal(names.displacement), length, names.sizes))
     yield Paragraph("Difference is the mixture less the sheet; “% of squared” is the column's part of the squared distance; the fleet's range is "
                     "over all boats of the book, with shares or without.")
+    if report.sheet.edition.factor_bytes:
+        yield Paragraph("The sheet has a factor for each column: its squared difference counts so many times, and one with the factor 0 does not count. "
+                        "The factors total %d." % report.figures.count)
 
 
 # ---------------------------------------------------------------- files

@@ -58,10 +58,7 @@ def hand_listing(rows, tolerance, steps, verdict, t, shares, e, g):
 
 def hand_files(rows, target, tolerance, steps, verdict, t, shares, e, g, card=b"WCD1", factors=None, fronts=(b"", b"")):
     """The three files of a card."""
-    sheet = exact.make_sheet(target, steps, tolerance, front=fronts[1], letters=b"WSH1")
-    if factors:
-        sheet = exact.make_sheet(target, steps, tolerance, front=fronts[1], back=3 * len(target), letters=b"WSH2")
-        sheet = sheet[:-16] + bytes(factors) + sheet[-16:]
+    sheet = exact.make_sheet(target, steps, tolerance, front=fronts[1], factors=factors)
     pairs = [pair for pair in enumerate(shares) if pair[1]]
     return {"fleet.wbk": exact.make_book(rows, front=fronts[0]), "sheet.wsh": sheet,
             "card.wcd": exact.make_card(pairs, verdict, t, tolerance, e, g, len(rows), len(target), letters=card)}
@@ -72,8 +69,8 @@ def hand_report(*case, tables=(None, None), **more):
     return mixreport.report_of(hand_files(*case, **more), hand_listing(rows, *numbers), tables, DATE)
 
 
-# The marked sheets, d and i by either edition of a card; a card that no search finds; a sheet with factors 2 and 1; and two steps of which the
-# second has all scores 0, so that the boat picked is the lowest, or the one that holds shares. Given are rows, target, tolerance, steps,
+# The marked sheets, d and i by either edition of a card; a card that no search finds; sheets with factors, of which m and its neighbours have one
+# of 0; and two steps of which the second has all scores 0, so that the boat picked is the lowest, or the one that holds shares. Given are rows, target, tolerance, steps,
 # verdict, t, shares, E, G, and the letters and factors where they are others.
 CASES = {
     "a": ((P, [1, 1], 1, 9, 1, 3, [3, 1, 2], 8, 56), {}),
@@ -89,6 +86,12 @@ CASES = {
     "i, WCD2": ((LINE, [0], 0, 2, 3, 2, [2, 1], 4000000, 16000000), {"card": b"WCD2"}),
     "by hand": ((P, [1, 1], 1, 9, 1, 3, [2, 2, 2], 8, 32), {}),
     "factors": ((P, [1, 1], 1, 9, 1, 3, [3, 1, 2], 12, 96), {"factors": [2, 1]}),
+    "k": ((P, [1, 1], 1, 2, 3, 2, [0, 2, 1], 27, 48), {"factors": [1, 2]}),
+    "m": (([[0, 0], [0, 4]], [3, 1], 8, 5, 2, 1, [1, 0], 9, 0), {"factors": [1, 0]}),
+    "m, outside": (([[0, 0], [0, 4]], [3, 9], 8, 5, 2, 1, [1, 0], 9, 0), {"factors": [1, 0]}),
+    # Step 1: r' = (0, -4, 0), scores 0 and -16. Step 2: r = (4, 0, -9), scores 0 and 16. Then r = (4, -8, -27), E = 16 + 64, the scores are 0 and -16,
+    # G = -16 + 48, and (80 - 32)² = 2304 is above 3 * 9 * 80 = 2160.
+    "inside": (([[0, 0, 0], [4, 4, 0]], [0, 4, 9], 3, 9, 2, 2, [2, 1], 80, 32), {"card": b"WCD2", "factors": [1, 1, 0]}),
     "lowest": (([[-1], [0]], [0], 1, 9, 1, 2, [2, 1], 4, 4), {}),
     "holding": (([[-1], [0]], [0], 1, 9, 1, 2, [0, 3], 0, 0), {}),
 }
@@ -109,6 +112,12 @@ PRINTED = {
     "i": ("0.00 0.00 0.00", "666.67 444444.44 666.67", "0.00 0.00 0.00", "666.67 666.67", "-666.67 -666.67 100.0", "0 2000.00",
           "16000000 16000000.00"),
     "by hand": ("1.00 1.00 0.71", "0.47 0.22 0.33", "0.00 0.00 0.00", "0.48 0.34", "1.33 +0.33 50.0", "1.33 +0.33 50.0", "0 1.41", "none"),
+    # E / W² is 3, the factors total 3, and D² is 16 + 2 * 16; of boat 0 alone 1 + 2.
+    "k": ("1.00 1.00 0.58", "1.73 3.00 1.00", "0.00 0.00 0.00", "1.74 1.00", "2.67 +1.67 92.6", "1.33 +0.33 7.4", "0 1.73", "48 48.00"),
+    "m": ("2.83 8.00 2.83", "3.00 9.00 3.00", "3.00 9.00 3.00", "0.00 0.00", "0.00 -3.00 100.0", "0.00 -1.00 0.0", "0 3.00", "0 0.00"),
+    "m, outside": ("2.83 8.00 2.83", "3.00 9.00 3.00", "3.00 9.00 3.00", "0.00 0.00", "0.00 -3.00 100.0", "0.00 -9.00 0.0", "0 3.00", "0 0.00"),
+    # 80 / 9, and no mixture below 2304 / 720 = 3.2; D² is 32 and 4 * 32 / 4.
+    "inside": ("1.73 3.00 1.22", "2.98 8.89 2.11", "1.78 3.20 1.26", "1.20 0.85", "1.33 +1.33 20.0", "1.33 -2.67 80.0", "0.00 -9.00 0.0", "0 4.00", "32 32.00"),
     "lowest": ("1.00 1.00 1.00", "0.67 0.44 0.67", "0.00 0.00 0.00", "0.67 0.67", "-0.67 -0.67 100.0", "1 0.00", "1 1.00"),
     "holding": ("1.00 1.00 1.00", "0.00 0.00 0.00", "0.00 0.00 0.00", "0.00 0.00", "0.00 0.00 0.0", "1 0.00", "1 1.00"),
     "factors": ("1.00 1.00 0.58", "0.58 0.33 0.33", "0.00 0.00 0.00", "0.58 0.34", "0.67 -0.33 66.7", "1.33 +0.33 33.3", "0 1.73", "48 38.40"),
@@ -147,6 +156,8 @@ SENTENCES = [
     ("c", "ask for more steps, up to 360, or ask with another tolerance: this mixture meets 3."),
     ("d", "BEYOND: no mixture of these boats"),
     ("d", "outside the fleet in column 0, column 1"),
+    ("m, outside", "outside the fleet in column 0, where"),
+    ("inside", "In each column that counts by itself the sheet lies within the fleet"),
     ("e", "after the one step"),
     ("g", "meets the sheet exactly"),
     ("by hand", "not those that so many steps of the search give"),
@@ -468,6 +479,7 @@ EXTREMES = {
     "tolerance": ((P, [1, 1], 1024000000, 9, 1, 1, [0, 1, 0], 10, 16), {}),
     "farthest sheet": (([[-2000]], [2000], 0, 1, 2, 1, [1], 16000000, 0), {}),
     "factors": CASES["factors"],
+    "factor 0": CASES["m, outside"],
 }
 
 
@@ -477,7 +489,9 @@ def extreme_pictures():
         source = picture.pictures(hand_report(*case, **more))[0]
         check_picture(label, source, len(case[1]), sum(1 for share in case[6] if share))
         agree("past the frame: " + label, "past the frame" in source, label == "tolerance")
-    agree("the factor at its column", ">column 0 × 2<" in source, True)
+        agree("the legend of factors: " + label, ">× n<" in source, label in ("factors", "factor 0"))
+    drawn = [picture.pictures(hand_report(*CASES[name][0], **CASES[name][1]))[0] for name in ("factors", "m, outside")]
+    agree("the factor at its column", [">column 0 × 2<" in drawn[0], "* column 1 × 0<" in drawn[1]], [True, True])
 
 
 def near(got, wanted):
@@ -574,6 +588,11 @@ def runs():
     agree("its files", sorted(left), sorted([*files, *mixreport.REPORTS]))
     report = mixreport.report_of(files, true, (None, None), DATE, *SIZES)
     agree("what is written", [left[name].decode() for name in mixreport.REPORTS], [text.text_of(report), page.page_of(report)])
+    factored, other = hand_files(*CASES["k"][0], card=b"WCD2", factors=[1, 2]), hand_files(*CASES["c"][0], card=b"WCD2")
+    code, out, err, left = run(factored, STANDS_FOR_MIXCHECK)
+    agree("a report with factors", (code, err, "The factors total 3." in " ".join(left["report.txt"].decode().split())), (0, "", True))
+    code, out, err, left = run(dict(factored, **{"sheet.wsh": other["sheet.wsh"]}), STANDS_FOR_MIXCHECK)
+    agree("by other factors", (code, out, sorted(left)), (1, "refused 38\n", sorted(factored)))
     tampered = dict(files, **{"card.wcd": files["card.wcd"][:2] + b"\x0c" + files["card.wcd"][3:]})
     without = {name: files[name] for name in ("fleet.wbk", "sheet.wsh")}
     for label, these, mixcheck, line, said in (
