@@ -185,6 +185,11 @@ CARD_LETTERS = b"WCD2"
 SHARES = [11, 0, 0, 18, 0, 0, 27, 24, 42, 0, 63, 25]
 RESIDUAL = [195, 1651, 874, -3682, 901, 583, 253, -233]
 YARD_E = 195 ** 2 + 1651 ** 2 + 874 ** 2 + 3682 ** 2 + 901 ** 2 + 583 ** 2 + 253 ** 2 + 233 ** 2
+# The residual times the sheet, and times each boat's row, column by column: of the sheet, and of Hamnavoe, which has the least.
+YARD_SHEET_SCORE = 65910 + 269113 + 71668 - 217238 + 52258 + 32648 - 9867 - 17242
+YARD_LEAST_SCORE = 62010 + 237744 + 90022 - 154644 + 64872 + 36146 - 6325 - 17242
+YARD_SCORES = [338548, 353598, 363541, 368540, 327023, 368988, 372490, YARD_LEAST_SCORE, 337423, 344043, 320581, 319679]
+# G is the largest <r, y - W v>, and y is r + W u: 18354814 + 210 × (247250 - 312583).
 YARD_G = 4634884
 YARD_COLUMNS = [
     "hull weight|‰ D|338|338.93|+0.93|+27 kg|0.2|312|371|",
@@ -235,6 +240,8 @@ YARD_SENTENCES = ["The nearest single boat is Eider II (number 4), at a distance
 def worked_example():
     rows, target, *_ = yard_case()
     agree("residual by hand", [sum(s * row[j] for s, row in zip(SHARES, rows)) - 210 * u for j, u in enumerate(target)], RESIDUAL)
+    agree("scores by hand", [sum(r * x for r, x in zip(RESIDUAL, row)) for row in (target, *rows)], [YARD_SHEET_SCORE, *YARD_SCORES])
+    agree("gap by hand", (YARD_E + 210 * (YARD_SHEET_SCORE - YARD_LEAST_SCORE), min(YARD_SCORES)), (YARD_G, YARD_LEAST_SCORE))
     for letters in (b"WCD1", b"WCD2"):
         report = yard_report(letters)
         agree("columns", joined(words.column_table(report)), YARD_COLUMNS)
