@@ -19,6 +19,8 @@ BOOK = exact.make_book(P)
 SHEET = exact.make_sheet([1, 1], steps=9, tolerance=1)
 SPENT = exact.make_sheet([1, 1], steps=2, tolerance=1)
 NO_STEPS = exact.make_sheet([1, 1], steps=0, tolerance=1)
+FACTORS = exact.make_sheet([1, 1], steps=2, tolerance=1, factors=[1, 2])
+NO_FACTORS = exact.make_sheet([1, 1], steps=2, tolerance=1, factors=[0, 0])
 FOLDER = None  # stands for a folder in the place of a file
 MIXREPORT = os.path.join(HERE, "..", "report", "mixreport")
 
@@ -30,6 +32,8 @@ FILES = [
     ("no sheet", {"fleet.wbk": BOOK}),
     ("no book", {"sheet.wsh": SHEET}),
     ("no steps", {"fleet.wbk": BOOK, "sheet.wsh": NO_STEPS}),
+    ("factors", {"fleet.wbk": BOOK, "sheet.wsh": FACTORS}),
+    ("factors of total 0", {"fleet.wbk": BOOK, "sheet.wsh": NO_FACTORS}),
     ("book of 40,000 bytes", {"fleet.wbk": BOOK.rjust(40000, b"x"), "sheet.wsh": SHEET}),
     ("book of 40,001 bytes", {"fleet.wbk": BOOK.rjust(40001, b"x"), "sheet.wsh": SHEET}),
     ("book of 90,000 bytes", {"fleet.wbk": BOOK.rjust(40000, b"x") + BOOK.rjust(50000, b"x"), "sheet.wsh": SHEET}),
@@ -129,8 +133,10 @@ def card_folders(names):
     cards = [("its card", card), ("front text", b"front" + card), ("none", None), ("empty", b""), ("a folder", FOLDER),
              ("another share", bytes([0, 0, 2]) + card[3:]), ("40,001 bytes", card.rjust(40001, b"x"))]
     for name in names:
-        for card_name, filed in cards:
-            before = dict(dict(FILES)[name])
+        files = dict(FILES)[name]
+        _, _, length, written = exact.write_card(content(files, "fleet.wbk"), content(files, "sheet.wsh"), bytes(1060))
+        for card_name, filed in cards + [("its search's", written[:length])]:
+            before = dict(files)
             if card_name != "none":
                 before["card.wcd"] = filed
             listing = exact.card_listing(*(content(before, file) for file in ("fleet.wbk", "sheet.wsh", "card.wcd")))
@@ -145,7 +151,7 @@ def check_mixcheck(program, runs):
 
 def check_report(program, runs):
     """The report with the program: a refused card gives its line and no file, a true one the two reports with the listing in them."""
-    for name, before, listing in card_folders(("case a", "no book", "book of 40,001 bytes")):
+    for name, before, listing in card_folders(("case a", "factors", "no book", "book of 40,001 bytes")):
         out, _, left = run(MIXREPORT, before, arguments=("--mixcheck", os.path.abspath(program)))
         reports = [left.pop(report, None) for report in ("report.txt", "report.html")]
         if listing.startswith(b"refused"):
