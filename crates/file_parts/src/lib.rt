@@ -42,14 +42,7 @@ pub fn is_between(least: usize, most: usize, x: usize) -> bool
 
 // The number that refuses a body that is to have `back` bytes and begins with `count` values, before a trailer of `size` bytes, or 0:
 // `place` where the back count is wrong or reaches too far, `range` where a value is out of range.
-pub fn body_refusal(
-    b: &[u8],
-    size: usize,
-    back: usize,
-    count: usize,
-    place: u32,
-    range: u32,
-) -> u32
+pub fn body_refusal(b: &[u8], size: usize, back: usize, count: usize, place: u32, range: u32) -> u32
     requires { ⌜ (4 ≤ size) × (size ≤ length (now b)) × (2 * count ≤ back) ⌝ }
     ensures { λ r. ⌜ r ≡ body-refusal size back count place range (now (b .entry)) ⌝ }
 {
