@@ -693,6 +693,9 @@ def factored_books():
         best = min(plain_measure(rows, [int(i == j) for i in range(boats)], target, factors)[0] for j in range(boats))
         spread = exact.squared_diameter(rows, factors)
         agree(label + ", bounds", distance - best <= min(Fraction(4 * spread, answer.steps + 2), 2 * gap), True)
+        # Some step's gap is small by the factored D^2, and every gap is 0 where that is.
+        gaps = exact.gaps_of(rows, target, steps + 1, factors)
+        agree(label + ", small gap", min(4 * (steps + 3) * gap for gap in gaps) <= 27 * spread and (spread > 0 or not any(gaps)), True)
         # A sheet WSH2 of the factor 1 is the sheet WSH1.
         book, plain, ones = make_book(rows), make_sheet(target, steps, tolerance), make_sheet(target, steps, tolerance, factors=[1] * columns)
         agree(label + ", factors 1", exact.write_card(book, ones, bytes(80)), exact.write_card(book, plain, bytes(80)))
