@@ -5,7 +5,7 @@ from picture import pictures
 from words import Heading, Lines, Paragraph, Table, blocks, title
 
 STYLE = """:root{color-scheme:light}
-body{font:15px/1.45 "DejaVu Sans",Verdana,Arial,sans-serif;color:#222;background:#fff;max-width:60em;margin:1.5em auto;padding:0 1em}
+body{font:15px/1.45 "DejaVu Sans",Verdana,Arial,sans-serif;color:#222;background:#fff;max-width:64em;margin:1.5em auto;padding:0 1em}
 h1{font-size:1.5em;margin:0 0 .6em}h1,p{overflow-wrap:anywhere}h2{font-size:1.15em;margin:1.6em 0 .5em;border-bottom:1px solid #999;break-after:avoid}
 p{margin:.5em 0;max-width:48em}.verdict{border:2px solid #222;padding:.4em .8em;font-weight:bold;font-size:1.1em;display:inline-block}
 .wide{overflow-x:auto;margin:.6em 0}table{border-collapse:collapse;font-size:.92em}

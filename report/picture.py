@@ -168,7 +168,7 @@ def legend_parts(report, axis, limit, y):
         yield label(20, y, "*", "out") + label(46, y, "bold: here the sheet lies outside what the fleet has, and no mixture reaches it")
         y += 22
     if any(c.factor != 1 for c in report.figures.columns):
-        yield label(20, y, "× n") + label(46, y, "behind a name: the column counts n times in the distance; without it, once")
+        yield label(40, y, "× n", "end") + label(46, y, "behind a name: the column counts n times in the distance; without it, once")
 
 
 def picture(report, axis, first, last, part):
