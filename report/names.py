@@ -12,7 +12,8 @@ from dataclasses import dataclass, field
 from fractions import Fraction
 
 # First fields of lines of a sheet's table that are not the new hull's.
-SETTINGS = ("factor", "steps", "tolerance", "tolerance each")
+FACTOR = "factor"
+SETTINGS = (FACTOR, "steps", "tolerance", "tolerance each")
 DISPLACEMENT, LENGTH = "displacement t", "length m"
 
 
@@ -133,6 +134,9 @@ def sheet_table(lines, sheet, columns):
     named = header if columns is None else columns
     if len(line) > 1 and [number(cell) for cell in in_order(header, line, named)] != sheet.target:
         raise NotThis("its values are not the sheet's")
+    for row in lines[1:]:
+        if row[0] == FACTOR and [number(cell) for cell in in_order(header, row, named)] != sheet.factors:
+            raise NotThis("its factors are not the sheet's")
     said = {row[0].lower(): row[1] for row in lines[1:] if len(row) > 1}
     return line[0], quantity(said.get(DISPLACEMENT, "")), quantity(said.get(LENGTH, "")), header
 

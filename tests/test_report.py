@@ -323,9 +323,9 @@ DO_NOT_SERVE = {
 }
 
 
-def names_for(fleet=b"", sheet=b"", fleet_csv=None, sheet_csv=None, target=(1, 1), **sizes):
+def names_for(fleet=b"", sheet=b"", fleet_csv=None, sheet_csv=None, target=(1, 1), factors=None, **sizes):
     """The names of a book of P and a sheet with these front texts and CSVs."""
-    files = hand_files(P, list(target), 1, 9, 1, 3, [3, 1, 2], 8, 56, fronts=(fleet, sheet))
+    files = hand_files(P, list(target), 1, 9, 1, 3, [3, 1, 2], 8, 56, fronts=(fleet, sheet), factors=factors)
     book, sheet = mixreport.read_book("book", files["fleet.wbk"]), mixreport.read_sheet("sheet", files["sheet.wsh"])
     return names.names_of(book, sheet, fleet_csv, sheet_csv, **sizes)
 
@@ -356,6 +356,13 @@ def names_of_sheets():
     agree("matched by name", names_for(FLEET.encode(), SHEET.replace("1,1", "2,1").encode(), target=(1, 2)).hull, "Hull 7")
     agree("unknown column", names_for(FLEET.encode(), SHEET.replace("beam", "draught").encode()).hull, "The sheet")
     agree("columns by the sheet", names_for(b"", SHEET.encode()).columns, ["beam", "length"])
+    weighed = (SHEET + "factor,2,1\n").encode()
+    for factors, hull in (((1, 2), "Hull 7"), ((2, 1), "The sheet"), ((1, 1), "The sheet"), (None, "The sheet")):
+        agree("factors %r" % (factors,), names_for(FLEET.encode(), weighed, factors=factors).hull, hull)
+    agree("factors of 1", names_for(FLEET.encode(), weighed.replace(b"2,1", b"1,1")).hull, "Hull 7")
+    agree("why not, factors", names_for(FLEET.encode(), weighed).notes[1:],
+          ["The front text of sheet.wsh is not used for names: its factors are not the sheet's."])
+    agree("factors in no order", names_for(FLEET.encode(), (SHEET + "factor,2\n").encode(), factors=(1, 2)).hull, "The sheet")
     sizes = names_for(FLEET.encode(), (SHEET + "displacement t,29.4\nlength m,\"17,6\"\n").encode())
     agree("sizes", (sizes.displacement, sizes.length, sizes.sizes), (Fraction(147, 5), Fraction(88, 5), "by the front text of sheet.wsh"))
     given = names_for(FLEET.encode(), (SHEET + "displacement t,29.4\nlength m,9\n").encode(), length=Fraction(7))
