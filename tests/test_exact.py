@@ -706,6 +706,66 @@ def factored_books():
     agree("factors change the shares often", changed > 100, True)
 
 
+def none(factors):
+    return [1] * len(factors)
+
+
+def squared(factors):
+    return [factor * factor for factor in factors]
+
+
+def of_the_next_column(factors):
+    return factors[1:] + factors[:1]
+
+
+def as_they_are(factors):
+    return factors
+
+
+# Wrong ways to take the factors in E, in the scores and in G, each of which changes many of the drawn searches.
+WRONG_FACTORS = [(none, none, none), (squared, squared, squared), (as_they_are, none, as_they_are), (as_they_are, none, none),
+                 (none, as_they_are, as_they_are), (as_they_are, as_they_are, none), (none, none, as_they_are), (of_the_next_column,) * 3]
+
+
+def wrongly_shared(rows, target, steps, factors, ways):
+    """Shares, E and G after so many steps, in whole numbers, with the factors taken in these ways in E, in the scores and in G."""
+    in_e, in_scores, in_g = (way(factors) for way in ways)
+
+    def inner(factors, left, right):
+        return sum(f * a * b for f, a, b in zip(factors, left, right))
+
+    shares, slope = [0] * len(rows), [a - u for a, u in zip(rows[0], target)]
+    for k in range(1, steps + 1):
+        scores = [inner(in_scores, slope, row) for row in rows]
+        shares[first_that_holds([i for i, score in enumerate(scores) if score == min(scores)], shares, None)] += k
+        w = k * (k + 1) // 2
+        y = [sum(s * row[j] for s, row in zip(shares, rows)) for j in range(len(target))]
+        slope = [a - w * u for a, u in zip(y, target)]
+    return shares, inner(in_e, slope, slope), max(inner(in_g, slope, [a - w * v for a, v in zip(y, row)]) for row in rows)
+
+
+def drawn_sheets_with_factors():
+    """Sheets with factors drawn as factor_test draws them tell the factors from wrong ones; and what draw_factors gives meets the limits."""
+    draws = generator.Draws(25)
+    totals, differ = [], [0] * len(WRONG_FACTORS)
+    for number in range(400):
+        plan = generator.draw_plan(draws)
+        start, book = generator.draw_book(draws, plan)
+        plain = generator.draw_sheet(draws, plan, book, start, 0)
+        sheet = generator.factored_sheet(plain, generator.draw_factors(draws, plan.columns))
+        refusal, answer, shares = exact.search(book, sheet, [0] * plan.boats)
+        rows, (target, _, _, factors) = exact.read_book(book), exact.read_sheet(sheet)
+        totals.append(sum(factors))
+        agree("drawn factors %d" % number, refusal, 0 if 1 <= sum(factors) <= 64 else 46)
+        if not refusal:
+            right = shares, answer.distance, answer.gap
+            agree("drawn factors %d, in whole numbers" % number, right, wrongly_shared(rows, target, answer.steps, factors, (as_they_are,) * 3))
+            for i, ways in enumerate(WRONG_FACTORS):
+                differ[i] += right != wrongly_shared(rows, target, answer.steps, factors, ways)
+    agree("totals at the limits", [totals.count(n) >= 5 for n in (0, 1, 63, 64, 65)], [True] * 5)
+    agree("wrong factors change enough", [n >= 40 for n in differ], [True] * len(differ))
+
+
 def ties_and_start():
     """Equal scores take the lowest boat that holds shares; step 1 starts from boat 0's row."""
     # At (0, 0) with target (1, 1), boats 1 and 2 have equal scores.
@@ -1013,7 +1073,8 @@ def better_of_two():
 
 def main():
     for part in (marked_sheets, readers, book_and_sheet_refusals, lent_lists, card_refusals,
-                 two_tests, editions, filed_before, two_faults, ties_and_start, drawn_ties, random_books, factored_sheets, factored_cards, factored_books, full_size, damaged_files,
+                 two_tests, editions, filed_before, two_faults, ties_and_start, drawn_ties, random_books, factored_sheets, factored_cards, factored_books,
+                 drawn_sheets_with_factors, full_size, damaged_files,
                  from_a_shell, whole_numbers, scale_cells, subtractions, gap_bounds, better_of_two):
         part()
     if differences:
