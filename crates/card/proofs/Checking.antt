@@ -27,6 +27,7 @@ use Rattle.iteration.proofs.States.{book-fits}
 use Rattle.card_format.specs.Format.{card-fields, lettered, card-test, card-body, pair-count, shares-into, card-shares, card-answer}
 use Rattle.card_format.specs.Checks.{back-fits, pairs-in-order, truth-refusal, card-refusal, check-refusal}
 use Rattle.card_format.specs.Truth.{Card-true, Card-vouches, Accepted-exactly, Filed-before-true, Accepted-vouches}
+use Rattle.card_format.proofs.Editions.{same-check, same-card-answer}
 use Rattle.card_format.proofs.Vouches.{accepted-exactly, accepted-vouches}
 use Rattle.card_format.proofs.Written.{filed-before-true}
 use Rattle.card_input.specs.Forms.{form-refusal, counts-agree, steps-fit}
@@ -162,6 +163,7 @@ module _ (b s w slots : List ℕ) (all : all-bytes w ≡ true) {n : ℕ} {r : Se
         exactly = exactly;
         filed-before = λ z c. exactly z .1 (filed-before-true b s w (search-accepted b s (length now) z .0) c);
         answered = λ a q. let h = outcome-answered n (card-answer b s w) a (sym f ∙ q) in rw (← h .1) (vouches (h .0));
+        editions = λ s′ d. (same-check b s s′ d w (length now), same-card-answer b s s′ d w);
       }
 
 -- ---- Outcomes

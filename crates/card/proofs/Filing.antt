@@ -16,11 +16,12 @@ use Rattle.method.specs.declared.Answer.{Answer}
 use Rattle.method.specs.Problem.{problem}
 use Rattle.method.specs.Iterates.{support}
 use Rattle.method.specs.Answers.{slots-after, run-answer, run-iterate}
-use Rattle.method.proofs.Promise.{run-right, length-after, slots-kept}
+use Rattle.method.proofs.Promise.{same-problem, run-right, length-after, slots-kept}
 use Rattle.method.proofs.Accepted.{share-count}
 use Rattle.card_format.specs.Format.{pairs, trailer-bytes, answer-fields, card-bytes, run-card}
 use Rattle.card_format.specs.Checks.{write-refusal}
 use Rattle.card_format.specs.Truth.{Written-accepted, Written-short}
+use Rattle.card_format.proofs.Editions.{same-run-card, same-writing}
 use Rattle.card_format.proofs.Written.{run-pairs-length, run-card-length, written-accepted, written-short}
 use Rattle.card_output.specs.Output.{placed}
 use Rattle.card_output.proofs.Placing.{placed-next}
@@ -87,6 +88,7 @@ module _ (b s out : List ℕ) {n : ℕ} {r : Written} {now : List ℕ} (e : n �
         number = ap writing-number f ∙ filing-number n (run-answer (problem b s)) (length (run-card b s)) ∙ e ∙ ap (write-refusal b s) (sym same-length);
         refused = λ m q. filing-refused n m (run-answer (problem b s)) (length (run-card b s)) (sym f ∙ q);
         filed = λ a m q. let h = filing-filed n (run-answer (problem b s)) a (length (run-card b s)) m (sym f ∙ q) in rw (← h .1, written-is (h .0)) (filed-right b s (accepted (h .0) .0));
+        editions = λ s′ d. (same-writing b s s′ d (length now), (same-problem b s s′ d, same-run-card b s s′ d));
       }
 
 -- ---- Outcomes

@@ -5,10 +5,12 @@ use mathlib.Core.List.{List}
 use Prim.Native.Nat.{ℕ, _≤_}
 use lib.ListN.{length, take}
 use Rattle.files.specs.Book.{boats}
+use Rattle.files.specs.Editions.{Editions}
 use Rattle.method.specs.declared.Answer.{Answer}
 use Rattle.method.specs.declared.Searched.{Searched}
 use Rattle.method.specs.declared.Searched.the-variants.{Refused, Answered}
 use Rattle.method.specs.Answers.{refusal-number, search-refusal}
+use Rattle.card_format.specs.Format.{card-answer}
 use Rattle.card_format.specs.Checks.{check-refusal}
 use Rattle.card_format.specs.Truth.{Card-true, Filed-before, Card-vouches}
 
@@ -24,3 +26,6 @@ pub record Check-right (b s w : List ℕ) (r : Searched) (slots : List ℕ) : Ty
   pub filed-before : search-refusal b s (length slots) ≡ 0 → Filed-before b s w → refusal-number r ≡ 0
   -- an accepted card vouches for its answer, its shares in the first slots, one a boat
   pub answered : (a : Answer) → r ≡ Answered a → Card-vouches b s w a (take (boats b) slots)
+  -- for a sheet of the other edition that asks for the same, every factor 1, the card is refused by the same number and has the same answer
+  pub editions : (s′ : List ℕ) → Editions s s′ →
+      (check-refusal b s′ w (length slots) ≡ check-refusal b s w (length slots)) × (card-answer b s′ w ≡ card-answer b s w)

@@ -4,6 +4,7 @@ use mathlib.Core.List.{List, _++_}
 use Prim.Native.Nat.{ℕ, zero, suc, _+_, _≤_}
 use lib.ListN.{length, take}
 use Rattle.files.specs.Book.{boats}
+use Rattle.files.specs.Editions.{Editions}
 use Rattle.method.specs.declared.Answer.{Answer}
 use Rattle.method.specs.Problem.{problem}
 use Rattle.method.specs.Answers.{run-iterate}
@@ -56,3 +57,6 @@ pub record Filing-right (b s : List ℕ) (r : Written) (output : List ℕ) : Typ
   pub refused : (n : ℕ) → r ≡ Refused n → 1 ≤ n
   -- a card that was filed is in the first bytes, as many as are given back
   pub filed : (a : Answer) (size : ℕ) → r ≡ Filed a size → Filed-right b s a (take (written-size r) output)
+  -- a sheet of the other edition that asks for the same, every factor 1, is refused by the same number and has the same run and card
+  pub editions : (s′ : List ℕ) → Editions s s′ →
+      (write-refusal b s′ (length output) ≡ write-refusal b s (length output)) × ((problem b s′ ≡ problem b s) × (run-card b s′ ≡ run-card b s))

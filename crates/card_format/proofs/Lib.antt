@@ -5,3 +5,4 @@ pub mod Truth
 pub mod Shares
 pub mod Written
 pub mod Vouches
+pub mod Editions
