@@ -102,7 +102,7 @@ module _ (fs b : List ℕ) (ok : book-refusal b ≡ 0) (l : length fs ≡ column
 
 pub book-derived : Book-derived
 unfolding Book-derived derived-book Book-reads-back
-book-derived fs b ok f = book-reads-back (derived-rows fs b) (sum fs) (rows-fit fs b ok (f .each-column) (f .some-columns) (f .most-columns))
+book-derived fs b ok f = book-reads-back (derived-rows fs b) (sum fs) (rows-fit fs b ok (f .each-column) (omega arith) (omega arith))
 
 -- ---- a derived sheet
 module _ (fs s : List ℕ) (known : Sheet-fits (length fs) s) where
@@ -150,7 +150,7 @@ module _ (fs s : List ℕ) (known : Sheet-fits (length fs) s) where
 
 pub sheet-derived : Sheet-derived
 unfolding Sheet-derived derived-sheet Sheet-reads-back
-sheet-derived c fs s known f = sheet-reads-back (derived fs s) (sheet-fit fs s (rw (f .each-column) known) (f .some-columns) (f .most-columns))
+sheet-derived c fs s known f = sheet-reads-back (derived fs s) (sheet-fit fs s (rw (f .each-column) known) (omega arith) (omega arith))
 
 -- ---- both
 pub book-passed : (b s : List ℕ) → files-refusal b s ≡ 0 → book-refusal b ≡ 0
@@ -171,7 +171,7 @@ files-derived fs b s ok f =
 
 -- ---- by the sheet's own factors
 own-fit : (c : ℕ) (s : List ℕ) → Sheet-fits c s → Factors-fit c (sheet s .factors)
-own-fit c s g = record { each-column = g .factor-count; some-columns = g .some-factor; most-columns = g .few-factors }
+own-fit c s g = record { each-column = g .factor-count; some-columns = omega arith; most-columns = omega arith }
 
 pub files-twin : Files-twin
 unfolding Files-twin Files-derived Book-derived Sheet-derived derived-rows derived plain-problem plain-of problem
