@@ -11,6 +11,8 @@ use lib.ListN.{length, take, drop, length-append}
 use lib.Seq.{take-all}
 use Rattle.files.specs.Bytes.{all-bytes}
 use Rattle.files.specs.Sheet.{files-refusal}
+use Rattle.files.specs.Editions.{Editions}
+use Rattle.method.proofs.Promise.{same-files}
 use Rattle.method.specs.declared.Answer.{Answer}
 use Rattle.method.specs.declared.Searched.{Searched}
 use Rattle.method.specs.declared.Searched.the-variants.{Refused, Answered}
@@ -21,6 +23,7 @@ use Rattle.listing.proofs.Outcomes.{same-refusal}
 use Rattle.card_format.specs.Format.{card-fields, card-answer}
 use Rattle.card_format.specs.Checks.{card-refusal, check-refusal}
 use Rattle.card_format.specs.Truth.{Card-true, Accepted-exactly}
+use Rattle.card_format.proofs.Editions.{same-card-refusal, same-card-answer}
 use Rattle.card_format.proofs.Vouches.{accepted-exactly}
 use Rattle.card_choice.specs.declared.Choice.{Choice}
 use Rattle.card_choice.specs.Choices.{better-refusal, nearer, better-number, numbered, better, front-length, bare, better-part, part-of, bare-choice, no-choice, choice}
@@ -192,6 +195,14 @@ module _ (b s x y : List ℕ) (ax : all-bytes x ≡ true) (ay : all-bytes y ≡ 
         λ t. refusal-after b s x y ok (p .1 (t .0) .0) ∙ q .1 (t .1) .0,
       )
 
+  same-number : (s′ : List ℕ) → Editions s s′ → better-refusal b s′ x y ≡ better-refusal b s x y
+  unfolding better-refusal
+  same-number s′ d = rw (same-files b s s′ d, same-card-refusal b s s′ d x, same-card-refusal b s s′ d y)
+
+  same-part : (s′ : List ℕ) → Editions s s′ → better-part b s′ x y ≡ better-part b s x y
+  unfolding better-part better better-number
+  same-part s′ d = rw (same-number s′ d, same-card-answer b s s′ d x, same-card-answer b s s′ d y)
+
   pub better-right : {n : ℕ} {part : List ℕ} → n ≡ better-refusal b s x y → part ≡ better-part b s x y → Better-right b s x y n part
   better-right {n} {part} e f =
       record {
@@ -199,6 +210,7 @@ module _ (b s x y : List ℕ) (ax : all-bytes x ≡ true) (ay : all-bytes y ≡ 
         exactly = λ ok. rw e (exactly ok);
         refused = λ h. f ∙ no-part n e h;
         chosen = λ z. let r = sym e ∙ z in let a = accepted b s x y r in rw (f, part-when r) (chosen b s x y (a .0) ax ay (a .1 .0) (a .1 .1));
+        editions = λ s′ d. (same-number s′ d, same-part s′ d);
       }
 
   -- ---- The same of a choice

@@ -9,13 +9,14 @@ use lib.IntN.{pos}
 use lib.ListN.{length}
 use Rattle.files.specs.Book.{boats}
 use Rattle.files.specs.Sheet.{files-refusal}
+use Rattle.files.specs.Editions.{Editions}
 use Rattle.method.specs.declared.Answer.{Answer}
 use Rattle.method.specs.Fractions.{Fraction, Is-ratio, _≤ℚ_, _<ℚ_}
 use Rattle.card_format.specs.Format.{card-fields, card-shares, card-answer}
 use Rattle.card_format.specs.Checks.{check-refusal}
 use Rattle.card_format.specs.Truth.{Card-true}
 use Rattle.card.specs.Filing.{Reads-back}
-use Rattle.card_choice.specs.Choices.{better-number, better}
+use Rattle.card_choice.specs.Choices.{better-refusal, better-number, better, better-part}
 
 -- a fraction is the squared distance E / W² of an answer; W is above 0
 abbrev pub Is-distance : Fraction → Answer → Type 0
@@ -53,3 +54,5 @@ pub record Better-right (b s x y : List ℕ) (n : ℕ) (part : List ℕ) : Type 
   -- a refusal hands back no bytes
   pub refused : 1 ≤ n → part ≡ []
   pub chosen : n ≡ 0 → Part-right b s x y part
+  -- for a sheet of the other edition that asks for the same, every factor 1, the number and the part are the same
+  pub editions : (s′ : List ℕ) → Editions s s′ → (better-refusal b s′ x y ≡ better-refusal b s x y) × (better-part b s′ x y ≡ better-part b s x y)

@@ -13,11 +13,11 @@ use Rattle.files.specs.Book.{boats, columns, rows}
 use Rattle.files.specs.Sheet.{files-refusal}
 use Rattle.frank_wolfe.specs.Vectors.{add, subtract, scale, squared-norm, weighted-norm, ones}
 use Rattle.frank_wolfe.proofs.Vectors.{length-subtract, scale-one, norm-ones}
-use Rattle.method.specs.Problem.{problem}
+use Rattle.method.specs.Plain.{plain-problem}
 use Rattle.method.specs.Iterates.{row, farthest, row-diameter, diameter}
 use Rattle.method.proofs.Argmin.{among-row}
 use Rattle.method.proofs.Entries.{bounded-subtract}
-use Rattle.method.proofs.Accepted.{in-range}
+use Rattle.method.proofs.Plain.{in-range}
 use Rattle.sums.specs.Operands.{Bounded, Span, Movable}
 use Rattle.iteration.specs.declared.Layout.{Layout}
 use Rattle.iteration.specs.States.{file-layout}
@@ -65,7 +65,7 @@ module _ (b s : List ℕ) (ok : files-refusal b s ≡ 0) where
       front = ap (take (columns b)) moved-is ∙ take-at (between i j) (replicate (64 - columns b) (pos 0)) (columns b) length-between
 
       entries : (n : ℕ) → natAbs (getD (between i j) n (pos 0)) ≤ 4000
-      unfolding problem
+      unfolding plain-problem
       entries =
           let a : (i : ℕ) → i < boats b → _ = λ i h. in-range b s ok .rows-bounded (row (rows b) i) (among-row (rows b) i (omega (arith, book-fits b s ok .row-count))) in
           bounded-subtract (a i h) (a j k) .each
@@ -113,8 +113,8 @@ module _ (b s : List ℕ) (ok : files-refusal b s ≡ 0) where
   diameter-more zero h k ex em e = absurd (omega arith)
   diameter-more (suc i) h k ex em e = e ∙ rw (ex, em, less-one i, add-one, row-first i (omega arith))
 
-  pub diameter-end : (i : ℕ) {most : ℕ} → i ≡ 0 → most ≡ row-diameter (ones (columns b)) (drop i (rows b)) → most ≡ diameter (problem b s)
-  unfolding problem
+  pub diameter-end : (i : ℕ) {most : ℕ} → i ≡ 0 → most ≡ row-diameter (ones (columns b)) (drop i (rows b)) → most ≡ diameter (plain-problem b s)
+  unfolding plain-problem
   diameter-end i e f = rw e at f
 
 pub boats-are : (b s : List ℕ) {l : Layout} → l ≡ file-layout b s → l .boats ≡ boats b

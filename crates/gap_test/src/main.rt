@@ -6,7 +6,7 @@ ghost use lib.ListN.{drop};
 ghost use Rattle.files.specs.Book.{boats, columns, rows};
 ghost use Rattle.files.specs.Sheet.{files-refusal};
 ghost use Rattle.frank_wolfe.specs.Vectors.{subtract, weighted-norm, ones};
-ghost use Rattle.method.specs.Problem.{problem};
+ghost use Rattle.method.specs.Plain.{plain-problem};
 ghost use Rattle.method.specs.Iterates.{row, farthest, diameter};
 ghost use Rattle.iteration.specs.States.{file-layout, Holds};
 ghost use Rattle.runs.specs.Runs.{Shares-at, Scores-at};
@@ -72,7 +72,7 @@ fn farthest(i: usize, book: &[u8], sheet: &[u8], layout: Layout) -> u64
 fn diameter(book: &[u8], sheet: &[u8], layout: Layout) -> u64
     requires { ⌜ files-refusal (now book) (now sheet) ≡ 0 ⌝ }
     requires { ⌜ layout ≡ file-layout (now book) (now sheet) ⌝ }
-    ensures { λ r. ⌜ r ≡ diameter (problem (now (book .entry)) (now (sheet .entry))) ⌝ }
+    ensures { λ r. ⌜ r ≡ diameter (plain-problem (now (book .entry)) (now (sheet .entry))) ⌝ }
 {
     let mut most = 0;
     let mut i = layout.boats;
