@@ -59,7 +59,7 @@ fn behind_front(card: &[u8], number: u32) -> Choice
 }
 
 // ENTRY. The better of two cards for one book and sheet, by number, offset and length: the one with the lesser exact squared distance,
-// of equal ones the first. Refuses the files (1 to 17), then the first card, then the second (31 to 39). The second clause says what
+// of equal ones the first. Refuses the files (1 to 17, 46), then the first card, then the second (31 to 39). The second clause says what
 // holds of the part that is named (Better-right), the third that it lies inside its card.
 pub fn choose(book: &[u8], sheet: &[u8], first: &[u8], second: &[u8]) -> Choice
     ensures { λ r. ⌜ r ≡ choice (now (book .entry)) (now (sheet .entry)) (now (first .entry)) (now (second .entry)) ⌝ }

@@ -1,5 +1,5 @@
 -- An accepted card without its front text is a card that the check accepts, with the same answer and shares.
-use mathlib.Core.Path.{_≡_, refl, sym, ap, _∙_}
+use mathlib.Core.Path.{_≡_, sym, ap, _∙_}
 use mathlib.Core.Bool.{true}
 use mathlib.Core.List.{List, [], _++_}
 use Prim.Native.Nat.{ℕ, _+_, _≤_}
@@ -9,7 +9,7 @@ use lib.Seq.{drop-at}
 use Rattle.files.specs.Bytes.{all-bytes}
 use Rattle.files.specs.Book.{boats}
 use Rattle.files.specs.Sheet.{files-refusal}
-use Rattle.method.specs.Problem.{fixed, problem}
+use Rattle.method.specs.Problem.{problem}
 use Rattle.method.proofs.Weights.{fixed-fits, weight-positive}
 use Rattle.card_format.specs.Format.{pairs, trailer-bytes, card-fields, card-shares, card-answer}
 use Rattle.card_format.specs.Checks.{card-refusal}

@@ -2,12 +2,12 @@
 use mathlib.Core.Path.{_≡_, refl, sym, ap, _∙_}
 use mathlib.Core.Bool.{Bool, true, false, cond}
 use mathlib.Core.Logic.{_↔_}
-use mathlib.Core.List.{List, [], _++_}
+use mathlib.Core.List.{List, []}
 use Prim.Native.Nat.{ℕ, zero, suc, _+_, _*_, _≤_, _<_}
 use native.Mathlib.Omega.{arith}
 use borrow.Author.Tests.{ltb-true, ltb-false}
 use lib.Dec.{eqb, eqb·suc-zero}
-use lib.ListN.{length, take, drop, length-append}
+use lib.ListN.{length, length-append}
 use lib.Seq.{take-all}
 use Rattle.files.specs.Bytes.{all-bytes}
 use Rattle.files.specs.Sheet.{files-refusal}
@@ -26,7 +26,7 @@ use Rattle.card_format.specs.Truth.{Card-true, Accepted-exactly}
 use Rattle.card_format.proofs.Editions.{same-card-refusal, same-card-answer}
 use Rattle.card_format.proofs.Vouches.{accepted-exactly}
 use Rattle.card_choice.specs.declared.Choice.{Choice}
-use Rattle.card_choice.specs.Choices.{better-refusal, nearer, better-number, numbered, better, front-length, bare, better-part, part-of, bare-choice, no-choice, choice}
+use Rattle.card_choice.specs.Choices.{better-refusal, nearer, better-number, numbered, better, bare, better-part, part-of, bare-choice, no-choice, choice}
 use Rattle.card_choice.specs.Promise.{Is-distance, Part-right, Better-right}
 use Rattle.card_choice.proofs.Distances.{squared-distance, at-most, less}
 use Rattle.card_choice.proofs.Bare.{front-of, ends, inside, size, reads-back, own-distance}

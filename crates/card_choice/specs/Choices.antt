@@ -11,7 +11,7 @@ use Rattle.card_format.specs.Format.{card-fields, card-answer}
 use Rattle.card_format.specs.Checks.{card-refusal}
 use Rattle.card_choice.specs.declared.Choice.{Choice}
 
--- 1 to 17 of book and sheet, then 31 to 39 of the first card, then those of the second; 0 if none applies
+-- 1 to 17 and 46 of book and sheet, then 31 to 39 of the first card, then those of the second; 0 if none applies
 unfoldable pub better-refusal : (book sheet first second : List ℕ) → ℕ
 better-refusal b s x y =
     cond (eqb (files-refusal b s) 0) (cond (eqb (card-refusal b s x) 0) (card-refusal b s y) (card-refusal b s x)) (files-refusal b s)

@@ -1,5 +1,5 @@
 -- Sheets that differ in their edition alone have the same cards, and the same cards are refused for them.
-use mathlib.Core.Path.{_≡_, _∙_}
+use mathlib.Core.Path.{_≡_}
 use mathlib.Core.List.{List}
 use Prim.Native.Nat.{ℕ}
 use Rattle.files.specs.Sheet.{sheet}

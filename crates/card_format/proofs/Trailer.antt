@@ -1,12 +1,12 @@
 -- A card's trailer, written and read back; and the parts of a file that is a front, pairs and a trailer.
 use mathlib.Core.Path.{_≡_, refl, sym, ap, _∙_}
 use mathlib.Core.Bool.{true}
-use mathlib.Core.List.{List, [], _∷_, _++_, append-assoc}
+use mathlib.Core.List.{List, _++_, append-assoc}
 use Prim.Native.Nat.{ℕ, _+_, _-_, _≤_, _<_}
 use native.Mathlib.Omega.{arith}
 use lib.ListN.{length, take, drop, length-append, take-append-drop}
 use lib.Seq.{drop-drop, drop-at, take-at}
-use Rattle.files.specs.Bytes.{number-bytes, all-bytes, little-endian, number, same, trailer, body}
+use Rattle.files.specs.Bytes.{number-bytes, all-bytes, little-endian, number, trailer, body}
 use Rattle.method.specs.declared.Test.{Test}
 use Rattle.method.specs.declared.Test.the-variants.{Former, Sharper}
 use Rattle.card_format.specs.Format.{Fields, letters, trailer-bytes, fields}

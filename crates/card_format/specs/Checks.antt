@@ -56,10 +56,10 @@ card-refusal b s w =
     (cond (not (pairs-in-order (pair-count w) 0 (boats b) (card-body w))) 36
     (truth-refusal (problem b s) (card-shares (boats b) w) w))))))
 
--- of the writer: 1 to 17 of the files, then 22, a buffer shorter than the card
+-- of the writer: 1 to 17 and 46 of the files, then 22, a buffer shorter than the card
 unfoldable pub write-refusal : (book sheet : List ℕ) → (room : ℕ) → ℕ
 write-refusal b s room = cond (eqb (files-refusal b s) 0) (cond (ltb room (length (run-card b s))) 22 0) (files-refusal b s)
 
--- of the check: 1 to 17 of the files, 21 of the share list, then the card's
+-- of the check: 1 to 17 and 46 of the files, 21 of the share list, then the card's
 unfoldable pub check-refusal : (book sheet card : List ℕ) → (slots : ℕ) → ℕ
 check-refusal b s w slots = cond (eqb (search-refusal b s slots) 0) (card-refusal b s w) (search-refusal b s slots)

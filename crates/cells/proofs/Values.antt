@@ -3,12 +3,12 @@ use mathlib.Core.Path.{_≡_, refl, sym, ap, _∙_}
 use mathlib.Core.Bool.{Bool, true, false, _&&_, _||_, not, cond, true≢false}
 use mathlib.Core.List.{List, [], _∷_, _++_, map}
 use mathlib.Core.Logic.{_⊎_, inl, inr}
-use Prim.Native.Nat.{ℕ, zero, suc, _+_, _-_, _*_, _≤_, _<_}
+use Prim.Native.Nat.{ℕ, zero, suc, _+_, _-_, _≤_, _<_}
 use native.Mathlib.Omega.{arith}
-use borrow.Author.Tests.{eq-eqb, ne-eqb, eqb-true}
+use borrow.Author.Tests.{eq-eqb, ne-eqb}
 use lib.Dec.{eqb, ltb}
 use lib.IntN.{ℤ, pos}
-use lib.ListN.{length, getD, drop, replicate, length-append, length-replicate, length-map, List·getD-map, List·getD-append}
+use lib.ListN.{length, getD, replicate, length-append, length-replicate, length-map, List·getD-map, List·getD-append}
 use lib.Seq.{length-take-le, getD-take, getD-append-add, take-at}
 use Rattle.frank_wolfe.specs.Vectors.{sum}
 use Rattle.files.specs.Bytes.{between, number, values, all-in-range, length-in-range, trailer, body, reaches, body-refusal}

@@ -1,11 +1,9 @@
 -- A sheet whose factors are all 1 makes a plain problem; any other is of the edition WSH2, and its derived files have the same run and answers.
-use mathlib.Core.Path.{_≡_, refl, sym, ap, _∙_}
+use mathlib.Core.Path.{_≡_, sym, ap, _∙_}
 use mathlib.Core.Bool.{Bool, true, false}
 use mathlib.Core.List.{List, _++_}
 use Prim.Native.Nat.{ℕ, _≤_}
-use native.Mathlib.Omega.{arith}
 use lib.ListN.{length, take, drop, replicate}
-use lib.Seq.{length-take-le}
 use Rattle.frank_wolfe.specs.Vectors.{ones, sum}
 use Rattle.files.specs.Book.{boats, columns, book-refusal}
 use Rattle.files.specs.Sheet.{sheet, Sheet-whole, WSH2, sheet-lettered, files-refusal}

@@ -12,7 +12,7 @@ use lib.Seq.{drop-cons, drop-drop}
 use Rattle.frank_wolfe.specs.Vectors.{ones, sum}
 use Rattle.frank_wolfe.proofs.Vectors.{sum-ones}
 use Rattle.files.specs.Bytes.{same, body}
-use Rattle.files.specs.Sheet.{sheet, sheet-columns, WSH2, sheet-lettered, factor-bytes, sheet-back, Sheet-whole}
+use Rattle.files.specs.Sheet.{sheet, sheet-columns, WSH2, sheet-lettered, factor-bytes, Sheet-whole}
 use Rattle.files.proofs.Accepted.{factors-long}
 use Rattle.files.proofs.Fields.{sheet-letters-at}
 use Rattle.files.proofs.Refusal.{and-true}

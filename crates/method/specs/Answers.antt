@@ -88,7 +88,7 @@ run-answer p = answer-at Sharper p (steps-used p) (run-iterate p)
 
 -- ---- The search
 
--- 1 to 17 of the files, then 21: a share list shorter than the number of boats
+-- 1 to 17 and 46 of the files, then 21: a share list shorter than the number of boats
 unfoldable pub search-refusal : (book sheet : List ℕ) → (slots : ℕ) → ℕ
 search-refusal b s slots = cond (eqb (files-refusal b s) 0) (cond (ltb slots (boats b)) 21 0) (files-refusal b s)
 

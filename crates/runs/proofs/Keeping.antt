@@ -5,7 +5,7 @@ use Prim.Native.Nat.{ℕ, suc, _+_, _*_, _-_, _≤_, _<_}
 use native.Mathlib.Nat.{le-of-lt}
 use native.Mathlib.Omega.{arith}
 use native.Mathlib.Numerals.{add-one}
-use lib.IntN.{ℤ, pos, natAbs}
+use lib.IntN.{ℤ, pos}
 use lib.ListN.{length, getD, set, take, drop, replicate, length-append, length-replicate, take-append-drop}
 use lib.Seq.{getD-take, take-at, drop-at, set-append-left, length-front, length-take-le}
 use Rattle.integers.proofs.Filling.{replicate-parts}

@@ -2,14 +2,10 @@
 //
 // Entry, which asks nothing of its caller: search.
 ghost use mathlib.Core.Path.{_≡_};
-ghost use mathlib.Core.List.{_++_};
-ghost use Prim.Native.Nat.{_≤_};
-ghost use lib.ListN.{length, drop, replicate};
+ghost use lib.ListN.{length};
 ghost use Rattle.method.specs.Problem.{problem};
 ghost use Rattle.method.specs.Answers.{outcome, search-refusal, slots-after, run-answer, run-iterate};
 ghost use Rattle.method.specs.Promise.{Outcome-right};
-ghost use Rattle.files.specs.Book.{boats};
-ghost use Rattle.files.specs.Sheet.{files-refusal};
 use method::Searched;
 
 // ENTRY. The search: refuses files and a share list that do not serve (1 to 17, 46, then 21) and leaves the list as it was;

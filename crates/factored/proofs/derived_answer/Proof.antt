@@ -1,7 +1,6 @@
 -- `factored::derived_answer` meets its contract: the laws of `Factored` say what the derived files have of the others.
 use borrow.Author.Needs.{needs}
 use mathlib.Core.Path.{sym}
-use native.Mathlib.Omega.{arith}
 use lib.Seq.{length-take-le}
 use Rattle.factored.proofs.Factored.{whole, book-derivable, sheet-derivable, book-inside, sheet-inside, derived-passed, derived-answer, derived-total}
 use Rattle.factored.proofs.derived_answer.Statement.{statement}

@@ -1,5 +1,4 @@
 -- `validation::sheet_refusal_in` meets its contract: a law of `Refusal` for each return. The passed tests bound what the calls require.
-use native.Mathlib.Omega.{arith}
 use borrow.Author.Needs.{needs}
 use Rattle.files.proofs.Accepted.{body-whole}
 use Rattle.files.proofs.Refusal.{at-least, sheet-length-out, sheet-letters-differ, columns-differ, steps-out, tolerance-out, body-refused, factors-out, factors-in}
