@@ -114,9 +114,12 @@ fn random_rows(rng: &mut Random, boats: usize, columns: usize) -> Vec<Vec<i16>> 
     (0..boats).map(|_| (0..columns).map(|_| rng.value()).collect()).collect()
 }
 
-/// The least squared distance on the way through so many steps, rounded down.
-fn nearest(rows: &[Vec<i16>], target: &[i16], steps: u16) -> u32 {
-    let along = |row: &[i16], r: &[i64]| row.iter().zip(r).map(|(v, x)| i64::from(*v) * x).sum::<i64>();
+/// The least squared distance by these factors on the way through so many steps, rounded down.
+fn nearest(rows: &[Vec<i16>], target: &[i16], factors: &[u8], steps: u16) -> u32 {
+    let along = |row: &[i16], r: &[i64]| {
+        let products = row.iter().zip(r).map(|(v, x)| i64::from(*v) * x);
+        products.zip(factors).map(|(p, f)| i64::from(*f) * p).sum::<i64>()
+    };
     let mut r: Vec<i64> = rows[0].iter().zip(target).map(|(v, u)| i64::from(*v) - i64::from(*u)).collect();
     let mut nearest = i64::MAX;
     for t in 1..=i64::from(steps) {
@@ -128,19 +131,24 @@ fn nearest(rows: &[Vec<i16>], target: &[i16], steps: u16) -> u32 {
             *x += t * (i64::from(*v) - i64::from(*u));
         }
         let w = t * (t + 1) / 2;
-        nearest = nearest.min(r.iter().map(|x| x * x).sum::<i64>() / (w * w));
+        nearest = nearest.min(r.iter().zip(factors).map(|(x, f)| i64::from(*f) * x * x).sum::<i64>() / (w * w));
     }
     nearest as u32
 }
 
-/// Random rows and a random target, so that few boats are picked. The tolerance is one less than what the run comes to, so that
-/// it goes on to its last step.
-fn few_boats(boats: usize, columns: usize, steps: u16) -> Input {
+/// Random rows and a random target, so that few boats are picked. The tolerance is one less than what the run with these factors
+/// comes to, so that it goes on to its last step.
+fn few_boats_by(factors: &[u8], boats: usize, steps: u16) -> Input {
     let mut rng = Random(2);
-    let rows = random_rows(&mut rng, boats, columns);
-    let target: Vec<i16> = (0..columns).map(|_| rng.value()).collect();
-    let tolerance = nearest(&rows, &target, steps).saturating_sub(1);
+    let rows = random_rows(&mut rng, boats, factors.len());
+    let target: Vec<i16> = (0..factors.len()).map(|_| rng.value()).collect();
+    let tolerance = nearest(&rows, &target, factors, steps).saturating_sub(1);
     input(&rows, &target, steps, tolerance)
+}
+
+/// The same without factors.
+fn few_boats(boats: usize, columns: usize, steps: u16) -> Input {
+    few_boats_by(&vec![1; columns], boats, steps)
 }
 
 /// Random rows; the target is their mean, so that most picks are of boats not picked before.
@@ -388,17 +396,17 @@ fn print_calls(inputs: &[(&str, Input)], repeats: u32) {
 fn print_factors(repeats: u32) {
     println!("| input | factors | steps without, with | without | with | with / without |");
     println!("|---|---|---|---|---|---|");
-    let inputs = [
-        ("full size, few boats picked", few_boats(256, 64, 360)),
-        ("full size, many boats picked", many_boats(256, 64, 360)),
-        ("typical, many boats picked, 40 x 20 x 60", many_boats(40, 20, 60)),
-        ("one step, 256 x 64", one_step(256, 64)),
-        ("one step, 3 x 2", one_step(3, 2)),
+    let inputs: [(&str, usize, fn(&[u8]) -> Input); 5] = [
+        ("full size, few boats picked", 64, |factors| few_boats_by(factors, 256, 360)),
+        ("full size, many boats picked", 64, |_| many_boats(256, 64, 360)),
+        ("typical, many boats picked, 40 x 20 x 60", 20, |_| many_boats(40, 20, 60)),
+        ("one step, 256 x 64", 64, |_| one_step(256, 64)),
+        ("one step, 3 x 2", 2, |_| one_step(3, 2)),
     ];
-    for (name, x) in &inputs {
-        let columns = (x.sheet.len() - 16) / 2;
-        for (kind, factors) in [("1 each", vec![1; columns]), ("2 and 0 in turn", every_other(columns))] {
-            let other = factored(x, &factors);
+    for (name, columns, made) in inputs {
+        let ones = vec![1; columns];
+        for (kind, factors) in [("1 each", ones.clone()), ("2 and 0 in turn", every_other(columns))] {
+            let (x, other) = (&made(&ones), factored(&made(&factors), &factors));
             let mut shares = [0u16; 256];
             let replies = [x, &other].map(|x| library_search(&x.book, &x.sheet, &mut shares));
             assert!(replies.iter().all(|reply| reply.refusal == 0), "a sheet is refused");
