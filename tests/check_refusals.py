@@ -4,8 +4,9 @@
 A row of the index docs/refusals.md has a number and, each with its file, the definition that gives it, the function that returns it,
 the proof of that function and a test case. tests/check_names.py sees that these names stand in their files; here the number must stand
 in the definition and in the function, the case must be refused by it, and the remedy must be README's, word for word. The numbers of
-README, the header and the index are the same.
+README, the header and the index are the same. Of a card's numbers, each is given by one line of all the definitions.
 """
+import glob
 import os
 import re
 import sys
@@ -33,6 +34,14 @@ def part(path, name):
     return re.sub(r"(?://|--).*", "", found[0]) if found else ""
 
 
+def given(number):
+    """The lines of all definitions that give this number where a test fails."""
+    found = []
+    for path in sorted(glob.glob(os.path.join(ROOT, "crates/*/specs/*.antt"))):
+        found += re.findall(r"^[^-\n]*\bcond .*\) (?:0 )?%d\b.*" % number, read(path), re.M)
+    return found
+
+
 def refused(path, case, number):
     """Whether what a test program writes has this case with this number, in its line or in the next."""
     return re.search(r"^%s(?:: |\nrefused |\nvalues )%d\b" % (re.escape(case), number), read(path), re.M)
@@ -58,6 +67,9 @@ def main():
                          ("README.md says to do something else", readme.get(number, [None])[-1] == cells[4])):
             if not ok:
                 faults.append("docs/refusals.md, %d: %s" % (number, what))
+    for number in range(31, 40):
+        if len(given(number)) != 1:
+            faults.append("crates/*/specs: %d lines give %d" % (len(given(number)), number))
     for fault in faults:
         print(fault)
     print("refusals: %d, faults: %d" % (len(index), len(faults)))

@@ -1,6 +1,6 @@
 -- The outcomes of `check_card`: refused by the files, a short share list, the card's form or its numbers, or answered.
 use mathlib.Core.Path.{_≡_, refl, sym, ap, _∙_}
-use mathlib.Core.Bool.{Bool, true, false, _&&_, _||_, not, cond}
+use mathlib.Core.Bool.{true, false, _&&_, cond}
 use mathlib.Core.Logic.{_↔_}
 use mathlib.Core.List.{List, _∷_, _++_}
 use Prim.Native.Nat.{ℕ, zero, suc, _+_, _*_, _-_, _≤_, _<_}
@@ -9,11 +9,10 @@ use borrow.Author.Tests.{ltb-true, lt-ltb, le-ltb}
 use lib.Dec.{eqb, ltb, leb, eqb·suc-zero}
 use lib.ListN.{length, take, drop, set, replicate}
 use lib.Seq.{take-set-lt, length-take-le}
-use Rattle.files.specs.Bytes.{all-bytes, number, between, length-in-range}
+use Rattle.files.specs.Bytes.{all-bytes, number}
 use Rattle.files.specs.Book.{boats, columns}
 use Rattle.files.specs.Sheet.{sheet, files-refusal}
 use Rattle.files.proofs.Refusal.{and-true}
-use Rattle.method.specs.declared.Test.the-variants.{Former, Sharper}
 use Rattle.method.specs.declared.Answer.{Answer}
 use Rattle.method.specs.declared.Searched.{Searched}
 use Rattle.method.specs.declared.Searched.the-variants.{Refused, Answered}
@@ -24,39 +23,18 @@ use Rattle.method.proofs.Promise.{search-accepted, outcome-number, outcome-refu
 use Rattle.iteration.specs.declared.Layout.{Layout}
 use Rattle.iteration.specs.States.{file-layout}
 use Rattle.iteration.proofs.States.{book-fits}
-use Rattle.card_format.specs.Format.{card-fields, lettered, card-test, card-body, pair-count, shares-into, card-shares, card-answer}
-use Rattle.card_format.specs.Checks.{back-fits, pairs-in-order, truth-refusal, card-refusal, check-refusal}
+use Rattle.card_format.specs.Format.{card-fields, card-test, pair-count, shares-into, card-shares, card-answer}
+use Rattle.card_format.specs.Checks.{pairs-in-order, form-refusal, truth-refusal, card-refusal, check-refusal}
 use Rattle.card_format.specs.Truth.{Card-true, Card-vouches, Accepted-exactly, Filed-before-true, Accepted-vouches}
 use Rattle.card_format.proofs.Editions.{same-check, same-card-answer}
+use Rattle.card_format.proofs.Pairs.{into-none, into-more}
+use Rattle.card_format.proofs.Truth.{both-zero}
 use Rattle.card_format.proofs.Vouches.{accepted-exactly, accepted-vouches}
 use Rattle.card_format.proofs.Written.{filed-before-true}
-use Rattle.card_input.specs.Forms.{form-refusal, counts-agree, steps-fit}
-use Rattle.card_pairs.proofs.Pairs.{boat-below, into-more, order-more}
+use Rattle.card_pairs.proofs.Pairs.{boat-below, order-more}
 use Rattle.card_input.proofs.Reading.{order-at, into-at, back-fours}
 use Rattle.card.specs.Checking.{Check-right}
 use Rattle.card_truth.proofs.Judging.{Formed, formed}
-
--- ---- A card's refusal: its form's, else its truth's
-
-chain : (g₁ g₂ g₃ g₄ g₅ g₆ : Bool) (x : ℕ) →
-    cond (not g₁) 31 (cond (not g₂) 32 (cond (not g₃) 33 (cond (not g₄) 34 (cond (not g₅) 35 (cond (not g₆) 36 x)))))
-    ≡ cond (eqb (cond (not g₁) 31 (cond (not g₂) 32 (cond (not g₃) 33 (cond (not g₄) 34 (cond (not g₅) 35 (cond (not g₆) 36 0)))))) 0) x
-    (cond (not g₁) 31 (cond (not g₂) 32 (cond (not g₃) 33 (cond (not g₄) 34 (cond (not g₅) 35 (cond (not g₆) 36 0))))))
-chain false g₂ g₃ g₄ g₅ g₆ x = refl
-chain true false g₃ g₄ g₅ g₆ x = refl
-chain true true false g₄ g₅ g₆ x = refl
-chain true true true false g₅ g₆ x = refl
-chain true true true true false g₆ x = refl
-chain true true true true true false x = refl
-chain true true true true true true x = refl
-
-card-parts : (b s w : List ℕ) → card-refusal b s w ≡
-    cond (eqb (form-refusal (boats b) (columns b) (sheet s .steps) w) 0) (truth-refusal (problem b s) (card-shares (boats b) w) w) (form-refusal (boats b) (columns b) (sheet s .steps) w)
-unfolding card-refusal form-refusal counts-agree steps-fit
-card-parts b s w =
-    chain (length-in-range 36 w) (lettered Former w || lettered Sharper w) (eqb (card-fields w .boats) (boats b) && eqb (card-fields w .columns) (columns b))
-    (between 1 3 (card-fields w .verdict) && between 1 (sheet s .steps) (card-fields w .steps)) (back-fits (boats b) (card-fields w .back) w)
-    (pairs-in-order (pair-count w) 0 (boats b) (card-body w)) (truth-refusal (problem b s) (card-shares (boats b) w) w)
 
 -- ---- The shares of the pairs
 
@@ -64,10 +42,6 @@ take-zeros : (n m : ℕ) → n ≤ m → take {A = ℕ} n (replicate m 0) ≡ re
 take-zeros zero m h = refl
 take-zeros (suc n) zero h = absurd (omega arith)
 take-zeros (suc n) (suc m) h = ap (λ l. 0 ∷ l) (take-zeros n m (omega arith))
-
-into-none : (bs qs : List ℕ) → shares-into 0 bs qs ≡ qs
-unfolding shares-into
-into-none bs qs = refl
 
 -- pairs of boats below n leave later slots alone
 take-into : (k next n : ℕ) (bs qs : List ℕ) → pairs-in-order k next n bs ≡ true → take n (shares-into k bs qs) ≡ shares-into k bs (take n qs)
@@ -115,16 +89,11 @@ layout-boats b s ok e = rw e (book-fits b s ok .most-boats)
 
 -- ---- The promise, of what the definitions give
 
--- the first of two numbers that is not 0 is 0
-both : (m n : ℕ) → cond (eqb m 0) n m ≡ 0 → (m ≡ 0) × (n ≡ 0)
-both zero n e = (refl, e)
-both (suc m) n e = absurd (omega (arith, rw (eqb·suc-zero m) at e))
-
 module _ (b s w slots : List ℕ) (all : all-bytes w ≡ true) {n : ℕ} {r : Searched} {now : List ℕ} (e : n ≡ check-refusal b s w (length slots))
     (f : r ≡ outcome n (card-answer b s w)) (g : now ≡ slots-after n (card-shares (boats b) w) slots) where
   accepted : n ≡ 0 → (search-refusal b s (length slots) ≡ 0) × (card-refusal b s w ≡ 0)
   unfolding check-refusal
-  accepted z = both (search-refusal b s (length slots)) (card-refusal b s w) (sym e ∙ z)
+  accepted z = both-zero (search-refusal b s (length slots)) (card-refusal b s w) (sym e ∙ z)
 
   share-count : n ≡ 0 → (length (card-shares (boats b) w) ≡ boats b) × (boats b ≤ length slots)
   unfolding Accepted-vouches problem
@@ -199,6 +168,11 @@ module _ (b s w slots : List ℕ) where
       unfolding check-refusal search-refusal file-layout
       by-card = let k : ltb (length slots) (boats b) ≡ false = le-ltb (length slots) (boats b) (rw el at room) in rw (ok, k)
 
+      card-parts : card-refusal b s w ≡
+          cond (eqb (form-refusal (boats b) (columns b) (sheet s .steps) w) 0) (truth-refusal (problem b s) (card-shares (boats b) w) w) (form-refusal (boats b) (columns b) (sheet s .steps) w)
+      unfolding card-refusal
+      card-parts = refl
+
       -- the form as the code has it
       module _ {n c k : ℕ} (ec : c ≡ l .columns) (ek : k ≡ sheet s .steps) (en : n ≡ form-refusal (l .boats) c k w) where
         form-is : n ≡ form-refusal (boats b) (columns b) (sheet s .steps) w
@@ -210,14 +184,14 @@ module _ (b s w slots : List ℕ) where
           where
             by : (n : ℕ) → n ≡ form-refusal (boats b) (columns b) (sheet s .steps) w → (n ≡ 0 → ⊥) → Gives (check-refusal b s w (length slots)) (Refused n) slots
             by zero e h = absurd (h refl)
-            by (suc n) e h = rw (by-card, card-parts b s w, ← e, eqb·suc-zero n) (refused (suc n) h)
+            by (suc n) e h = rw (by-card, card-parts, ← e, eqb·suc-zero n) (refused (suc n) h)
 
         module _ (zn : n ≡ 0) where
           pub form-zero : form-refusal (boats b) (columns b) (sheet s .steps) w ≡ 0
           form-zero = sym form-is ∙ zn
 
           by-truth : check-refusal b s w (length slots) ≡ truth-refusal (problem b s) (card-shares (boats b) w) w
-          by-truth = by-card ∙ card-parts b s w ∙ rw form-zero
+          by-truth = by-card ∙ card-parts ∙ rw form-zero
 
           -- a judgement by shares that are the card's
           abbrev Judged : (found : List ℕ) → Searched → Type 0

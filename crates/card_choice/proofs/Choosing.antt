@@ -24,6 +24,7 @@ use Rattle.card_format.specs.Format.{card-fields, card-answer}
 use Rattle.card_format.specs.Checks.{card-refusal, check-refusal}
 use Rattle.card_format.specs.Truth.{Card-true, Accepted-exactly}
 use Rattle.card_format.proofs.Editions.{same-card-refusal, same-card-answer}
+use Rattle.card_format.proofs.Truth.{both-zero}
 use Rattle.card_format.proofs.Vouches.{accepted-exactly}
 use Rattle.card_choice.specs.declared.Choice.{Choice}
 use Rattle.card_choice.specs.Choices.{better-refusal, nearer, better-number, numbered, better, bare, better-part, part-of, bare-choice, no-choice, choice}
@@ -32,11 +33,6 @@ use Rattle.card_choice.proofs.Distances.{squared-distance, at-most, les
 use Rattle.card_choice.proofs.Bare.{front-of, ends, inside, size, reads-back, own-distance}
 
 -- ---- The refusal
-
--- the first of two numbers that is not 0 is 0
-both : (m n : ℕ) → cond (eqb m 0) n m ≡ 0 → (m ≡ 0) × (n ≡ 0)
-both zero n e = (refl, e)
-both (suc m) n e = absurd (omega (arith, rw (eqb·suc-zero m) at e))
 
 -- the files are tested with the first card, or with each
 in-turn : (f m n : ℕ) → cond (eqb f 0) (cond (eqb m 0) n m) f ≡ cond (eqb (cond (eqb f 0) m f) 0) (cond (eqb f 0) n f) (cond (eqb f 0) m f)
@@ -52,8 +48,8 @@ module _ (b s x y : List ℕ) where
   pub accepted : better-refusal b s x y ≡ 0 → (files-refusal b s ≡ 0) × ((card-refusal b s x ≡ 0) × (card-refusal b s y ≡ 0))
   unfolding better-refusal
   accepted e =
-      let p = both (files-refusal b s) (cond (eqb (card-refusal b s x) 0) (card-refusal b s y) (card-refusal b s x)) e in
-      (p .0, both (card-refusal b s x) (card-refusal b s y) (p .1))
+      let p = both-zero (files-refusal b s) (cond (eqb (card-refusal b s x) 0) (card-refusal b s y) (card-refusal b s x)) e in
+      (p .0, both-zero (card-refusal b s x) (card-refusal b s y) (p .1))
 
   refusal-after : files-refusal b s ≡ 0 → card-refusal b s x ≡ 0 → better-refusal b s x y ≡ card-refusal b s y
   unfolding better-refusal

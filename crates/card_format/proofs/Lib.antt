@@ -6,3 +6,4 @@ pub mod Shares
 pub mod Written
 pub mod Vouches
 pub mod Editions
+pub mod Front

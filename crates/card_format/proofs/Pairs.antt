@@ -142,9 +142,13 @@ front-drop : (i q : ℕ) (rest : List ℕ) → drop 4 ((number-bytes 2 i ++ numb
 unfolding number-bytes
 front-drop i q rest = refl
 
-into-suc : (k : ℕ) (bs qs : List ℕ) → shares-into (suc k) bs qs ≡ shares-into k (drop 4 bs) (set qs (number 0 2 bs) (number 2 2 bs))
+pub into-none : (bs qs : List ℕ) → shares-into 0 bs qs ≡ qs
 unfolding shares-into
-into-suc k bs qs = refl
+into-none bs qs = refl
+
+pub into-more : (k : ℕ) (bs qs : List ℕ) → shares-into (suc k) bs qs ≡ shares-into k (drop 4 bs) (set qs (number 0 2 bs) (number 2 2 bs))
+unfolding shares-into
+into-more k bs qs = refl
 
 pairs-some : (i q : ℕ) (qs : List ℕ) → 0 < q → pairs i (q ∷ qs) ≡ (number-bytes 2 i ++ number-bytes 2 q) ++ pairs (suc i) qs
 unfolding pairs
@@ -161,7 +165,7 @@ readable-some q qs i n k l h r =
       ordered = in-order {k = support qs} (record { from = omega (arith, boat); below = omega (arith, boat); some = omega (arith, share); later = rw (boat, front-drop) (r .ordered) });
       sized = length-append (number-bytes 2 i ++ number-bytes 2 q) rest ∙ (omega (arith, length-append (number-bytes 2 i) (number-bytes 2 q), length-bytes 2 i, length-bytes 2 q, r .sized));
       read = λ zs z.
-          rw (into-suc, boat, share, front-drop, set-at zs 0 (replicate (length qs) 0) q i z, ← append-snoc zs q (replicate (length qs) 0), ← append-snoc zs q qs)
+          rw (into-more, boat, share, front-drop, set-at zs 0 (replicate (length qs) 0) q i z, ← append-snoc zs q (replicate (length qs) 0), ← append-snoc zs q qs)
           (r .read (zs ++ (q ∷ [])) (length-append zs (q ∷ []) ∙ (omega arith)));
     })
 

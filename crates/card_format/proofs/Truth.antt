@@ -5,7 +5,7 @@ use mathlib.Core.List.{List, [], _∷_}
 use Prim.Native.Nat.{ℕ, zero, suc, _+_, _*_, _-_, _/_, _%_, _≤_, _<_}
 use native.Mathlib.Omega.{arith}
 use borrow.Author.Tests.{eqb-true, eq-eqb, ne-eqb, leb-true, le-leb, ltb-true, lt-ltb}
-use lib.Dec.{eqb, leb, ltb}
+use lib.Dec.{eqb, leb, ltb, eqb·suc-zero}
 use lib.ListN.{length, getD, take, drop, length-drop}
 use lib.Seq.{length-take-le}
 use Rattle.frank_wolfe.specs.Vectors.{sum}
@@ -27,7 +27,7 @@ use Rattle.method.proofs.Bounds.{answer-bounds}
 use Rattle.method.proofs.Weights.{fixed-fits, weight-most, weight-positive}
 use Rattle.method.proofs.Shares.{share-most}
 use Rattle.card_format.specs.Format.{Fields, letters, pairs, trailer-bytes, fields, card-fields, lettered, card-test, card-body, pair-count, card-shares, card-answer}
-use Rattle.card_format.specs.Checks.{back-fits, pairs-in-order, shares-total, numbers-agree, truth-refusal, card-refusal}
+use Rattle.card_format.specs.Checks.{back-fits, pairs-in-order, counts-agree, steps-fit, form-refusal, shares-total, numbers-agree, truth-refusal, card-refusal}
 use Rattle.card_format.specs.Truth.{Card-true}
 use Rattle.files.proofs.Bytes.{drop-bytes}
 use Rattle.card_format.proofs.Pairs.{Parsed, parse, Readable, readable}
@@ -39,8 +39,8 @@ use Rattle.card_format.proofs.Trailer.{Fields-fit, length-trailer, lett
 pub record Passed (b s w : List ℕ) : Type 0 where
   pub sized : length-in-range 36 w ≡ true
   pub letters : lettered Former w || lettered Sharper w ≡ true
-  pub counts : eqb (card-fields w .boats) (boats b) && eqb (card-fields w .columns) (columns b) ≡ true
-  pub ranges : between 1 3 (card-fields w .verdict) && between 1 (sheet s .steps) (card-fields w .steps) ≡ true
+  pub counts : counts-agree (boats b) (columns b) w ≡ true
+  pub ranges : steps-fit (sheet s .steps) w ≡ true
   pub back : back-fits (boats b) (card-fields w .back) w ≡ true
   pub ordered : pairs-in-order (pair-count w) 0 (boats b) (card-body w) ≡ true
   pub totals : shares-total fixed (pair-count w) (card-shares (boats b) w) (card-fields w .steps) ≡ true
@@ -55,16 +55,22 @@ passed-last : (g : Bool) (k : ℕ) → cond g 0 (suc k) ≡ 0 → g ≡ true
 passed-last true k e = refl
 passed-last false k e = absurd (omega arith)
 
+-- the first of two numbers that is not 0 is 0
+pub both-zero : (m n : ℕ) → cond (eqb m 0) n m ≡ 0 → (m ≡ 0) × (n ≡ 0)
+both-zero zero n e = (refl, e)
+both-zero (suc m) n e = absurd (omega (arith, rw (eqb·suc-zero m) at e))
+
 pub all-passed : (b s w : List ℕ) → card-refusal b s w ≡ 0 → Passed b s w
-unfolding card-refusal truth-refusal card-answer problem
+unfolding card-refusal form-refusal truth-refusal card-answer problem
 all-passed b s w e =
-    let p1 = passed (length-in-range 36 w) 30 _ e in
+    let p = both-zero (form-refusal (boats b) (columns b) (sheet s .steps) w) (truth-refusal (problem b s) (card-shares (boats b) w) w) e in
+    let p1 = passed (length-in-range 36 w) 30 _ (p .0) in
     let p2 = passed (lettered Former w || lettered Sharper w) 31 _ (p1 .1) in
-    let p3 = passed (eqb (card-fields w .boats) (boats b) && eqb (card-fields w .columns) (columns b)) 32 _ (p2 .1) in
-    let p4 = passed (between 1 3 (card-fields w .verdict) && between 1 (sheet s .steps) (card-fields w .steps)) 33 _ (p3 .1) in
+    let p3 = passed (counts-agree (boats b) (columns b) w) 32 _ (p2 .1) in
+    let p4 = passed (steps-fit (sheet s .steps) w) 33 _ (p3 .1) in
     let p5 = passed (back-fits (boats b) (card-fields w .back) w) 34 _ (p4 .1) in
-    let p6 = passed (pairs-in-order (pair-count w) 0 (boats b) (card-body w)) 35 _ (p5 .1) in
-    let p7 = passed (shares-total fixed (pair-count w) (card-shares (boats b) w) (card-fields w .steps)) 36 _ (p6 .1) in
+    let p6 = passed (pairs-in-order (pair-count w) 0 (boats b) (card-body w)) 35 0 (p5 .1) in
+    let p7 = passed (shares-total fixed (pair-count w) (card-shares (boats b) w) (card-fields w .steps)) 36 _ (p .1) in
     let p8 = passed (numbers-agree (sheet s .steps) w (card-answer b s w)) 37 _ (p7 .1) in
     record {
       sized = p1 .0;
@@ -79,7 +85,7 @@ all-passed b s w e =
     }
 
 passed-all : {b s w : List ℕ} → Passed b s w → card-refusal b s w ≡ 0
-unfolding card-refusal truth-refusal card-answer problem
+unfolding card-refusal form-refusal truth-refusal card-answer problem
 passed-all p = simp (p .sized, p .letters, p .counts, p .ranges, p .back, p .ordered, p .totals, p .numbers, p .tolerance)
 
 -- ---- What the tests say
@@ -177,7 +183,7 @@ module _ (b s w : List ℕ) (all : all-bytes w ≡ true) (p : Passed b s w) wher
   numbers-are = and-true (eqb (card-fields w .distance) (card-answer b s w .distance) && eqb (card-fields w .gap) (card-answer b s w .gap)) _ (p .numbers)
 
   passed-true : Card-true b s w
-  unfolding problem card-answer shares-total
+  unfolding problem card-answer counts-agree steps-fit shares-total
   passed-true =
       let counts = and-true (eqb (card-fields w .boats) (boats b)) _ (p .counts) in
       let n : card-fields w .boats ≡ boats b = eqb-true _ _ (counts .0) in
@@ -221,7 +227,7 @@ verdict-between Within = (omega arith, omega arith)
 verdict-between (Beyond f) = (omega arith, omega arith)
 verdict-between (Spent n) = (omega arith, omega arith)
 
-between-said : {least most n : ℕ} → least ≤ n → n ≤ most → between least most n ≡ true
+pub between-said : {least most n : ℕ} → least ≤ n → n ≤ most → between least most n ≡ true
 unfolding between
 between-said {least} {most} {n} h k = simp (le-leb least n h, le-leb n most k)
 
@@ -313,7 +319,7 @@ module _ (b s w : List ℕ) (ok : files-refusal b s ≡ 0) (c : Card-true b s w)
   numbers-said = rw (answer-is, fields-are) (simp (eq-eqb _ _ (c .truth .distance), eq-eqb _ _ (c .truth .gap), eq-eqb _ _ (c .truth .verdict), c .truth .stops-here))
 
   true-passed : Passed b s w
-  unfolding problem length-in-range shares-total
+  unfolding problem length-in-range counts-agree steps-fit shares-total
   true-passed =
       let v = verdict-between (answer-of (c .test) (problem b s) (c .shares) (c .own .steps) .verdict) in
       record {

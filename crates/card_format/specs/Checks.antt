@@ -25,6 +25,24 @@ pairs-in-order zero next n bs = true
 pairs-in-order (suc k) next n bs =
     (leb next (number 0 2 bs) && (ltb (number 0 2 bs) n && ltb 0 (number 2 2 bs))) && pairs-in-order k (suc (number 0 2 bs)) n (drop 4 bs)
 
+-- whether a card's boats and columns are these
+unfoldable pub counts-agree : (boats columns : ℕ) → List ℕ → Bool
+counts-agree n c w = eqb (card-fields w .boats) n && eqb (card-fields w .columns) c
+
+-- whether its verdict is 1 to 3 and its steps used are 1 to `steps`
+unfoldable pub steps-fit : (steps : ℕ) → List ℕ → Bool
+steps-fit steps w = between 1 3 (card-fields w .verdict) && between 1 steps (card-fields w .steps)
+
+-- the first refusal, 31 to 36, of the form of a card for a book of so many boats and columns and a sheet of so many steps; 0 if none applies
+unfoldable pub form-refusal : (boats columns steps : ℕ) → List ℕ → ℕ
+form-refusal n c steps w =
+    cond (not (length-in-range 36 w)) 31
+    (cond (not (lettered Former w || lettered Sharper w)) 32
+    (cond (not (counts-agree n c w)) 33
+    (cond (not (steps-fit steps w)) 34
+    (cond (not (back-fits n (card-fields w .back) w)) 35
+    (cond (not (pairs-in-order (pair-count w) 0 n (card-body w))) 36 0)))))
+
 -- whether no more boats than steps hold shares, and they total W, t (t + 1) / 2 for the fixed shares
 unfoldable pub shares-total : Schedule → (count : ℕ) → (shares : List ℕ) → (t : ℕ) → Bool
 shares-total a k qs t = leb k t && eqb (sum qs) (weight a t)
@@ -44,17 +62,11 @@ truth-refusal p qs w =
     (cond (not (numbers-agree (p .steps) w (answer-of (card-test w) p qs (f .steps)))) 38
     (cond (eqb (f .tolerance) (p .tolerance)) 0 39))
 
--- the first refusal, 31 to 39, that applies to a card for an accepted book and sheet; 0 if none does
+-- the first refusal, 31 to 39, that applies to a card for an accepted book and sheet: its form's, else its truth's; 0 if none does
 unfoldable pub card-refusal : (book sheet card : List ℕ) → ℕ
 card-refusal b s w =
-    let f = card-fields w in
-    cond (not (length-in-range 36 w)) 31
-    (cond (not (lettered Former w || lettered Sharper w)) 32
-    (cond (not (eqb (f .boats) (boats b) && eqb (f .columns) (columns b))) 33
-    (cond (not (between 1 3 (f .verdict) && between 1 (sheet s .steps) (f .steps))) 34
-    (cond (not (back-fits (boats b) (f .back) w)) 35
-    (cond (not (pairs-in-order (pair-count w) 0 (boats b) (card-body w))) 36
-    (truth-refusal (problem b s) (card-shares (boats b) w) w))))))
+    let form = form-refusal (boats b) (columns b) (sheet s .steps) w in
+    cond (eqb form 0) (truth-refusal (problem b s) (card-shares (boats b) w) w) form
 
 -- of the writer: 1 to 17 and 46 of the files, then 22, a buffer shorter than the card
 unfoldable pub write-refusal : (book sheet : List ℕ) → (room : ℕ) → ℕ

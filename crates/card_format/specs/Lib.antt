@@ -2,3 +2,4 @@
 pub mod Format
 pub mod Checks
 pub mod Truth
+pub mod Front

@@ -6,21 +6,14 @@ use Prim.Native.Nat.{ℕ, zero, suc, _*_, _-_, _/_, _%_, _≤_, _<_}
 use native.Mathlib.Omega.{arith}
 use borrow.Author.Tests.{eq-eqb, ne-eqb, le-leb, lt-leb, lt-ltb, le-ltb, not-true, not-false}
 use lib.Dec.{eqb, leb, ltb}
-use lib.ListN.{length, getD, take, drop}
-use mir.Syntax.{w8}
-use mir.Val.{Fits}
-use Rattle.files.specs.Bytes.{all-bytes, number, same, between, length-in-range, trailer, body, reaches}
-use Rattle.files.proofs.Numbers.{all-bytes-known, number-in-trailer, drop-trailer}
+use lib.ListN.{length, take, drop}
+use Rattle.files.specs.Bytes.{number, same, between, length-in-range, trailer, body, reaches}
+use Rattle.files.proofs.Numbers.{number-in-trailer, drop-trailer}
 use Rattle.method.specs.declared.Test.the-variants.{Former, Sharper}
 use Rattle.card_format.specs.Format.{WCD1, WCD2, letters, fields, card-fields, lettered, card-test, card-body, pair-count, shares-into}
-use Rattle.card_format.specs.Checks.{back-fits, pairs-in-order}
+use Rattle.card_format.specs.Checks.{back-fits, pairs-in-order, counts-agree, steps-fit, form-refusal}
 use Rattle.card_format.proofs.Truth.{Back-fits, back-means}
 use Rattle.card_pairs.proofs.Pairs.{order-take, into-take}
-use Rattle.card_input.specs.Forms.{counts-agree, steps-fit, form-refusal}
-
--- a slice of u8 holds bytes
-pub bytes-of : (w : List ℕ) → ((i : ℕ) → Fits w8 (getD w i 0)) → all-bytes w ≡ true
-bytes-of w f = all-bytes-known w f
 
 -- ---- Fields
 

@@ -7,8 +7,7 @@ ghost use Prim.Native.Nat.{_*_, _-_, _≤_, _<_};
 ghost use lib.ListN.{length};
 ghost use Rattle.method.specs.declared.Test.the-variants.{Former, Sharper};
 ghost use Rattle.card_format.specs.Format.{card-fields, lettered, card-test, pair-count};
-ghost use Rattle.card_format.specs.Checks.{back-fits};
-ghost use Rattle.card_input.specs.Forms.{counts-agree, steps-fit, form-refusal};
+ghost use Rattle.card_format.specs.Checks.{back-fits, counts-agree, steps-fit, form-refusal};
 use method::Test;
 
 // Whether a card ends with the letters of either edition.

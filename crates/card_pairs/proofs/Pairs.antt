@@ -15,6 +15,7 @@ use Rattle.files.proofs.Numbers.{number-2}
 use Rattle.files.proofs.Refusal.{and-true}
 use Rattle.card_format.specs.Format.{shares-into}
 use Rattle.card_format.specs.Checks.{pairs-in-order}
+use Rattle.card_format.proofs.Pairs.{into-none, into-more}
 
 -- ---- Pairs in order, and their shares
 
@@ -39,14 +40,6 @@ order-more k next n bs = refl
 order-none : (next n : ℕ) (bs : List ℕ) → pairs-in-order 0 next n bs ≡ true
 unfolding pairs-in-order
 order-none next n bs = refl
-
-into-none : (bs qs : List ℕ) → shares-into 0 bs qs ≡ qs
-unfolding shares-into
-into-none bs qs = refl
-
-pub into-more : (k : ℕ) (bs qs : List ℕ) → shares-into (suc k) bs qs ≡ shares-into k (drop 4 bs) (set qs (number 0 2 bs) (number 2 2 bs))
-unfolding shares-into
-into-more k bs qs = refl
 
 -- the first i pairs from `at` on are in order, and the next boat may be `next`
 pub record Ordering (w : List ℕ) (at count n i next : ℕ) : Type 0 where
@@ -169,7 +162,7 @@ into-take (suc k) bs qs =
 
 -- ---- The total of shares
 
-sum-more : (q : ℕ) (qs : List ℕ) → sum (q ∷ qs) ≡ q + sum qs
+pub sum-more : (q : ℕ) (qs : List ℕ) → sum (q ∷ qs) ≡ q + sum qs
 unfolding sum
 sum-more q qs = refl
 

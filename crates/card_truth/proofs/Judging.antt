@@ -22,10 +22,9 @@ use Rattle.iteration.specs.declared.Layout.{Layout}
 use Rattle.iteration.specs.States.{file-layout}
 use Rattle.iteration.proofs.States.{book-fits, sheet-fits}
 use Rattle.card_format.specs.Format.{card-fields, lettered, card-test, card-body, pair-count}
-use Rattle.card_format.specs.Checks.{back-fits, pairs-in-order, shares-total, numbers-agree, truth-refusal}
+use Rattle.card_format.specs.Checks.{back-fits, pairs-in-order, counts-agree, steps-fit, form-refusal, shares-total, numbers-agree, truth-refusal}
 use Rattle.method.specs.Bounds.{answer-of}
 use Rattle.card_format.proofs.Truth.{passed, Back-fits, back-means}
-use Rattle.card_input.specs.Forms.{counts-agree, steps-fit, form-refusal}
 use Rattle.card_input.proofs.Reading.{tolerance-at}
 use Rattle.card_truth.specs.Truth.{Card-readable}
 

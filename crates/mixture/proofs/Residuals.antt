@@ -11,7 +11,7 @@ use mir.Syntax.{w64}
 use mir.Val.{Fits}
 use Rattle.integers.proofs.Solver.{con, _⊕_, _⊗_, _⊝_, x₀, x₁, x₂, x₃, x₄, solve}
 use Rattle.frank_wolfe.specs.Vectors.{add, subtract, scale, sum, combination, here}
-use Rattle.frank_wolfe.proofs.Vectors.{Wide, wide-rest, length-add, length-scale, length-subtract}
+use Rattle.frank_wolfe.proofs.Vectors.{Wide, wide-rest, length-add, length-scale, length-subtract, add-associative, subtract-zero}
 use Rattle.files.specs.Bytes.{values}
 use Rattle.files.specs.Book.{boats, columns, rows, rows-offset}
 use Rattle.files.specs.Sheet.{sheet, target-offset, files-refusal}
@@ -21,18 +21,12 @@ use Rattle.method.proofs.Argmin.{among-row}
 use Rattle.method.proofs.Entries as E
 use Rattle.method.proofs.Plain.{well-formed, in-range}
 use Rattle.sums.specs.Operands.{Span, Movable}
+use Rattle.card_pairs.proofs.Pairs.{sum-more}
 use Rattle.iteration.specs.declared.Layout.{Layout}
 use Rattle.iteration.specs.States.{file-layout}
 use Rattle.iteration.proofs.States.{book-fits, sheet-fits, row-span, target-span, movable, moved-is, length-difference, zeros-add}
 
 -- ---- Vectors
-
-add-associative : (x y z : List ℤ) → add (add x y) z ≡ add x (add y z)
-unfolding add
-add-associative [] y z = refl
-add-associative (a ∷ x) [] z = refl
-add-associative (a ∷ x) (b ∷ y) [] = refl
-add-associative (a ∷ x) (b ∷ y) (d ∷ z) = ap₂ _∷_ (solve (a ∷ b ∷ d ∷ []) (x₀ ⊕ x₁ ⊕ x₂) (x₀ ⊕ (x₁ ⊕ x₂)) tt) (add-associative x y z)
 
 add-zeros : (c : ℕ) (x : List ℤ) → length x ≡ c → add x (replicate c (pos 0)) ≡ x
 unfolding add
@@ -40,12 +34,6 @@ add-zeros zero [] e = refl
 add-zeros zero (a ∷ x) e = absurd (omega arith)
 add-zeros (suc c) [] e = absurd (omega arith)
 add-zeros (suc c) (a ∷ x) e = ap₂ _∷_ (solve (a ∷ []) (x₀ ⊕ con (pos 0)) x₀ tt) (add-zeros c x (omega arith))
-
-zeros-less : (c : ℕ) (u : List ℤ) → length u ≡ c → subtract (replicate c (pos 0)) (scale 0 u) ≡ replicate c (pos 0)
-unfolding subtract scale
-zeros-less zero u e = refl
-zeros-less (suc c) [] e = absurd (omega arith)
-zeros-less (suc c) (a ∷ u) e = ap₂ _∷_ (solve (a ∷ []) (con (pos 0) ⊝ con (pos 0) ⊗ x₀) (con (pos 0)) tt) (zeros-less c u (omega arith))
 
 -- (q v + y) - (q + n) u = q (v - u) + (y - n u)
 apart : (v y u : List ℤ) (q n : ℕ) → subtract (add (scale q v) y) (scale (q + n) u) ≡ add (scale q (subtract v u)) (subtract y (scale n u))
@@ -83,7 +71,7 @@ difference-at u (v ∷ vs) (suc i) = difference-at u vs i
 residual-sum : (c : ℕ) (u : List ℤ) (qs : List ℕ) (vs : List (List ℤ)) → length u ≡ c → length qs ≡ length vs →
     subtract (combination c qs vs) (scale (sum qs) u) ≡ combination c qs (differences u vs)
 unfolding combination sum differences
-residual-sum c u [] vs e l = zeros-less c u e
+residual-sum c u [] vs e l = subtract-zero c u e
 residual-sum c u (q ∷ qs) [] e l = absurd (omega arith)
 residual-sum c u (q ∷ qs) (v ∷ vs) e l =
     apart v (combination c qs vs) u q (sum qs) ∙ ap (add (scale q (subtract v u))) (residual-sum c u qs vs e (omega arith))
@@ -104,10 +92,6 @@ combination-more c q qs v vs = refl
 combination-none : (c : ℕ) (vs : List (List ℤ)) → combination c [] vs ≡ replicate c (pos 0)
 unfolding combination
 combination-none c vs = refl
-
-sum-more : (q : ℕ) (qs : List ℕ) → sum (q ∷ qs) ≡ q + sum qs
-unfolding sum
-sum-more q qs = refl
 
 -- ---- The loop over the boats
 

@@ -12,6 +12,7 @@ use Rattle.frank_wolfe.proofs.Vectors.{sum-ones}
 use Rattle.files.specs.Bytes.{number-bytes, little-endian, number, values, same, between, all-in-range, length-in-range, trailer, body, reaches, body-refusal}
 use Rattle.files.specs.Sheet.{Sheet, sheet, sheet-columns, WSH1, WSH2, sheet-lettered, factor-bytes, sheet-refusal-in, sheet-refusal}
 use Rattle.files.proofs.Bytes.{read-bytes}
+use Rattle.card_format.proofs.Truth.{between-said}
 use Rattle.sheet_output.specs.Output.{values-bytes, sheet-trailer, sheet-bytes}
 use Rattle.sheet_output.specs.Back.{Sheet-fit, Sheet-reads-back}
 use Rattle.sheet_output.proofs.Values.{length-values-bytes, values-back}
@@ -36,10 +37,6 @@ module _ (bs t : List ℕ) (size : ℕ) (l : length t ≡ size) where
   body-passed back count place range e b h =
       let k : back ≤ length (bs ++ t) - size = omega (arith, file-length) in
       simp (file-trailer, b, eq-eqb back back refl, le-leb _ _ k, file-body back e, h)
-
-pub between-both : (least most n : ℕ) → least ≤ n → n ≤ most → between least most n ≡ true
-unfolding between
-between-both least most n h k = simp (le-leb least n h, le-leb n most k)
 
 -- ---- a sheet
 module _ (back c k t : ℕ) where
@@ -166,10 +163,10 @@ module _ (s : Sheet) (f : Sheet-fit s) where
         own-back,
         own-sheet,
         own-total,
-        between-both 16 40000 (2 * c + 16) (omega arith) (omega (arith, few-columns)),
-        between-both c c c (omega arith) (omega arith),
-        between-both 1 360 (s .steps) (f .some-steps) (f .most-steps),
-        between-both 1 64 c some-columns few-columns,
+        between-said {least = 16} {most = 40000} {n = 2 * c + 16} (omega arith) (omega (arith, few-columns)),
+        between-said {least = c} {most = c} {n = c} (omega arith) (omega arith),
+        between-said {least = 1} {most = 360} {n = s .steps} (f .some-steps) (f .most-steps),
+        between-said {least = 1} {most = 64} {n = c} some-columns few-columns,
         le-ltb 1024000000 (s .tolerance) (f .most-tolerance),
         own-sheet-body,
       )

@@ -1,6 +1,6 @@
 -- `better_card::choose` meets its contract.
 use mathlib.Core.Path.{_∙_}
-use Rattle.card_input.proofs.Reading.{bytes-of}
+use Rattle.files.proofs.Numbers.{all-bytes-known}
 use Rattle.card_choice.proofs.Choosing.{promised, first-refused, second-refused, first-inside, second-inside, first-chosen, second-chosen}
 use borrow.Author.Needs.{needs}
 use Rattle.better_card.proofs.choose.Statement.{statement}
@@ -47,7 +47,7 @@ behind-front-requires c κs =
     let at-a = at-second .before .before in
     let at-first = at-a .before .before in
     let at-slices = at-first .before in
-    second-inside _ _ _ _ (at-first .checked .ensures) (at-a .a .given .1) (at-second .checked2 .ensures) (at-b .b .given .1) (bytes-of _ (at-slices .shared-slice-known4 .given))
+    second-inside _ _ _ _ (at-first .checked .ensures) (at-a .a .given .1) (at-second .checked2 .ensures) (at-b .b .given .1) (all-bytes-known _ (at-slices .shared-slice-known4 .given))
 
 returns : tie.Need-returns
 returns c =
@@ -57,7 +57,7 @@ returns c =
     let at-a = at-second .before .before in
     let at-first = at-a .before .before in
     let at-slices = at-first .before in
-    promised _ _ _ _ (bytes-of _ (at-slices .before .shared-slice-known3 .given)) (bytes-of _ (at-slices .shared-slice-known4 .given)) (c .behind-front .ensures ∙ second-chosen _ _ _ _ (at-first .checked .ensures) (at-a .a .given .1) (at-second .checked2 .ensures) (at-b .b .given .1) (at-nearer .nearer .ensures) (c .before .if1 .taken))
+    promised _ _ _ _ (all-bytes-known _ (at-slices .before .shared-slice-known3 .given)) (all-bytes-known _ (at-slices .shared-slice-known4 .given)) (c .behind-front .ensures ∙ second-chosen _ _ _ _ (at-first .checked .ensures) (at-a .a .given .1) (at-second .checked2 .ensures) (at-b .b .given .1) (at-nearer .nearer .ensures) (c .before .if1 .taken))
 
 behind-front-requires-2 : tie.Need-behind-front-requires-2
 behind-front-requires-2 c κs =
@@ -67,14 +67,14 @@ behind-front-requires-2 c κs =
     let at-a = at-second .before .before in
     let at-first = at-a .before .before in
     let at-slices = at-first .before in
-    first-inside _ _ _ _ (at-first .checked .ensures) (at-a .a .given .1) (at-second .checked2 .ensures) (at-b .b .given .1) (bytes-of _ (at-slices .before .shared-slice-known3 .given))
+    first-inside _ _ _ _ (at-first .checked .ensures) (at-a .a .given .1) (at-second .checked2 .ensures) (at-b .b .given .1) (all-bytes-known _ (at-slices .before .shared-slice-known3 .given))
 
 returns-2 : tie.Need-returns-2
 returns-2 c =
     let at-n = c .before .before in
     let at-first = at-n .before .before in
     let at-slices = at-first .before in
-    promised _ _ _ _ (bytes-of _ (at-slices .before .shared-slice-known3 .given)) (bytes-of _ (at-slices .shared-slice-known4 .given)) (c .refused .ensures ∙ first-refused _ _ _ _ (at-first .checked .ensures) _ (at-n .n .given .1))
+    promised _ _ _ _ (all-bytes-known _ (at-slices .before .shared-slice-known3 .given)) (all-bytes-known _ (at-slices .shared-slice-known4 .given)) (c .refused .ensures ∙ first-refused _ _ _ _ (at-first .checked .ensures) _ (at-n .n .given .1))
 
 returns-3 : tie.Need-returns-3
 returns-3 c =
@@ -83,7 +83,7 @@ returns-3 c =
     let at-a = at-second .before .before in
     let at-first = at-a .before .before in
     let at-slices = at-first .before in
-    promised _ _ _ _ (bytes-of _ (at-slices .before .shared-slice-known3 .given)) (bytes-of _ (at-slices .shared-slice-known4 .given)) (c .refused2 .ensures ∙ second-refused _ _ _ _ (at-first .checked .ensures) (at-a .a .given .1) (at-second .checked2 .ensures) _ (at-n .n2 .given .1))
+    promised _ _ _ _ (all-bytes-known _ (at-slices .before .shared-slice-known3 .given)) (all-bytes-known _ (at-slices .shared-slice-known4 .given)) (c .refused2 .ensures ∙ second-refused _ _ _ _ (at-first .checked .ensures) (at-a .a .given .1) (at-second .checked2 .ensures) _ (at-n .n2 .given .1))
 
 returns-4 : tie.Need-returns-4
 returns-4 c =
@@ -93,7 +93,7 @@ returns-4 c =
     let at-a = at-second .before .before in
     let at-first = at-a .before .before in
     let at-slices = at-first .before in
-    promised _ _ _ _ (bytes-of _ (at-slices .before .shared-slice-known3 .given)) (bytes-of _ (at-slices .shared-slice-known4 .given)) (c .behind-front2 .ensures ∙ first-chosen _ _ _ _ (at-first .checked .ensures) (at-a .a .given .1) (at-second .checked2 .ensures) (at-b .b .given .1) (at-nearer .nearer .ensures) (c .before .if1 .left))
+    promised _ _ _ _ (all-bytes-known _ (at-slices .before .shared-slice-known3 .given)) (all-bytes-known _ (at-slices .shared-slice-known4 .given)) (c .behind-front2 .ensures ∙ first-chosen _ _ _ _ (at-first .checked .ensures) (at-a .a .given .1) (at-second .checked2 .ensures) (at-b .b .given .1) (at-nearer .nearer .ensures) (c .before .if1 .left))
 
 pub choose-spec : {M : Type 1} → statement M
 choose-spec =

@@ -2,7 +2,7 @@
 use mathlib.Core.Path.{refl, sym, _∙_}
 use denote.Ref.{now}
 use Rattle.iteration.proofs.States.{sheet-fits}
-use Rattle.card_input.proofs.Reading.{bytes-of}
+use Rattle.files.proofs.Numbers.{all-bytes-known}
 use Rattle.card_truth.proofs.Judging.{formed}
 use Rattle.card.proofs.Checking.{layout-boats, pairs-room, pairs-asked, found-are, promised, refused-by-files, refused-short, refused-by-form, form-zero, refused-by-truth, answered}
 use borrow.Author.Needs.{needs}
@@ -26,7 +26,7 @@ returns : tie.Need-returns
 returns c =
     let at-files-refusal = c .before in
     let start = at-files-refusal .before .before .before .before .before in
-    promised _ _ _ (now (start .args .shares)) (bytes-of _ (at-files-refusal .before .before .shared-slice-known3 .given)) (refused-by-files _ _ _ _ _ (at-files-refusal .files-refusal .ensures) (c .if1 .taken))
+    promised _ _ _ (now (start .args .shares)) (all-bytes-known _ (at-files-refusal .before .before .shared-slice-known3 .given)) (refused-by-files _ _ _ _ _ (at-files-refusal .files-refusal .ensures) (c .if1 .taken))
 
 layout-of-requires : tie.Need-layout-of-requires
 layout-of-requires c κs = search needs
@@ -35,7 +35,7 @@ returns-2 : tie.Need-returns-2
 returns-2 c =
     let at-files-refusal = c .before .before .before in
     let start = at-files-refusal .before .before .before .before .before in
-    promised _ _ _ (now (start .args .shares)) (bytes-of _ (at-files-refusal .before .before .shared-slice-known3 .given)) (refused-short _ _ _ _ (sym (at-files-refusal .files-refusal .ensures) ∙ c .before .before .if1 .left) (c .before .layout-of .ensures) (c .if2 .taken))
+    promised _ _ _ (now (start .args .shares)) (all-bytes-known _ (at-files-refusal .before .before .shared-slice-known3 .given)) (refused-short _ _ _ _ (sym (at-files-refusal .files-refusal .ensures) ∙ c .before .before .if1 .left) (c .before .layout-of .ensures) (c .if2 .taken))
 
 steps-requires : tie.Need-steps-requires
 steps-requires c κs = sheet-fits _ _ (sym (c .before .before .before .files-refusal .ensures) ∙ c .before .before .if1 .left) .at-least
@@ -50,7 +50,7 @@ returns-3 c =
     let at-files-refusal = at-if1 .before in
     let accepted = sym (at-files-refusal .files-refusal .ensures) ∙ at-if1 .if1 .left in
     let start = at-files-refusal .before .before .before .before .before in
-    promised _ _ _ (now (start .args .shares)) (bytes-of _ (at-files-refusal .before .before .shared-slice-known3 .given)) (refused-by-form _ _ _ _ accepted (at-layout-of .layout-of .ensures) (c .before .before .before .if2 .left) refl (c .before .before .steps .ensures) (c .before .form-refusal .ensures) (c .if3 .taken))
+    promised _ _ _ (now (start .args .shares)) (all-bytes-known _ (at-files-refusal .before .before .shared-slice-known3 .given)) (refused-by-form _ _ _ _ accepted (at-layout-of .layout-of .ensures) (c .before .before .before .if2 .left) refl (c .before .before .steps .ensures) (c .before .form-refusal .ensures) (c .if3 .taken))
 
 pair-count-requires : tie.Need-pair-count-requires
 pair-count-requires c κs =
@@ -135,7 +135,7 @@ returns-4 c =
     let accepted = sym (at-files-refusal .files-refusal .ensures) ∙ at-if1 .if1 .left in
     let start = at-files-refusal .before .before .before .before .before in
     let right-form = form-zero _ _ _ (now (start .args .shares)) accepted (at-layout-of .layout-of .ensures) (at-if2 .if2 .left) refl (at-steps .steps .ensures) (at-form-refusal .form-refusal .ensures) (at-if3 .if3 .left) in
-    promised _ _ _ (now (start .args .shares)) (bytes-of _ (at-files-refusal .before .before .shared-slice-known3 .given)) (refused-by-truth _ _ _ _ accepted (at-layout-of .layout-of .ensures) (at-if2 .if2 .left) refl (at-steps .steps .ensures) (at-form-refusal .form-refusal .ensures) (at-if3 .if3 .left) _ (found-are _ _ _ accepted right-form (c .before .before .before .before .before .pair-count .ensures .0) (c .before .before .before .before .shares-of .ensures)) _ (sym (c .before .n .given .1) ∙ c .before .before .before .judged .ensures))
+    promised _ _ _ (now (start .args .shares)) (all-bytes-known _ (at-files-refusal .before .before .shared-slice-known3 .given)) (refused-by-truth _ _ _ _ accepted (at-layout-of .layout-of .ensures) (at-if2 .if2 .left) refl (at-steps .steps .ensures) (at-form-refusal .form-refusal .ensures) (at-if3 .if3 .left) _ (found-are _ _ _ accepted right-form (c .before .before .before .before .before .pair-count .ensures .0) (c .before .before .before .before .shares-of .ensures)) _ (sym (c .before .n .given .1) ∙ c .before .before .before .judged .ensures))
 
 same-length : tie.Need-same-length
 same-length c = search needs
@@ -157,7 +157,7 @@ returns-5 c =
     let at-shared-slice-known3 = at-files-refusal .before .before in
     let start = at-shared-slice-known3 .before .before .before in
     let right-form = form-zero _ _ _ (now (start .args .shares)) accepted (at-layout-of .layout-of .ensures) (at-if2 .if2 .left) refl (at-steps .steps .ensures) (at-form-refusal .form-refusal .ensures) (at-if3 .if3 .left) in
-    promised _ _ _ (now (start .args .shares)) (bytes-of _ (at-shared-slice-known3 .shared-slice-known3 .given)) (answered _ _ _ _ accepted (at-layout-of .layout-of .ensures) (at-if2 .if2 .left) refl (at-steps .steps .ensures) (at-form-refusal .form-refusal .ensures) (at-if3 .if3 .left) _ (found-are _ _ _ accepted right-form (at-pair-count .pair-count .ensures .0) (at-shares-of .shares-of .ensures)) (search (needs, at-shares-of .shares-of .ok)) (c .before .before .fill .ensures) _ (sym (at-answer .answer .given .1) ∙ at-judged .judged .ensures))
+    promised _ _ _ (now (start .args .shares)) (all-bytes-known _ (at-shared-slice-known3 .shared-slice-known3 .given)) (answered _ _ _ _ accepted (at-layout-of .layout-of .ensures) (at-if2 .if2 .left) refl (at-steps .steps .ensures) (at-form-refusal .form-refusal .ensures) (at-if3 .if3 .left) _ (found-are _ _ _ accepted right-form (at-pair-count .pair-count .ensures .0) (at-shares-of .shares-of .ensures)) (search (needs, at-shares-of .shares-of .ok)) (c .before .before .fill .ensures) _ (sym (at-answer .answer .given .1) ∙ at-judged .judged .ensures))
 
 pub check-card-spec : {M : Type 1} → statement M
 check-card-spec =

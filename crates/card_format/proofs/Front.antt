@@ -1,0 +1,105 @@
+-- Front text is never read: what stands before a card that holds its whole body changes nothing.
+use mathlib.Core.Path.{_≡_, sym, ap, _∙_}
+use mathlib.Core.List.{List, _++_, append-assoc}
+use Prim.Native.Nat.{ℕ, _+_, _-_, _≤_}
+use native.Mathlib.Omega.{arith}
+use borrow.Author.Tests.{le-leb}
+use lib.Dec.{leb}
+use lib.ListN.{length, take, drop, length-append, length-drop}
+use lib.Seq.{length-take-le}
+use Rattle.files.specs.Bytes.{between, length-in-range, trailer, body, reaches}
+use Rattle.files.specs.Book.{boats, columns}
+use Rattle.files.specs.Sheet.{sheet}
+use Rattle.files.specs.Front.{Front-fits}
+use Rattle.method.specs.declared.Test.{Test}
+use Rattle.method.specs.Problem.{Problem, problem}
+use Rattle.card_format.specs.Format.{card-fields, lettered, card-test, card-body, pair-count, card-shares, card-answer}
+use Rattle.card_format.specs.Checks.{back-fits, counts-agree, steps-fit, form-refusal, numbers-agree, truth-refusal, card-refusal, check-refusal}
+use Rattle.card_format.specs.Front.{Card-whole, Card-front-unread}
+use Rattle.card_format.proofs.Trailer.{file-trailer, file-body, file-parts}
+
+module _ (f w : List ℕ) (h : Card-whole w) where
+  abbrev back : ℕ
+  back = card-fields w .back
+
+  abbrev before : List ℕ
+  before = f ++ take (length w - 36 - back) w
+
+  body-length : length (body 36 back w) ≡ back
+  unfolding body
+  body-length = length-take-le back (drop (length w - 36 - back) w) (simp length-drop (omega arith))
+
+  trailer-length : length (trailer 36 w) ≡ 36
+  unfolding trailer
+  trailer-length = simp length-drop (omega arith)
+
+  parts : f ++ w ≡ before ++ (body 36 back w ++ trailer 36 w)
+  parts = ap (λ l. f ++ l) (file-parts w back h) ∙ sym (append-assoc f (take (length w - 36 - back) w) (body 36 back w ++ trailer 36 w))
+
+  trailer-front : trailer 36 (f ++ w) ≡ trailer 36 w
+  trailer-front = ap (trailer 36) parts ∙ file-trailer before (body 36 back w) (trailer 36 w) trailer-length
+
+  fields-front : card-fields (f ++ w) ≡ card-fields w
+  unfolding card-fields
+  fields-front = rw trailer-front
+
+  body-front : card-body (f ++ w) ≡ card-body w
+  unfolding card-body
+  body-front =
+      let e = file-body before (body 36 back w) (trailer 36 w) trailer-length in
+      rw fields-front (ap (body 36 back) parts ∙ (rw body-length at e))
+
+  lettered-front : (test : Test) → lettered test (f ++ w) ≡ lettered test w
+  unfolding lettered
+  lettered-front test = rw trailer-front
+
+  test-front : card-test (f ++ w) ≡ card-test w
+  unfolding card-test
+  test-front = simp lettered-front
+
+  count-front : pair-count (f ++ w) ≡ pair-count w
+  unfolding pair-count
+  count-front = rw fields-front
+
+  shares-front : (n : ℕ) → card-shares n (f ++ w) ≡ card-shares n w
+  unfolding card-shares
+  shares-front n = rw (count-front, body-front)
+
+  answer-front : (b s : List ℕ) → card-answer b s (f ++ w) ≡ card-answer b s w
+  unfolding card-answer
+  answer-front b s = rw (test-front, shares-front (boats b), fields-front)
+
+  back-front : (n : ℕ) → back-fits n back (f ++ w) ≡ back-fits n back w
+  unfolding back-fits reaches
+  back-front n =
+      let e = length-append f w in
+      rw (le-leb back (length (f ++ w) - 36) (omega arith), le-leb back (length w - 36) (omega arith))
+
+  range-front : Front-fits f w → length-in-range 36 (f ++ w) ≡ length-in-range 36 w
+  unfolding length-in-range between
+  range-front k = simp (length-append, le-leb 36 (length f + length w) (omega arith), le-leb (length f + length w) 40000 (omega arith), le-leb 36 (length w) (omega arith), le-leb (length w) 40000 (omega arith))
+
+  form-front : Front-fits f w → (n c steps : ℕ) → form-refusal n c steps (f ++ w) ≡ form-refusal n c steps w
+  unfolding form-refusal counts-agree steps-fit
+  form-front k n c steps = simp (range-front k, lettered-front, fields-front, back-front, count-front, body-front)
+
+  truth-front : (p : Problem) (qs : List ℕ) → truth-refusal p qs (f ++ w) ≡ truth-refusal p qs w
+  unfolding truth-refusal numbers-agree
+  truth-front p qs = simp (count-front, fields-front, test-front)
+
+  refusal-front : Front-fits f w → (b s : List ℕ) → card-refusal b s (f ++ w) ≡ card-refusal b s w
+  unfolding card-refusal
+  refusal-front k b s = rw (form-front k (boats b) (columns b) (sheet s .steps), shares-front (boats b), truth-front (problem b s) (card-shares (boats b) w))
+
+  check-front : Front-fits f w → (b s : List ℕ) (slots : ℕ) → check-refusal b s (f ++ w) slots ≡ check-refusal b s w slots
+  unfolding check-refusal
+  check-front k b s slots = rw (refusal-front k b s)
+
+pub card-front-unread : Card-front-unread
+unfolding Card-front-unread
+card-front-unread f g w h i j b s = (
+  refusal-front f w h i b s ∙ sym (refusal-front g w h j b s),
+  λ slots. check-front f w h i b s slots ∙ sym (check-front g w h j b s slots),
+  λ n. shares-front f w h n ∙ sym (shares-front g w h n),
+  answer-front f w h b s ∙ sym (answer-front g w h b s),
+)
