@@ -5,7 +5,8 @@ ghost use mathlib.Core.Path.{_≡_};
 ghost use Prim.Native.Nat.{_+_, _≤_};
 ghost use lib.ListN.{length};
 ghost use Rattle.text.specs.Texts.{Holds};
-ghost use Rattle.card_choice.specs.Choices.{numbered, choice};
+ghost use Rattle.card_choice.specs.Choices.{numbered, part-of, choice};
+ghost use Rattle.card_choice.specs.Promise.{Better-right};
 ghost use Rattle.better_listing.specs.Listings.{part-listing, better-listing};
 use card_choice::Choice;
 use method::Searched;
@@ -28,10 +29,11 @@ pub struct Chosen {
 }
 
 // ENTRY. The better of two cards, as `choose` gives it, and the listing of its answer and shares, or of the number that refuses the files
-// or a card. The third clause says that the part lies inside its card.
+// or a card. The third clause says what holds of the part that was chosen, as `choose` promises it, the fourth that it lies inside its card.
 pub fn better_text<'a>(book: &[u8], sheet: &[u8], first: &'a [u8], second: &'a [u8]) -> Chosen
     ensures { λ r. ⌜ r .choice ≡ choice (now (book .entry)) (now (sheet .entry)) (now (first .entry)) (now (second .entry)) ⌝ }
     ensures { λ r. ⌜ Holds (better-listing (now (book .entry)) (now (sheet .entry)) (now (first .entry)) (now (second .entry))) (r .text) ⌝ }
+    ensures { λ r. ⌜ Better-right (now (book .entry)) (now (sheet .entry)) (now (first .entry)) (now (second .entry)) (r .choice .refusal) (part-of (r .choice) (now (first .entry)) (now (second .entry))) ⌝ }
     ensures { λ r. ⌜ r .choice .offset + r .choice .len ≤ length (numbered (r .choice .card) (now (first .entry)) (now (second .entry))) ⌝ }
 {
     let choice = better_card::choose(book, sheet, first, second);

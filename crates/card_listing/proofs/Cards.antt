@@ -1,11 +1,11 @@
 -- The listing of a card check with a share list of 256 slots. Assumes nothing.
 use mathlib.Core.Path.{_≡_, refl, sym, _∙_}
-use mathlib.Core.Bool.{cond}
+use mathlib.Core.Bool.{true}
 use mathlib.Core.List.{List}
 use Prim.Native.Nat.{ℕ, zero, suc}
-use lib.Dec.{eqb, eqb·suc-zero}
+use native.Mathlib.Omega.{arith}
 use lib.ListN.{length, drop, set, replicate, length-set, length-replicate}
-use Rattle.files.specs.Bytes.{number}
+use Rattle.files.specs.Bytes.{all-bytes, number}
 use Rattle.files.specs.Book.{boats}
 use Rattle.files.specs.Sheet.{files-refusal}
 use Rattle.method.specs.declared.Searched.{Searched}
@@ -15,8 +15,11 @@ use Rattle.card_format.specs.Checks.{card-refusal, check-refusal}
 use Rattle.listing.specs.Lines.{outcome-listing, Listable}
 use Rattle.text.specs.Texts.{Holds}
 use Rattle.text.specs.declared.Text.{Text}
-use Rattle.listing.proofs.Outcomes.{listable, same-listing, same-refusal}
-use Rattle.card_listing.specs.Cards.{card-listing}
+use Rattle.listing.proofs.Outcomes.{listable, same-listing, long-enough, same-refusal, after-itself}
+use Rattle.card_format.proofs.Truth.{both-zero}
+use Rattle.card.specs.Checking.{Check-right}
+use Rattle.card.proofs.Checking.{check-right}
+use Rattle.card_listing.specs.Cards.{card-outcome, card-listing}
 
 length-into : (k : ℕ) (bs qs : List ℕ) → length (shares-into k bs qs) ≡ length qs
 unfolding shares-into
@@ -28,13 +31,17 @@ unfolding card-shares
 shares-length n w = length-into _ _ (replicate n 0) ∙ length-replicate n 0
 
 -- a check that refuses nothing has files that are not refused
-unrefused : (b s w : List ℕ) (n : ℕ) → n ≡ search-refusal b s 256 → cond (eqb n 0) (card-refusal b s w) n ≡ 0 → n ≡ 0
-unrefused b s w zero e h = refl
-unrefused b s w (suc n) e h = rw (eqb·suc-zero n) at h
-
 files-pass : (b s w : List ℕ) → check-refusal b s w 256 ≡ 0 → files-refusal b s ≡ 0
 unfolding check-refusal
-files-pass b s w h = sym (same-refusal b s) ∙ unrefused b s w (search-refusal b s 256) refl h
+files-pass b s w h = sym (same-refusal b s) ∙ both-zero (search-refusal b s 256) (card-refusal b s w) h .0
+
+-- what the check promises holds of what is listed
+same-check : (b s w : List ℕ) → check-refusal b s w 256 ≡ check-refusal b s w (length (card-shares (boats b) w))
+unfolding check-refusal
+same-check b s w = rw (same-refusal b s, long-enough b s (length (card-shares (boats b) w)) (λ ok. omega (arith, shares-length (boats b) w)))
+
+pub listed-right : (b s w : List ℕ) → all-bytes w ≡ true → Check-right b s w (card-outcome b s w) (card-shares (boats b) w)
+listed-right b s w all = check-right b s w (card-shares (boats b) w) all (same-check b s w) refl (sym (after-itself (check-refusal b s w 256) (card-shares (boats b) w)))
 
 module _ (b s w slots : List ℕ) {r : Searched} (e : r ≡ outcome (check-refusal b s w 256) (card-answer b s w)) where
   pub check-listable : Listable b s r

@@ -5,14 +5,19 @@ use Prim.Native.Nat.{ℕ}
 use lib.Dec.{eqb}
 use Rattle.files.specs.Book.{boats}
 use Rattle.files.specs.Sheet.{files-refusal}
+use Rattle.method.specs.declared.Searched.{Searched}
 use Rattle.method.specs.Answers.{outcome}
 use Rattle.card_format.specs.Format.{card-shares, card-answer, run-card}
 use Rattle.card_format.specs.Checks.{check-refusal}
 use Rattle.listing.specs.Lines.{outcome-listing}
 
--- of a card's answer and shares, or of the number that refuses the files or the card; a list of 256 slots is long enough for any book
+-- what the check gives back: a card's answer, or the number that refuses the files or the card; a list of 256 slots is long enough for any book
+abbrev pub card-outcome : (book sheet card : List ℕ) → Searched
+card-outcome b s w = outcome (check-refusal b s w 256) (card-answer b s w)
+
+-- the listing of that and of the card's shares
 unfoldable pub card-listing : (book sheet card : List ℕ) → List ℕ
-card-listing b s w = outcome-listing b s (outcome (check-refusal b s w 256) (card-answer b s w)) (card-shares (boats b) w)
+card-listing b s w = outcome-listing b s (card-outcome b s w) (card-shares (boats b) w)
 
 -- the card of a search: no bytes where the files are refused
 unfoldable pub search-card : (book sheet : List ℕ) → List ℕ

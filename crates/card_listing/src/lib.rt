@@ -4,20 +4,25 @@
 ghost use mathlib.Core.Path.{_≡_};
 ghost use Prim.Native.Nat.{_≤_};
 ghost use lib.ListN.{length, take};
+ghost use Rattle.files.specs.Book.{boats};
 ghost use Rattle.files.specs.Sheet.{files-refusal};
 ghost use Rattle.method.specs.Answers.{slots-after};
+ghost use Rattle.method.specs.Promise.{Outcome-right};
 ghost use Rattle.card.specs.Filing.{written-size};
-ghost use Rattle.card_format.specs.Format.{run-card};
+ghost use Rattle.card.specs.Checking.{Check-right};
+ghost use Rattle.card_format.specs.Format.{card-shares, run-card};
 ghost use Rattle.text.specs.Texts.{Holds};
-ghost use Rattle.search_listing.specs.Searches.{search-listing};
-ghost use Rattle.card_listing.specs.Cards.{card-listing, search-card};
+ghost use Rattle.search_listing.specs.Searches.{search-outcome, search-shares, search-listing};
+ghost use Rattle.card_listing.specs.Cards.{card-outcome, card-listing, search-card};
 use card::Written;
 use text::Text;
 
 // ENTRY. The listing of a card's answer and shares, or of the number that refuses the files or the card.
-// The check vouches for the gap of the mixture, and not for the bound that a run of so many steps has.
+// The second clause says of what is listed all that `check_card` promises of it: the check vouches for the gap of the mixture, and not
+// for the bound that a run of so many steps has.
 pub fn card_text(book: &[u8], sheet: &[u8], filed: &[u8]) -> Text
     ensures { λ r. ⌜ Holds (card-listing (now (book .entry)) (now (sheet .entry)) (now (filed .entry))) r ⌝ }
+    ensures { λ _. ⌜ Check-right (now (book .entry)) (now (sheet .entry)) (now (filed .entry)) (card-outcome (now (book .entry)) (now (sheet .entry)) (now (filed .entry))) (card-shares (boats (now (book .entry))) (now (filed .entry))) ⌝ }
 {
     let mut shares = [0u16; 256];
     let outcome = card::check_card(book, sheet, filed, &mut shares);
@@ -53,6 +58,7 @@ pub struct Filing {
 pub fn filed_text(book: &[u8], sheet: &[u8], output: &mut [u8; 1060]) -> Filing
     ensures { λ r. ⌜ r .len ≡ length (search-card (now (book .entry)) (now (sheet .entry))) ⌝ }
     ensures { λ r. ⌜ Holds (search-listing (now (book .entry)) (now (sheet .entry))) (r .text) ⌝ }
+    ensures { λ _. ⌜ Outcome-right (now (book .entry)) (now (sheet .entry)) (search-outcome (now (book .entry)) (now (sheet .entry))) (search-shares (now (book .entry)) (now (sheet .entry))) ⌝ }
     ensures { λ _. ⌜ now (output .exit) ≡ slots-after (files-refusal (now (book .entry)) (now (sheet .entry))) (run-card (now (book .entry)) (now (sheet .entry))) (now (output .entry)) ⌝ }
 {
     let len = written_size(card::write_card(book, sheet, output));

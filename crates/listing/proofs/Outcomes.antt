@@ -1,13 +1,13 @@
 -- The listing of an outcome of a search or of a card check. Assumes nothing.
 use mathlib.Core.Path.{_≡_, refl, sym}
 use mathlib.Core.Bool.{false}
-use mathlib.Core.List.{List, []}
+use mathlib.Core.List.{List, [], append-nil}
 use Prim.Native.Nat.{ℕ, zero, suc, _≤_}
 use native.Mathlib.Omega.{arith}
 use borrow.Author.Tests.{le-ltb}
 use lib.Dec.{ltb, eqb·suc-zero}
 use lib.ListN.{length, take, drop}
-use lib.Seq.{take-at, take-all}
+use lib.Seq.{take-at, take-all, drop-length}
 use Rattle.files.specs.Book.{boats, columns}
 use Rattle.files.specs.Sheet.{sheet, files-refusal}
 use Rattle.files.proofs.Accepted.{files-accepted}
@@ -61,12 +61,21 @@ unfolding outcome slots-after outcome-listing
 same-listing b s slots qs a zero h = rw (take-at qs (drop (length qs) slots) (boats b) (h refl), take-all (boats b) qs (omega (arith, h refl)))
 same-listing b s slots qs a (suc n) h = refl
 
--- ---- The refusal of a share list of 256 slots, which is long enough
+-- ---- The refusal of a share list that is long enough
 
-refusal-is : (b s : List ℕ) (n : ℕ) → n ≡ files-refusal b s → search-refusal b s 256 ≡ n
+refusal-is : (b s : List ℕ) (n slots : ℕ) → n ≡ files-refusal b s → (n ≡ 0 → boats b ≤ slots) → search-refusal b s slots ≡ n
 unfolding search-refusal
-refusal-is b s zero e = let k : ltb 256 (boats b) ≡ false = le-ltb 256 (boats b) (few-boats b s (sym e)) in rw (← e, k)
-refusal-is b s (suc n) e = rw (← e, eqb·suc-zero n)
+refusal-is b s zero slots e h = let k : ltb slots (boats b) ≡ false = le-ltb slots (boats b) (h refl) in rw (← e, k)
+refusal-is b s (suc n) slots e h = rw (← e, eqb·suc-zero n)
+
+pub long-enough : (b s : List ℕ) (slots : ℕ) → (files-refusal b s ≡ 0 → boats b ≤ slots) → search-refusal b s slots ≡ files-refusal b s
+long-enough b s slots h = refusal-is b s (files-refusal b s) slots refl h
 
 pub same-refusal : (b s : List ℕ) → search-refusal b s 256 ≡ files-refusal b s
-same-refusal b s = refusal-is b s (files-refusal b s) refl
+same-refusal b s = long-enough b s 256 (few-boats b s)
+
+-- shares that are put into themselves
+pub after-itself : (n : ℕ) (qs : List ℕ) → slots-after n qs qs ≡ qs
+unfolding slots-after
+after-itself zero qs = rw (drop-length, append-nil)
+after-itself (suc n) qs = refl

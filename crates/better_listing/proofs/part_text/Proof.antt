@@ -21,7 +21,7 @@ card-text-requires : tie.Need-card-text-requires
 card-text-requires c κs = search needs
 
 returns-2 : tie.Need-returns-2
-returns-2 c = card-text _ _ _ (replicate 256 0) (c .before .if1 .left) (c .card-text .ensures)
+returns-2 c = card-text _ _ _ (replicate 256 0) (c .before .if1 .left) (c .card-text .ensures .0)
 
 pub part-text-spec : {M : Type 1} → statement M
 part-text-spec = tie.close (tie.spec outcome-listing-requires returns card-text-requires returns-2)

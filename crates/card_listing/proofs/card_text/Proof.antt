@@ -1,6 +1,7 @@
 -- `card_listing::card_text` meets its contract.
 use lib.ListN.{replicate}
-use Rattle.card_listing.proofs.Cards.{check-listable, check-listed}
+use Rattle.files.proofs.Numbers.{all-bytes-known}
+use Rattle.card_listing.proofs.Cards.{check-listable, check-listed, listed-right}
 use borrow.Author.Needs.{needs}
 use Rattle.card_listing.proofs.card_text.Statement.{statement}
 use Rattle.card_listing.proofs.card_text.Tie as tie
@@ -9,7 +10,10 @@ outcome-listing-requires : tie.Need-outcome-listing-requires
 outcome-listing-requires c κs = check-listable _ _ _ (replicate 256 0) (c .before .check-card .ensures .0)
 
 returns : tie.Need-returns
-returns c = check-listed _ _ _ (replicate 256 0) (c .before .before .check-card .ensures .0) (c .before .before .check-card .ensures .1 .0) (c .outcome-listing .ensures)
+returns c = (
+  check-listed _ _ _ (replicate 256 0) (c .before .before .check-card .ensures .0) (c .before .before .check-card .ensures .1 .0) (c .outcome-listing .ensures),
+  listed-right _ _ _ (all-bytes-known _ (c .before .before .before .before .shared-slice-known3 .given)),
+)
 
 pub card-text-spec : {M : Type 1} → statement M
 card-text-spec =

@@ -4,6 +4,7 @@ use Prim.Native.Nat.{_≤_}
 use native.Mathlib.Omega.{arith}
 use denote.Ref.{now}
 use lib.ListN.{length}
+use Rattle.search_listing.proofs.Searches.{listed-right}
 use Rattle.card_listing.proofs.Filed.{length-fits, filed-listed}
 use borrow.Author.Needs.{needs}
 use Rattle.card_listing.proofs.filed_text.Statement.{statement}
@@ -22,8 +23,10 @@ returns : tie.Need-returns
 returns c =
     let at-write = c .before .before .before .before in
     let x = at-write .before .before .before .before .args in
+    let p =
     filed-listed (now (x .book)) (now (x .sheet)) (now (x .output)) (search needs) (at-write .write-card .ensures .0) (c .before .before .before .written-size .ensures)
-    (at-write .write-card .ensures .1 .0) (c .first-text .ensures)
+    (at-write .write-card .ensures .1 .0) (c .first-text .ensures) in
+    (p .0, (p .1 .0, (listed-right _ _, p .1 .1)))
 
 pub filed-text-spec : {M : Type 1} → statement M
 filed-text-spec =

@@ -8,7 +8,7 @@ search-listing-requires : tie.Need-search-listing-requires
 search-listing-requires c κs = search needs
 
 returns : tie.Need-returns
-returns c = left-alone (c .before .search-listing .ensures) _ (c .if1 .taken)
+returns c = left-alone (c .before .search-listing .ensures .0) _ (c .if1 .taken)
 
 put-bytes-requires : tie.Need-put-bytes-requires
 put-bytes-requires c κs = search needs
@@ -17,7 +17,7 @@ same-length : tie.Need-same-length
 same-length c = search needs
 
 returns-2 : tie.Need-returns-2
-returns-2 c = put (c .before .before .before .before .before .before .search-listing .ensures) _ (c .before .before .before .before .before .if1 .left) (c .before .before .put-bytes .ensures)
+returns-2 c = put (c .before .before .before .before .before .before .search-listing .ensures .0) _ (c .before .before .before .before .before .if1 .left) (c .before .before .put-bytes .ensures)
 
 pub dofitrano-listing-spec : {M : Type 1} → statement M
 dofitrano-listing-spec =

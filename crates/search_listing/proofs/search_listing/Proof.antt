@@ -1,5 +1,5 @@
 -- `search_listing::search_listing` meets its contract.
-use Rattle.search_listing.proofs.Searches.{search-listable, search-listed}
+use Rattle.search_listing.proofs.Searches.{search-listable, search-listed, listed-right}
 use lib.ListN.{replicate}
 use borrow.Author.Needs.{needs}
 use Rattle.search_listing.proofs.search_listing.Statement.{statement}
@@ -9,7 +9,7 @@ outcome-listing-requires : tie.Need-outcome-listing-requires
 outcome-listing-requires c κs = search-listable _ _ (replicate 256 0) (c .before .search .ensures .0)
 
 returns : tie.Need-returns
-returns c = search-listed _ _ (replicate 256 0) (c .before .before .search .ensures .0) (c .before .before .search .ensures .1 .0) (c .outcome-listing .ensures)
+returns c = (search-listed _ _ (replicate 256 0) (c .before .before .search .ensures .0) (c .before .before .search .ensures .1 .0) (c .outcome-listing .ensures), listed-right _ _)
 
 pub search-listing-spec : {M : Type 1} → statement M
 search-listing-spec =
