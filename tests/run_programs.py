@@ -49,8 +49,8 @@ def content(files, name):
     return files.get(name) or b""
 
 
-def run(program, files, read_only=False, arguments=()):
-    """Standard output, standard error and the files of the folder afterwards."""
+def run(program, files, read_only=False, arguments=(), output=subprocess.PIPE):
+    """Standard output, standard error and the files of the folder afterwards. A program's exit status is 0 whatever happens."""
     folder = tempfile.mkdtemp()
     try:
         for name, data in files.items():
@@ -63,7 +63,7 @@ def run(program, files, read_only=False, arguments=()):
         command = [os.path.abspath(program), *arguments]
         if read_only:
             command = ["sh", "-c", "ulimit -f 0; trap '' XFSZ; exec " + command[0]]
-        done = subprocess.run(command, cwd=folder, stdout=subprocess.PIPE, stderr=subprocess.PIPE, check=False)
+        done = subprocess.run(command, cwd=folder, stdout=output, stderr=subprocess.PIPE, check=program != MIXREPORT)
         left = {}
         for name in os.listdir(folder):
             path = os.path.join(folder, name)
@@ -92,6 +92,17 @@ def unread(files):
     """What standard error says of files that cannot be read."""
     return b"".join(name.encode() + b": could not be read whole\n"
                     for name in ("fleet.wbk", "sheet.wsh", "card.wcd", "first.wcd", "second.wcd") if name in files and files[name] is FOLDER)
+
+
+def check_output(program, runs):
+    """Standard output takes no byte: standard error says so, and what is filed is filed all the same."""
+    _, _, length, written = exact.write_card(BOOK, SHEET, bytes(1060))
+    card = written[:length]
+    before = {"fleet.wbk": BOOK, "sheet.wsh": SHEET, "card.wcd": card, "first.wcd": card, "second.wcd": card}
+    after = dict(before, **{"better.wcd": card}) if os.path.basename(program) == "mixbetter" else before
+    with open("/dev/full", "wb") as full:
+        _, err, left = run(program, before, output=full)
+    runs.expect("%s, no standard output" % os.path.basename(program), (err, left) == (b"standard output: could not be written whole\n", after))
 
 
 def check_mixlist(program, runs):
@@ -197,6 +208,8 @@ def main(arguments):
         program = os.path.join(arguments[0], name)
         if os.path.exists(program):
             check(program, runs)
+            if check is not check_report and os.path.exists("/dev/full"):
+                check_output(program, runs)
     print("%d runs passed, %d failed" % (runs.passed, runs.failed))
     return 1 if runs.failed else 0
 

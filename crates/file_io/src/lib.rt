@@ -105,11 +105,13 @@ pub fn replace_file(path: &[u8], content: &[u8]) -> bool {
     replace_by(path, &mut bytes[..len], content)
 }
 
-// Prints a text.
+// Prints a text. Where standard output does not take all of it, standard error says so.
 pub fn print(t: Text)
     requires { ⌜ t .len ≤ 4096 ⌝ }
 {
     let bytes = t.bytes;
     let len = t.len;
-    io::write_all(STDOUT_FILENO, &bytes[..len]);
+    if !io::write_all(STDOUT_FILENO, &bytes[..len]) {
+        tell(b"standard output", b": could not be written whole\n");
+    }
 }

@@ -13,4 +13,12 @@ slice-aggregate-write-all c = text-counts (c .before .before .args .t) (search n
 pub print-spec : {M : Type 1} → statement M
 print-spec =
     tie.close
-    (tie.spec array-share-prefix-bytes slice-aggregate-write-all (λ c κs. search needs) (λ c. search needs))
+    (tie.spec
+    array-share-prefix-bytes
+    slice-aggregate-write-all
+    (λ c κs. search needs)
+    (λ c. search needs)
+    (λ c. search needs)
+    (λ c κs. search needs)
+    (λ c. search needs)
+    (λ c. search needs))
