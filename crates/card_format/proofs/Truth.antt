@@ -13,7 +13,7 @@ use Rattle.files.specs.Bytes.{all-bytes, same, between, length-in-range, traile
 use Rattle.files.specs.Book.{columns, boats}
 use Rattle.files.specs.Sheet.{sheet, files-refusal}
 use Rattle.files.proofs.Refusal.{and-true, between-true}
-use Rattle.files.proofs.Accepted.{files-accepted}
+use Rattle.files.proofs.Accepted.{passed, passed-last, files-accepted}
 use Rattle.method.specs.declared.Test.{Test}
 use Rattle.method.specs.declared.Test.the-variants.{Former, Sharper}
 use Rattle.method.specs.declared.Verdict.{Verdict}
@@ -46,14 +46,6 @@ pub record Passed (b s w : List ℕ) : Type 0 where
   pub totals : shares-total fixed (pair-count w) (card-shares (boats b) w) (card-fields w .steps) ≡ true
   pub numbers : numbers-agree (sheet s .steps) w (card-answer b s w) ≡ true
   pub tolerance : eqb (card-fields w .tolerance) (sheet s .tolerance) ≡ true
-
-pub passed : (g : Bool) (k x : ℕ) → cond (not g) (suc k) x ≡ 0 → (g ≡ true) × (x ≡ 0)
-passed true k x e = (refl, e)
-passed false k x e = absurd (omega arith)
-
-passed-last : (g : Bool) (k : ℕ) → cond g 0 (suc k) ≡ 0 → g ≡ true
-passed-last true k e = refl
-passed-last false k e = absurd (omega arith)
 
 -- the first of two numbers that is not 0 is 0
 pub both-zero : (m n : ℕ) → cond (eqb m 0) n m ≡ 0 → (m ≡ 0) × (n ≡ 0)

@@ -8,10 +8,11 @@ use native.Mathlib.Numerals.{add-one}
 use borrow.Author.Tests.{ltb-true, le-leb, lt-leb, lt-ltb, le-ltb, not-true, not-false}
 use lib.Dec.{leb, ltb}
 use lib.ListN.{length, getD, take, drop, set, replicate, length-set, drop-of-length-le}
-use lib.Seq.{drop-drop, drop-cons, take-nil, getD-take, length-take-le}
+use lib.Seq.{drop-drop, drop-cons, getD-take, length-take-le}
 use Rattle.frank_wolfe.specs.Vectors.{sum}
 use Rattle.files.specs.Bytes.{number}
 use Rattle.files.proofs.Numbers.{number-2}
+use Rattle.files.proofs.Rows.{drop-take}
 use Rattle.files.proofs.Refusal.{and-true}
 use Rattle.card_format.specs.Format.{shares-into}
 use Rattle.card_format.specs.Checks.{pairs-in-order}
@@ -126,11 +127,6 @@ module _ {w : List ℕ} {at count i : ℕ} {now : List ℕ} (d : Taking w at cou
 
 number-take : (a m : ℕ) (bs : List ℕ) → a + 2 ≤ m → number a 2 (take m bs) ≡ number a 2 bs
 number-take a m bs h = rw (number-2 a (take m bs), number-2 a bs, getD-take m bs a 0 (omega arith), getD-take m bs (a + 1) 0 (omega arith))
-
-drop-take : (a m : ℕ) (bs : List ℕ) → drop a (take (a + m) bs) ≡ take m (drop a bs)
-drop-take zero m bs = let e : 0 + m ≡ m = omega arith in rw e
-drop-take (suc a) m [] = ap (drop (suc a)) (take-nil (suc a + m)) ∙ sym (take-nil m)
-drop-take (suc a) m (x ∷ bs) = let e : suc a + m ≡ suc (a + m) = omega arith in rw e (drop-take a m bs)
 
 pub order-take : (k next n : ℕ) (bs : List ℕ) → pairs-in-order k next n (take (4 * k) bs) ≡ pairs-in-order k next n bs
 order-take zero next n bs = order-none next n (take (4 * 0) bs) ∙ sym (order-none next n bs)

@@ -12,6 +12,7 @@ use Rattle.files.specs.Bytes.{number, between, length-in-range}
 use Rattle.files.specs.Book.{boats}
 use Rattle.files.specs.Sheet.{sheet, files-refusal}
 use Rattle.files.proofs.Refusal.{and-true, between-true}
+use Rattle.files.proofs.Accepted.{passed}
 use Rattle.method.specs.declared.Test.{Test}
 use Rattle.method.specs.declared.Test.the-variants.{Former, Sharper}
 use Rattle.method.specs.declared.Answer.{Answer}
@@ -24,7 +25,7 @@ use Rattle.iteration.proofs.States.{book-fits, sheet-fits}
 use Rattle.card_format.specs.Format.{card-fields, lettered, card-test, card-body, pair-count}
 use Rattle.card_format.specs.Checks.{back-fits, pairs-in-order, counts-agree, steps-fit, form-refusal, shares-total, numbers-agree, truth-refusal}
 use Rattle.method.specs.Bounds.{answer-of}
-use Rattle.card_format.proofs.Truth.{passed, Back-fits, back-means}
+use Rattle.card_format.proofs.Truth.{Back-fits, back-means}
 use Rattle.card_input.proofs.Reading.{tolerance-at}
 use Rattle.card_truth.specs.Truth.{Card-readable}
 

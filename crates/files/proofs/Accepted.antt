@@ -18,7 +18,7 @@ use Rattle.files.proofs.Rows.{length-values, length-rows-from, rows-fla
 use Rattle.files.proofs.Refusal.{and-true, between-true}
 
 -- a refusal of 0 passed its first test
-passed : (g : Bool) (k x : ℕ) → cond (not g) (suc k) x ≡ 0 → (g ≡ true) × (x ≡ 0)
+pub passed : (g : Bool) (k x : ℕ) → cond (not g) (suc k) x ≡ 0 → (g ≡ true) × (x ≡ 0)
 passed true k x e = (refl, e)
 passed false k x e = absurd (omega arith)
 
@@ -26,7 +26,7 @@ passed-not : (g : Bool) (k x : ℕ) → cond g (suc k) x ≡ 0 → (g ≡ false)
 passed-not true k x e = absurd (omega arith)
 passed-not false k x e = (refl, e)
 
-passed-last : (g : Bool) (k : ℕ) → cond g 0 (suc k) ≡ 0 → g ≡ true
+pub passed-last : (g : Bool) (k : ℕ) → cond g 0 (suc k) ≡ 0 → g ≡ true
 passed-last true k e = refl
 passed-last false k e = absurd (omega arith)
 

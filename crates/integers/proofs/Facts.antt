@@ -125,10 +125,3 @@ lt-scale k a b hk =
     (λ h. derive-times (k ∷ a ∷ b ∷ []) x₀ (x₁ ≺ x₂) (<ℤ→≤ℤ hk) (known (x₀ ⊗ x₁ ≺ x₀ ⊗ x₂) (record { lt = h })) tt .lt)
     (λ h. derive (k ∷ a ∷ b ∷ []) (x₀ ⊗ x₁ ≺ x₀ ⊗ x₂)
     (known (con (pos 0) ≼ x₀) (<ℤ→≤ℤ hk) ⊡ known (x₁ ≺ x₂) (record { lt = h }) ⊞ known (con (pos 0) ≺ x₀) hk) tt .lt)
-
--- a term changes sides
-pub lt-move : (a b c : ℤ) → ltZ a (b -ℤ c) ≡ ltZ (a +ℤ c) b
-lt-move a b c =
-    same-test (ltZ a (b -ℤ c)) (ltZ (a +ℤ c) b)
-    (λ h. derive (a ∷ b ∷ c ∷ []) (x₀ ⊕ x₂ ≺ x₁) (known (x₀ ≺ x₁ ⊝ x₂) (record { lt = h })) tt .lt)
-    (λ h. derive (a ∷ b ∷ c ∷ []) (x₀ ≺ x₁ ⊝ x₂) (known (x₀ ⊕ x₂ ≺ x₁) (record { lt = h })) tt .lt)

@@ -29,9 +29,6 @@ use Rattle.verdicts.specs.Sizes.{Judgeable}
 use Rattle.iteration.specs.Measures.{gap-by, measure}
 use Rattle.iteration.proofs.States.{sheet-fits}
 
-zero-≤ : (n : ℕ) → 0 ≤ n
-zero-≤ n = omega arith
-
 module _ (b s : List ℕ) (ok : files-refusal b s ≡ 0) {t : ℕ} {x : Iterate} (some : 1 ≤ t) (few : t ≤ 360) (m : Mixed (plain-problem b s) t x) where
   abbrev u : List ℤ
   u = sheet s .target
@@ -85,7 +82,7 @@ module _ (b s : List ℕ) (ok : files-refusal b s ≡ 0) {t : ℕ} {x : Iterate}
         few-shares = weight-most few;
         first = rw (← target-score) (score-most (well-formed b s ok) (in-range b s ok) m u (in-range b s ok .target-bounded));
         second = least-size;
-        sign = rw gap-integer (≤→≤ℤ (zero-≤ (gap (plain-problem b s) t x)));
+        sign = rw gap-integer (≤→≤ℤ {m = 0} {n = gap (plain-problem b s) t x} (omega arith));
       }
 
   pub mixed-judged : Judgeable (sheet s .tolerance) w (squared-norm r) (natural (gap-by w r u (minimum (M.scores (ones (columns b)) r (rows b)))))

@@ -206,9 +206,6 @@ module _ {p : Problem} (h : Well-formed p) (f : In-range p) {t : ℕ} {x : Itera
   pub score-most : (v : List ℤ) → Bounded 2000 v → natAbs (weighted (p .factors) (residual p t x) v) ≤ 512000000 * total
   score-most v b = le-trans (residual-product 2000 v b) (omega arith)
 
-  pub point-score-most : natAbs (weighted (p .factors) (residual p t x) (x .point)) ≤ 512000000 * (total * total)
-  point-score-most = le-trans (residual-product (2000 * total) (x .point) (point-bounded f m)) (omega arith)
-
   pub distance-most : distance p t x ≤ 1024000000 * (total * total)
   unfolding distance
   distance-most = le-trans (factors-most _ _ _ (f .few-factors) (weighted-norm-bound (p .factors) (4000 * total) (residual p t x) (residual-bounded f m))) (omega arith)

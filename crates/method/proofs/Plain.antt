@@ -1,7 +1,7 @@
 -- An accepted fleet book and sheet with every factor 1: what the code needs of its iterates.
 use mathlib.Core.Path.{_≡_}
 use mathlib.Core.List.{List}
-use Prim.Native.Nat.{ℕ, _*_, _≤_, _<_}
+use Prim.Native.Nat.{ℕ, _*_, _≤_}
 use native.Mathlib.Omega.{arith}
 use lib.IntN.{pos, natAbs}
 use lib.ListN.{length, getD}
@@ -13,8 +13,7 @@ use Rattle.frank_wolfe.proofs.Vectors.{sum-ones}
 use Rattle.method.specs.Problem.{fixed, weight}
 use Rattle.method.specs.Plain.{plain-problem}
 use Rattle.method.specs.Iterates.{residual, iterate}
-use Rattle.method.proofs.Weights.{weight-most}
-use Rattle.method.proofs.Shares.{Mixed, mixed-length, mixed-share}
+use Rattle.method.proofs.Shares.{Mixed, mixed-length}
 use Rattle.method.proofs.Mixtures.{Well-formed, In-range, length-residual, residual-bounded}
 use Rattle.method.proofs.Accepted.{well-formed-with, in-range-with, mixed-with, share-count-with}
 
@@ -45,7 +44,3 @@ module _ (b s : List ℕ) (ok : files-refusal b s ≡ 0) where
   pub share-count : (t : ℕ) → length (iterate (plain-problem b s) t .shares) ≡ boats b
   unfolding plain-problem
   share-count = share-count-with b s ok (ones (columns b)) few-ones
-
-  pub share-below : (t i : ℕ) → t ≤ 360 → getD (iterate (plain-problem b s) t .shares) i 0 < 65536
-  unfolding plain-problem
-  share-below t i h = omega (arith, mixed-share (mixed t) i, weight-most h)

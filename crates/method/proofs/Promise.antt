@@ -31,7 +31,7 @@ run-right b s ok =
       small-gap = small-gap (well-formed b s ok);
     }
 
-run-share-count : (b s : List ℕ) → files-refusal b s ≡ 0 → length (run-iterate (problem b s) .shares) ≡ boats b
+pub run-share-count : (b s : List ℕ) → files-refusal b s ≡ 0 → length (run-iterate (problem b s) .shares) ≡ boats b
 unfolding run-iterate
 run-share-count b s ok = share-count b s ok (steps-used (problem b s))
 

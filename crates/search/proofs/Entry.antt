@@ -14,8 +14,7 @@ use Rattle.method.specs.declared.Searched.the-variants.{Refused, Answered}
 use Rattle.method.specs.Problem.{problem}
 use Rattle.method.specs.Answers.{outcome, search-refusal, slots-after, run-answer, run-iterate}
 use Rattle.method.specs.Promise.{Outcome-right}
-use Rattle.method.proofs.Accepted.{share-count}
-use Rattle.method.proofs.Promise.{outcome-right}
+use Rattle.method.proofs.Promise.{run-share-count, outcome-right}
 
 module _ (b s slots : List ℕ) where
   -- what a search gives back and leaves in the list, by the refusal number
@@ -46,12 +45,8 @@ module _ (b s slots : List ℕ) where
     unfolding search-refusal outcome slots-after
     refused-short h = let k : ltb (length slots) (boats b) ≡ true = rw (← en) (lt-ltb (length slots) n h) in promised (rw (ok, k) (refl, refl))
 
-    shares-length : length (run-iterate (problem b s) .shares) ≡ boats b
-    unfolding run-iterate
-    shares-length = share-count b s ok _
-
     pub answered : n ≤ length slots → {a : Answer} → a ≡ run-answer (problem b s) → {now : List ℕ} → now ≡ run-iterate (problem b s) .shares ++ drop (boats b) slots → Promises (Answered a) now
     unfolding search-refusal outcome slots-after
     answered h ea e =
         let k : ltb (length slots) (boats b) ≡ false = rw (← en) (le-ltb (length slots) n h) in
-        promised (rw (ok, k) (ap Answered ea, e ∙ rw shares-length))
+        promised (rw (ok, k) (ap Answered ea, e ∙ rw (run-share-count b s ok)))
