@@ -1,3 +1,4 @@
 -- The laws of this crate.
 pub mod Kept
 pub mod Counting
+pub mod Rows
