@@ -1,7 +1,7 @@
--- The front text of a book that is made of a CSV. Definitions only.
+-- A file with front text that is made of a CSV. Definitions only.
 use mathlib.Core.Bool.{Bool, true, cond}
 use mathlib.Core.List.{List, [], _∷_, _++_}
-use Prim.Native.Nat.{ℕ}
+use Prim.Native.Nat.{ℕ, _-_}
 use lib.Dec.{eqb, leb}
 use lib.ListN.{length, drop}
 use Rattle.csv.specs.declared.Mode.{Mode}
@@ -11,6 +11,7 @@ use Rattle.book_csv.specs.declared.Table.{Table}
 use Rattle.book_csv.specs.Table.{start, after}
 use Rattle.csv_front.specs.declared.Front.{Front}
 use Rattle.csv_front.specs.declared.Front.the-variants.{Whole, Names, Nothing}
+use Rattle.csv_front.specs.declared.Written.{Written}
 
 -- whether a byte with this token is no part of a value, nor a separator before one: it stands in the line of the column names, in that
 -- of the units or in the first field of a line, or it ends a line
@@ -37,3 +38,13 @@ unfoldable pub front-text : Front → List ℕ → List ℕ
 front-text Whole csv = csv
 front-text Names csv = names-text csv
 front-text Nothing csv = []
+
+-- beside a file, since both together have at most 40,000 bytes
+unfoldable pub file-front : (csv file : List ℕ) → Front
+file-front csv file = front-of (40000 - length file) csv
+
+unfoldable pub with-front : (csv file : List ℕ) → List ℕ
+with-front csv file = front-text (file-front csv file) csv ++ file
+
+unfoldable pub written-of : (csv file : List ℕ) → Written
+written-of csv file = record { front = file-front csv file; len = length (with-front csv file) }

@@ -1,11 +1,11 @@
-// The front text of a book that is made of a CSV: the CSV itself, or the CSV without its values, or nothing.
+// A file with front text that is made of a CSV: the CSV itself, or the CSV without its values, or nothing.
 //
-// Helpers for other crates, whose callers prove what they require: put_bytes, front_of, put_front.
+// Helpers for other crates, whose callers prove what they require: put_bytes, put_with_front.
 ghost use mathlib.Core.Path.{_≡_};
 ghost use Prim.Native.Nat.{_+_, _≤_};
 ghost use lib.ListN.{length};
 ghost use Rattle.card_output.specs.Output.{placed};
-ghost use Rattle.csv_front.specs.Front.{is-kept, kept-byte, names-text, front-of, front-text};
+ghost use Rattle.csv_front.specs.Front.{is-kept, kept-byte, names-text, front-of, front-text, with-front, written-of};
 use book_csv::Table;
 use csv::Mode;
 
@@ -14,6 +14,12 @@ pub enum Front {
     Whole,
     Names,
     Nothing,
+}
+
+// What was put into a buffer: which front text, and how many bytes with the file.
+pub struct Written {
+    pub front: Front,
+    pub len: usize,
 }
 
 // Bytes from `at` on.
@@ -77,8 +83,8 @@ fn names_size(csv: &[u8]) -> usize
     n
 }
 
-// What of a CSV has room.
-pub fn front_of(csv: &[u8], room: usize) -> Front
+// Which front text there is room for.
+fn front_of(csv: &[u8], room: usize) -> Front
     requires { ⌜ length (now csv) ≤ 200000 ⌝ }
     ensures { λ r. ⌜ r ≡ front-of room (now (csv .entry)) ⌝ }
 {
@@ -129,7 +135,7 @@ fn put_names(csv: &[u8], output: &mut [u8]) -> usize
 }
 
 // Puts the front text, from the first byte on; gives back how many bytes it has.
-pub fn put_front(csv: &[u8], output: &mut [u8], front: Front) -> usize
+fn put_front(csv: &[u8], output: &mut [u8], front: Front) -> usize
     requires { ⌜ length (now csv) ≤ 200000 ⌝ }
     requires { ⌜ length (front-text front (now csv)) ≤ length (now output) ⌝ }
     ensures { λ r. ⌜ r ≡ length (front-text front (now (csv .entry))) ⌝ }
@@ -142,5 +148,22 @@ pub fn put_front(csv: &[u8], output: &mut [u8], front: Front) -> usize
         }
         Front::Names => put_names(csv, output),
         Front::Nothing => 0,
+    }
+}
+
+// Puts a file with the front text that there is room for, from the first byte on.
+pub fn put_with_front(csv: &[u8], output: &mut [u8], file: &[u8]) -> Written
+    requires { ⌜ length (now csv) ≤ 200000 ⌝ }
+    requires { ⌜ length (now file) ≤ 40000 ⌝ }
+    requires { ⌜ 40000 ≤ length (now output) ⌝ }
+    ensures { λ r. ⌜ r ≡ written-of (now (csv .entry)) (now (file .entry)) ⌝ }
+    ensures { λ _. ⌜ now (output .exit) ≡ placed (now (output .entry)) 0 (with-front (now (csv .entry)) (now (file .entry))) ⌝ }
+{
+    let front = front_of(csv, 40000 - file.len());
+    let at = put_front(csv, output, front);
+    put_bytes(output, at, file);
+    Written {
+        front,
+        len: at + file.len(),
     }
 }

@@ -70,7 +70,7 @@ module _ (csv : List ℕ) (w : Whole csv) where
   abbrev c : ℕ
   c = last-table csv .columns
 
-  boats-long : length (fleet-rows csv) ≡ n
+  pub boats-long : length (fleet-rows csv) ≡ n
   unfolding fleet-rows
   boats-long = rows-count n c (fleet-values csv)
 
