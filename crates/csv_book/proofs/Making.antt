@@ -111,25 +111,26 @@ abbrev Done : (csv out : List ℕ) → Made → (new : List ℕ) → Type 0
 Done csv out r new = (r ≡ book-made (length out) csv) × ((new ≡ output-by (r .fault) csv out) × Book-right csv r (take (r .len) new))
 
 module _ (csv out : List ℕ) where
-  pub no-room : length out < 40000 → {r : Made} → r ≡ nothing-made 11 0 0 → Done csv out r out
+  pub no-room : length out < 40000 → {r : Made} → r ≡ nothing-made 11 0 0 0 0 → Done csv out r out
   unfolding book-made output-by Book-right-by
   no-room h e = rw e (rw (lt-ltb (length out) 40000 h), (refl, refl))
 
   module _ (h : 40000 ≤ length out) where
-    pub too-big : 200000 < length csv → {r : Made} → r ≡ nothing-made 10 0 0 → Done csv out r out
+    pub too-big : 200000 < length csv → {r : Made} → r ≡ nothing-made 10 0 0 0 0 → Done csv out r out
     unfolding book-made output-by Book-right-by
     too-big k e = rw e (rw (le-ltb (length out) 40000 h, lt-ltb 200000 (length csv) k), (refl, refl))
 
     module _ (k : length csv ≤ 200000) {t : Table} (et : t ≡ last-table csv) where
-      not-made : (f : ℕ) → (f ≡ 0 → ⊥) → (l p : ℕ) → l ≡ last-line csv → p ≡ last-table csv .field → (_≡_ {A = Made} (nothing-made f l p) (made-by f csv)) × ((out ≡ output-by f csv out) × Book-right-by f csv (nothing-made f l p) [])
+      not-made : (f : ℕ) → (f ≡ 0 → ⊥) → (l : ℕ) → l ≡ last-line csv →
+          (_≡_ {A = Made} (nothing-made f l (t .field) (t .boats) (t .columns)) (made-by f csv)) × ((out ≡ output-by f csv out) × Book-right-by f csv (nothing-made f l (t .field) (t .boats) (t .columns)) [])
       unfolding made-by output-by Book-right-by
-      not-made zero n l p el ep = absurd (n refl)
-      not-made (suc f) n l p el ep = (rw (el, ep), (refl, refl))
+      not-made zero n l el = absurd (n refl)
+      not-made (suc f) n l el = (rw (el, et), (refl, refl))
 
-      pub with-fault : (t .fault ≡ 0 → ⊥) → {l : ℕ} → l ≡ last-line csv → {r : Made} → r ≡ nothing-made (t .fault) l (t .field) → Done csv out r out
+      pub with-fault : (t .fault ≡ 0 → ⊥) → {l : ℕ} → l ≡ last-line csv → {r : Made} → r ≡ nothing-made (t .fault) l (t .field) (t .boats) (t .columns) → Done csv out r out
       unfolding book-made
       with-fault n {l} el e =
-          let p = not-made (t .fault) n l (t .field) el (rw et) in
+          let p = not-made (t .fault) n l el in
           rw (e, le-ltb (length out) 40000 h, le-ltb 200000 (length csv) k, ← et) (p .0, (p .1 .0, p .1 .1))
 
       pub with-book : t .fault ≡ 0 → {file : List ℕ} → file ≡ bare-book csv → {w : Written} → w ≡ written-of csv file → {new : List ℕ} → new ≡ placed out 0 (with-front csv file) →

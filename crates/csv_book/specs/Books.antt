@@ -19,8 +19,8 @@ bare-book csv = book-bytes (fleet-rows csv) (last-table csv .columns)
 unfoldable pub csv-book : List ℕ → List ℕ
 csv-book csv = with-front csv (bare-book csv)
 
-abbrev pub nothing-made : (fault line field : ℕ) → Made
-nothing-made f l p = record { fault = f; line = l; field = p; len = 0; boats = 0; columns = 0; front = Nothing }
+abbrev pub nothing-made : (fault line field boats columns : ℕ) → Made
+nothing-made f l p n c = record { fault = f; line = l; field = p; len = 0; boats = n; columns = c; front = Nothing }
 
 -- by the fault of the table; 0 is none
 unfoldable pub made-by : (fault : ℕ) → List ℕ → Made
@@ -34,11 +34,11 @@ made-by zero csv =
       columns = last-table csv .columns;
       front = file-front csv (bare-book csv);
     }
-made-by (suc f) csv = nothing-made (suc f) (last-line csv) (last-table csv .field)
+made-by (suc f) csv = nothing-made (suc f) (last-line csv) (last-table csv .field) (last-table csv .boats) (last-table csv .columns)
 
 -- 11 for a buffer that is too short, then 10 for a CSV that is too long, then the fault of the table
 unfoldable pub book-made : (room : ℕ) → List ℕ → Made
-book-made room csv = cond (ltb room 40000) (nothing-made 11 0 0) (cond (ltb 200000 (length csv)) (nothing-made 10 0 0) (made-by (last-table csv .fault) csv))
+book-made room csv = cond (ltb room 40000) (nothing-made 11 0 0 0 0) (cond (ltb 200000 (length csv)) (nothing-made 10 0 0 0 0) (made-by (last-table csv .fault) csv))
 
 -- the buffer after the call: as it was where there is a fault
 unfoldable pub output-by : (fault : ℕ) → (csv output : List ℕ) → List ℕ

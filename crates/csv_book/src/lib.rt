@@ -13,7 +13,8 @@ pub const BIG: u32 = 10;
 pub const ROOM: u32 = 11;
 
 // What was made: a book of `len` bytes with so many boats and columns, and this of the CSV in front of it. Where there is a fault, no byte
-// is written, the fault's place is a line and a field of the CSV, or 0 and 0 where no line was read, and the rest is 0.
+// is written, the fault's place is a line and a field of the CSV, or 0 and 0 where no line was read, and the boats and columns are
+// those that were read before it.
 pub struct Made {
     pub fault: u32,
     pub line: usize,
@@ -24,16 +25,16 @@ pub struct Made {
     pub front: Front,
 }
 
-fn nothing(fault: u32, line: usize, field: usize) -> Made
-    ensures { λ r. ⌜ r ≡ nothing-made fault line field ⌝ }
+fn nothing(fault: u32, line: usize, field: usize, boats: usize, columns: usize) -> Made
+    ensures { λ r. ⌜ r ≡ nothing-made fault line field boats columns ⌝ }
 {
     Made {
         fault,
         line,
         field,
         len: 0,
-        boats: 0,
-        columns: 0,
+        boats,
+        columns,
         front: Front::Nothing,
     }
 }
@@ -45,16 +46,22 @@ pub fn csv_book(csv: &[u8], output: &mut [u8]) -> Made
     ensures { λ r. ⌜ Book-right (now (csv .entry)) r (take (r .len) (now (output .exit))) ⌝ }
 {
     if output.len() < 40000 {
-        return nothing(ROOM, 0, 0);
+        return nothing(ROOM, 0, 0, 0, 0);
     }
     if 200000 < csv.len() {
-        return nothing(BIG, 0, 0);
+        return nothing(BIG, 0, 0, 0, 0);
     }
     let mut book = [0u8; 32780];
     let fleet = fleet_csv::read_fleet(csv, &mut book);
     let table = fleet.table;
     if table.fault != 0 {
-        return nothing(table.fault, fleet.line, table.field);
+        return nothing(
+            table.fault,
+            fleet.line,
+            table.field,
+            table.boats,
+            table.columns,
+        );
     }
     let body = 2 * fleet.values;
     book_output::put_book_trailer(&mut book, body, table.boats, table.columns);

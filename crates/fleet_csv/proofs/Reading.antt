@@ -110,11 +110,11 @@ mark-inside bs = by (ltb (length bs) 3) refl (eqb (getD bs 0 0) 239) (eqb (getD 
     by false e true false c = omega arith
     by false e false b c = omega arith
 
-next-tokens : (sep : ℕ) (m : Mode) (bs : List ℕ) (i : ℕ) → i < length bs → {s : Step} → s ≡ step sep m (getD bs i 0) → tokens sep m (drop i bs) ≡ s .token ∷ tokens sep (s .mode) (drop (i + 1) bs)
+pub next-tokens : (sep : ℕ) (m : Mode) (bs : List ℕ) (i : ℕ) → i < length bs → {s : Step} → s ≡ step sep m (getD bs i 0) → tokens sep m (drop i bs) ≡ s .token ∷ tokens sep (s .mode) (drop (i + 1) bs)
 unfolding tokens
 next-tokens sep m bs i h e = ap (tokens sep m) (drop-cons bs i 0 h) ∙ rw (e, add-one)
 
-last-token : (sep : ℕ) (m : Mode) (bs : List ℕ) (i : ℕ) → length bs ≤ i → tokens sep m (drop i bs) ≡ ending m ∷ []
+pub last-token : (sep : ℕ) (m : Mode) (bs : List ℕ) (i : ℕ) → length bs ≤ i → tokens sep m (drop i bs) ≡ ending m ∷ []
 unfolding tokens
 last-token sep m bs i h = ap (tokens sep m) (drop-of-length-le bs {i = i} h)
 

@@ -1,6 +1,6 @@
 // A fleet read from a whole CSV: its values are put into a buffer while it is read.
 //
-// A helper for other crates, whose callers prove that there is room: read_fleet.
+// Helpers for other crates, whose callers prove what they require: read_fleet, next_number.
 ghost use mathlib.Core.Path.{_≡_};
 ghost use Prim.Native.Nat.{_+_, _*_, _≤_, _<_};
 ghost use lib.ListN.{length};
@@ -73,7 +73,8 @@ fn put_value(rows: &mut [u8], n: usize, table: Table, token: u32) -> usize
     n
 }
 
-fn next_number(line: usize, fault: u32, token: u32) -> usize
+// The number of the line after a token; a fault keeps its line.
+pub fn next_number(line: usize, fault: u32, token: u32) -> usize
     requires { ⌜ line < 9223372036854775808 ⌝ }
     ensures { λ r. ⌜ r ≡ next-number line fault token ⌝ }
     ensures { λ r. ⌜ r ≤ line + 1 ⌝ }
