@@ -1,5 +1,5 @@
 #!/usr/bin/env python3
-"""See that each program is one call of a function that program_test drives through its folders.
+"""See that each program is one call of a function that a test program drives through its folders.
 
 A program is run in one folder, where one that prints a constant text would pass. So its work is a function of a folder's name,
 and its main calls that function on the current folder, which has no name, and does nothing else.
@@ -9,11 +9,13 @@ import sys
 
 CRATES = os.path.join(os.path.dirname(os.path.abspath(__file__)), "..", "crates")
 
+# the function of each program, and the call of it in the test program
 PROGRAMS = {
-    "mixlist": "search_folder::list_search",
-    "mixcard": "card_folder::file_card",
-    "mixcheck": "card_folder::check_card",
-    "mixbetter": "better_folder::file_better",
+    "mixlist": ("search_folder::list_search", "program_test", "folder"),
+    "mixcard": ("card_folder::file_card", "program_test", "folder"),
+    "mixcheck": ("card_folder::check_card", "program_test", "folder"),
+    "mixbetter": ("better_folder::file_better", "program_test", "folder"),
+    "mixbook": ("book_folder::file_book", "book_test", "name"),
 }
 
 
@@ -24,14 +26,13 @@ def code(crate):
 
 
 def main():
-    tested = code("program_test")
     faults = 0
-    for program, function in PROGRAMS.items():
+    for program, (function, test, argument) in PROGRAMS.items():
         if code(program) != 'fn main() { %s(b""); }' % function:
             print("%s: crates/%s/src/main.rt is not one call of %s" % (program, program, function))
             faults += 1
-        if "%s(folder);" % function not in tested:
-            print("%s: crates/program_test/src/main.rt does not call %s" % (program, function))
+        if "%s(%s);" % (function, argument) not in code(test):
+            print("%s: crates/%s/src/main.rt does not call %s" % (program, test, function))
             faults += 1
     print("programs: %d, faults: %d" % (len(PROGRAMS), faults))
     return 1 if faults else 0

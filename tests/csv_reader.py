@@ -9,6 +9,7 @@ import io
 import re
 
 LONG, NAMELESS, COLUMNLESS, MANY, FEW, NOT_WHOLE, OUT_OF_RANGE, BOATS, BOATLESS, STRAY, OPEN = 1, 2, 3, 4, 5, 6, 7, 8, 9, 260, 261
+BIG, ROOM = 10, 11
 
 MOST_BYTES, MOST_FIELD, MOST_BOATS, MOST_COLUMNS, MOST_VALUE = 200000, 200, 256, 64, 2000
 
@@ -148,8 +149,8 @@ class Table:
         self.lines += 1
 
 
-def fleet(data):
-    """(table, None) of a fleet without fault, else (None, (kind, line, field))."""
+def read(data):
+    """(table, fault) of a fleet: what was read of it, and the first fault (kind, line, field) or None."""
     text = latin(data)
     mark = separator(text)
     lines, partial, kind = parsed(text, mark)
@@ -165,5 +166,11 @@ def fleet(data):
             ended = text[-1:] in ("", "\r", "\n")
             raise Fault(BOATLESS, len(lines) + ended, 0)
     except Fault as fault:
-        return None, fault.args
+        return table, fault.args
     return table, None
+
+
+def fleet(data):
+    """(table, None) of a fleet without fault, else (None, (kind, line, field))."""
+    table, fault = read(data)
+    return (None, fault) if fault else (table, None)

@@ -10,6 +10,7 @@ HERE = os.path.dirname(os.path.abspath(__file__))
 sys.path.insert(0, HERE)
 from exact import make_book, make_card, make_sheet, true_card, write_card  # noqa: E402
 from generator import Draws, draw_row  # noqa: E402
+import csv_books  # noqa: E402
 import pairs  # noqa: E402
 
 CRATES = os.path.join(HERE, "..", "crates")
@@ -148,6 +149,7 @@ PROGRAMS = {
     "mixcard": folder(BOOK, FILES["d.wsh"], b"an older card"),
     "mixcheck": folder(BOOK, SHEET, HAND_CARD),
     "mixbetter": folder(BOOK, PAIR_SHEET, None, FARTHER, NEARER, b"an older card"),
+    "mixbook": {"fleet.csv": csv_books.YARD, "fleet.wbk": b"an older book"},
 }
 
 
@@ -162,6 +164,8 @@ def main():
     data = {"search_test": FILES, "better_test": {"pairs.dat": pairs.file_of(pairs.cases())}, **PROGRAMS}
     data["edition_test"] = {name: content for card, (book, rows, sheet) in FILED_BEFORE.items()
                             for name, content in ((book, rows), (card + ".wsh", sheet))}
+    data["book_test"] = {os.path.join(name, file): content for name, files in csv_books.FOLDERS.items() for file, content in files.items()}
+    data["book_test"]["cases.dat"] = csv_books.file_of(csv_books.cases())
     data["program_test"] = {os.path.join(name, file): content for name, files in FOLDERS.items() for file, content in files.items()}
     for crate, files in data.items():
         for name, content in files.items():

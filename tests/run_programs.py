@@ -2,7 +2,7 @@
 """Run the built programs in folders of their own, and compare what they print and leave with the reference.
 
 Use: python3 tests/run_programs.py target/bin
-Runs those of mixlist, mixcard, mixcheck and mixbetter that are built, and report/mixreport with mixcheck. The last line says how many runs passed.
+Runs those of mixlist, mixcard, mixcheck, mixbetter and mixbook that are built, and report/mixreport with mixcheck. The last line says how many runs passed.
 """
 import os
 import shutil
@@ -12,6 +12,7 @@ import tempfile
 
 HERE = os.path.dirname(os.path.abspath(__file__))
 sys.path.insert(0, HERE)
+import csv_books  # noqa: E402
 import exact  # noqa: E402
 
 P = [[0, 0], [4, 0], [0, 4]]
@@ -198,13 +199,34 @@ def check_mixbetter(program, runs):
         runs.expect("mixbetter, " + name, run(program, before, read_only) == (b"", b"better.wcd: could not be written\n", before))
 
 
+def check_mixbook(program, runs):
+    """The spreadsheets written by hand, with an older book or none, then files that are too long or folders."""
+    for number, data in enumerate(csv_books.by_hand()):
+        for older in (None, b"older book"):
+            before = {"fleet.csv": data} if older is None else {"fleet.csv": data, "fleet.wbk": older}
+            fault, _, _, lines, book = csv_books.made(data)
+            after = before if fault else dict(before, **{"fleet.wbk": book})
+            out, err, left = run(program, before)
+            runs.expect("mixbook, case %d, %s" % (number, older), (out, err, left) == ((b"", lines, after) if fault else (lines, b"", after)))
+    long = csv_books.YARD.ljust(200001, b"\n")
+    for name, before, fault in (("200,001 bytes", {"fleet.csv": long}, b"fleet.csv: more than 200000 bytes\n"),
+                                ("300,000 bytes", {"fleet.csv": long.ljust(300000, b"\n")}, b"fleet.csv: more than 200000 bytes\n"),
+                                ("no CSV", {"fleet.wbk": BOOK}, b"fleet.csv line 1: no boat\n"),
+                                ("CSV a folder", {"fleet.csv": FOLDER}, b"fleet.csv: could not be read whole\nfleet.csv line 1: no boat\n")):
+        runs.expect("mixbook, " + name, run(program, before) == (b"", fault, before))
+    before = {"fleet.csv": csv_books.YARD, "fleet.wbk": b"older book"}
+    runs.expect("mixbook, no room", run(program, before, read_only=True) == (b"", b"fleet.wbk: could not be written\n", before))
+    before = {"fleet.csv": csv_books.YARD, "fleet.wbk": FOLDER}
+    runs.expect("mixbook, book a folder", run(program, before) == (b"", b"fleet.wbk: could not be written\n", before))
+
+
 def main(arguments):
     if len(arguments) != 1:
         sys.stderr.write(__doc__)
         return 2
     runs = Runs()
     for name, check in (("mixlist", check_mixlist), ("mixcard", check_mixcard), ("mixcheck", check_mixcheck), ("mixcheck", check_report),
-                        ("mixbetter", check_mixbetter)):
+                        ("mixbetter", check_mixbetter), ("mixbook", check_mixbook)):
         program = os.path.join(arguments[0], name)
         if os.path.exists(program):
             check(program, runs)

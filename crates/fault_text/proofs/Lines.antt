@@ -10,13 +10,16 @@ use lib.ListN.{length, getD, set, take, drop, length-map, List·getD-map, length
 use Rattle.card_output.specs.Output.{placed}
 use Rattle.card_output.proofs.Placing.{placed-nil}
 use Rattle.text.specs.Decimal.{decimal}
+use Rattle.text.specs.Lines.{pair-line}
 use Rattle.text.specs.Texts.{Holds, Adds}
 use Rattle.text.specs.declared.Text.{Text}
 use Rattle.text.proofs.Texts.{Copied, copied-start, copied-more, copied-end, adds-both, adds-to-empty}
 use Rattle.csv_fields.specs.Fields.{field-text}
 use Rattle.csv_fields.proofs.Fielding.{few-bytes}
+use Rattle.csv_front.specs.declared.Front.{Front}
+use Rattle.csv_front.specs.declared.Front.the-variants.{Whole, Names, Nothing}
 use Rattle.csv_book.specs.declared.Made.{Made}
-use Rattle.fault_text.specs.Faults.{AT-LINE, THEN, FILE, COLON, COLUMN, UNNAMED, MORE-THAN, VALUES, OF, NOT-WHOLE-WORDS, RANGE-WORDS, LONG-WORDS, NO-COLUMN, NO-BOAT, BOAT-UNNAMED, COLUMNS-WORDS, BOATS-WORDS, BIG-WORDS, ROOM-WORDS, STRAY-WORDS, OPEN-WORDS, NONE-WORDS, shown, part, place, other-words, plain-words, few-words, unnamed-words, many-words, words, looked, wants-boat, wants-column, wants-value, fault-line, fleet-fault}
+use Rattle.fault_text.specs.Faults.{AT-LINE, THEN, FILE, COLON, COLUMN, UNNAMED, MORE-THAN, VALUES, OF, NOT-WHOLE-WORDS, RANGE-WORDS, LONG-WORDS, NO-COLUMN, NO-BOAT, BOAT-UNNAMED, COLUMNS-WORDS, BOATS-WORDS, BIG-WORDS, ROOM-WORDS, STRAY-WORDS, OPEN-WORDS, NONE-WORDS, shown, part, place, other-words, plain-words, few-words, unnamed-words, many-words, words, looked, wants-boat, wants-column, wants-value, fault-line, fleet-fault, FLEET, front-line, book-lines}
 
 -- ---- a name as one line shows it
 getD-shown : (s : List ℕ) (i : ℕ) → i < length s → getD (map shown s) i 0 ≡ shown (getD s i 0)
@@ -201,3 +204,18 @@ pub fault-told : (csv : List ℕ) (m : Made) {bw cw vw : Bool} → bw ≡ wants-
     {b c v : List ℕ} → b ≡ looked bw (m .line) 0 csv → c ≡ looked cw 0 (m .field) csv → v ≡ looked vw (m .line) (m .field) csv → {t : Text} → Holds (fault-line m b c v) t → Holds (fleet-fault csv m) t
 unfolding fleet-fault
 fault-told csv m eb ec ev fb fc fv h = rw (← eb, ← ec, ← ev, ← fb, ← fc, ← fv) h
+
+-- ---- the lines of a book
+module _ {f : Front} {t r : Text} where
+  pub front-whole : f ≡ Whole → Adds t (front-line Whole) r → Adds t (front-line f) r
+  front-whole e a = rw e a
+
+  pub front-names : f ≡ Names → Adds t (front-line Names) r → Adds t (front-line f) r
+  front-names e a = rw e a
+
+  pub front-nothing : f ≡ Nothing → Adds t (front-line Nothing) r → Adds t (front-line f) r
+  front-nothing e a = rw e a
+
+pub book-told : (m : Made) {t₀ t₁ t₂ : Text} → Holds [] t₀ → Adds t₀ (pair-line FLEET (m .boats) (m .columns)) t₁ → Adds t₁ (front-line (m .front)) t₂ → Holds (book-lines m) t₂
+unfolding book-lines
+book-told m e a b = adds-to-empty e (adds-both a b)

@@ -1,11 +1,14 @@
--- The line that names a fault of a fleet's CSV: file, line, boat and column, and what is wrong there. Definitions only.
+-- The lines about a fleet's CSV: that of its fault, with file, line, boat, column and what is wrong there, or those of its book. Definitions only.
 use mathlib.Core.Bool.{Bool, true, false, cond, not}
 use mathlib.Core.List.{List, [], _∷_, _++_, map}
 use Prim.Native.Nat.{ℕ}
 use lib.Dec.{ltb, eqb}
 use lib.ListN.{length}
 use Rattle.text.specs.Decimal.{decimal}
+use Rattle.text.specs.Lines.{pair-line}
 use Rattle.csv_fields.specs.Fields.{field-text}
+use Rattle.csv_front.specs.declared.Front.{Front}
+use Rattle.csv_front.specs.declared.Front.the-variants.{Whole, Names, Nothing}
 use Rattle.csv_book.specs.declared.Made.{Made}
 
 -- ---- the words
@@ -173,3 +176,19 @@ unfoldable pub fleet-fault : (csv : List ℕ) → Made → List ℕ
 fleet-fault csv m =
     fault-line m (looked (wants-boat (m .fault) (m .field) (m .columns)) (m .line) 0 csv)
     (looked (wants-column (m .fault) (m .field) (m .columns)) 0 (m .field) csv) (looked (wants-value (m .fault)) (m .line) (m .field) csv)
+
+-- ---- the lines of a book
+
+-- "fleet "
+abbrev pub FLEET : List ℕ
+FLEET = 102 ∷ 108 ∷ 101 ∷ 101 ∷ 116 ∷ 32 ∷ []
+
+-- "front csv", "front names", "front nothing"
+unfoldable pub front-line : Front → List ℕ
+front-line Whole = 102 ∷ 114 ∷ 111 ∷ 110 ∷ 116 ∷ 32 ∷ 99 ∷ 115 ∷ 118 ∷ 10 ∷ []
+front-line Names = 102 ∷ 114 ∷ 111 ∷ 110 ∷ 116 ∷ 32 ∷ 110 ∷ 97 ∷ 109 ∷ 101 ∷ 115 ∷ 10 ∷ []
+front-line Nothing = 102 ∷ 114 ∷ 111 ∷ 110 ∷ 116 ∷ 32 ∷ 110 ∷ 111 ∷ 116 ∷ 104 ∷ 105 ∷ 110 ∷ 103 ∷ 10 ∷ []
+
+-- how many boats and columns, and what of the CSV stands in front of the book
+unfoldable pub book-lines : Made → List ℕ
+book-lines m = pair-line FLEET (m .boats) (m .columns) ++ front-line (m .front)

@@ -1,14 +1,15 @@
-// The line that names a fault of a fleet's CSV: file, line, boat and column, and what is wrong there.
+// The lines about a fleet's CSV: that of its fault, with file, line, boat, column and what is wrong there, or those of its book.
 //
-// Entry, which asks nothing of its caller: fleet_fault.
+// Entries, which ask nothing of their caller: fleet_fault, book_lines.
 ghost use mathlib.Core.Path.{_≡_};
 ghost use mathlib.Core.List.{map};
 ghost use Prim.Native.Nat.{_+_, _≤_};
 ghost use lib.ListN.{length};
 ghost use Rattle.card_output.specs.Output.{placed};
 ghost use Rattle.text.specs.Texts.{Holds, Adds};
-ghost use Rattle.fault_text.specs.Faults.{shown, part, place, other-words, plain-words, few-words, unnamed-words, many-words, words, looked, wants-boat, wants-column, wants-value, fault-line, fleet-fault};
+ghost use Rattle.fault_text.specs.Faults.{shown, part, place, other-words, plain-words, few-words, unnamed-words, many-words, words, looked, wants-boat, wants-column, wants-value, fault-line, fleet-fault, front-line, book-lines};
 use csv_book::Made;
+use csv_front::Front;
 use text::Text;
 
 // A byte as one line shows it: a space for one below 32.
@@ -263,4 +264,26 @@ pub fn fleet_fault(csv: &[u8], made: Made) -> Text
     );
     let k = put_looked(csv, wants_value(fault), line, field, &mut value);
     line_of(made, &boat[..n], &column[..m], &value[..k])
+}
+
+// The text followed by the line of the front text.
+fn with_front(text: Text, front: Front) -> Text
+    requires { ⌜ text .len + 20 ≤ 4096 ⌝ }
+    ensures { λ r. ⌜ Adds text (front-line front) r ⌝ }
+{
+    match front {
+        Front::Whole => text.with_bytes(b"front csv\n"),
+        Front::Names => text.with_bytes(b"front names\n"),
+        Front::Nothing => text.with_bytes(b"front nothing\n"),
+    }
+}
+
+// ENTRY. The lines of a book that was made of a CSV.
+pub fn book_lines(made: Made) -> Text
+    ensures { λ r. ⌜ Holds (book-lines made) r ⌝ }
+{
+    let front = made.front;
+    let empty = Text::empty();
+    let counted = empty.with_pair(b"fleet ", made.boats as u64, made.columns as u64);
+    with_front(counted, front)
 }
