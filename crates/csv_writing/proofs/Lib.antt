@@ -1,0 +1,5 @@
+-- The laws of this crate.
+pub mod Going
+pub mod Numbers
+pub mod Lines
+pub mod Back
