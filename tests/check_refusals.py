@@ -35,10 +35,11 @@ def part(path, name):
 
 
 def given(number):
-    """The lines of all definitions that give this number where a test fails."""
+    """The lines that give this number where a test fails, in all files of definitions that speak of a refusal."""
     found = []
     for path in sorted(glob.glob(os.path.join(ROOT, "crates/*/specs/*.antt"))):
-        found += re.findall(r"^[^-\n]*\bcond .*\) (?:0 )?%d\b.*" % number, read(path), re.M)
+        if "refusal" in read(path):
+            found += re.findall(r"^[^-\n]*\bcond .*\) (?:0 )?%d\b.*" % number, read(path), re.M)
     return found
 
 
