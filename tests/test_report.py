@@ -252,6 +252,22 @@ def worked_example():
             agree("worked example: " + wanted, wanted in said, True)
 
 
+def other_factors():
+    """The worked example by other factors, as docs/factors.md has it, is what the reference finds."""
+    rows, target, *_ = yard_case()
+    found = []
+    for factor in (1, 0, 9):
+        factors = [factor if j == 3 else 1 for j in range(8)]
+        tolerance = 25 * sum(factors)
+        answer, shares = exact.run(rows, target, 360, tolerance, factors)
+        off = [Fraction(sum(s * row[j] for s, row in zip(shares, rows)), answer.weight) - target[j] for j in (3, 1)]
+        found.append("| %d, 1 | 5² × %d = %d | %s %d | %s | %s | %s |" % (
+            factor, sum(factors), tolerance, WORDS[answer.verdict].capitalize(), answer.steps,
+            decimals.decimal(Fraction(answer.distance, answer.weight ** 2)), *(decimals.decimal(x, sign=True) for x in off)))
+    page_rows = re.findall(r"(?m)^\| \d, 1 \| .*$", read("docs", "factors.md").decode("utf-8"))
+    agree("the worked example by other factors", page_rows, found)
+
+
 def stored():
     """What stands in the repository is what is made today."""
     for name, content in yard_files().items():
@@ -660,7 +676,7 @@ def main(arguments):
     if arguments == ["--write"]:
         write()
         return 0
-    for part in (rounding, marked_sheets, sentences, worked_example, stored, names_of_things, names_of_sheets, picture_cases, extreme_pictures,
+    for part in (rounding, marked_sheets, sentences, worked_example, other_factors, stored, names_of_things, names_of_sheets, picture_cases, extreme_pictures,
                  places, pages, runs, tampering):
         part()
     if test_exact.differences:
