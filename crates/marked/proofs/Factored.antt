@@ -9,7 +9,7 @@ use Rattle.method.specs.Minimum.{minimum-from, minimum}
 use Rattle.method.specs.Iterates.{start, residual, row, direction, scores, argmin-from, argmin, active-from, active-argmin, pick, with-shares, step, iterate, distance, gaps, maximum-from, maximum, signed-gap, natural, gap, farthest, row-diameter}
 use Rattle.method.specs.Answers.{outcome, is-beyond, verdict, verdict-number, stops, answer-at, steps-from, steps-used, run-iterate, run-answer, search-refusal, slots-after}
 use Rattle.card_format.specs.Format.{pair, pairs, letters, trailer-bytes, answer-fields, card-bytes, fields, card-fields, lettered, card-test, card-body, pair-count, shares-into, card-shares}
-use Rattle.card_format.specs.Checks.{back-fits, pairs-in-order, shares-total, numbers-agree, truth-refusal, card-refusal, check-refusal}
+use Rattle.card_format.specs.Checks.{back-fits, pairs-in-order, counts-agree, steps-fit, form-refusal, shares-total, numbers-agree, truth-refusal, card-refusal, check-refusal}
 use Rattle.marked.specs.Marked.{value-bytes, body-bytes, book-bytes, sheet-bytes, fleet-P, lent}
 use Rattle.marked.specs.Factored.{factored-bytes, middle, fleet-column, fleet-single, factored-sheets, All-factored, Diameters, card-c, card-k, Judged-by-factors}
 use Rattle.marked.proofs.Marked.{Each, each, _and_}
@@ -51,6 +51,6 @@ unfolding same little-endian number value values between in-range all-in-range l
     problem weight start residual distance gaps maximum-from maximum signed-gap natural gap
     is-beyond verdict verdict-number stops answer-at search-refusal
     pair pairs letters trailer-bytes answer-fields card-bytes fields card-fields lettered card-test card-body pair-count shares-into card-shares
-    back-fits pairs-in-order shares-total numbers-agree truth-refusal card-refusal check-refusal
+    back-fits pairs-in-order counts-agree steps-fit form-refusal shares-total numbers-agree truth-refusal card-refusal check-refusal
     number-bytes value-bytes body-bytes book-bytes sheet-bytes factored-bytes middle fleet-P card-c card-k
 judged-by-factors = record { c-without = refl; c-ones = refl; c-factors = refl; k-without = refl; k-factors = refl }
