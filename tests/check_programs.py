@@ -2,7 +2,7 @@
 """See that each program is one call of a function that a test program drives through its folders.
 
 A program is run in one folder, where one that prints a constant text would pass. So its work is a function of a folder's name,
-and its main calls that function on the current folder, which has no name, and does nothing else.
+and its main calls that function on the folder that its argument names, or on the current one, which has no name, and does nothing else.
 """
 import os
 import sys
@@ -18,6 +18,9 @@ PROGRAMS = {
     "mixbook": ("book_folder::file_book", "book_test", "name"),
 }
 
+MAIN = ('fn main() { let mut name = [0u8; 4095]; let asked = arguments::folder(b"%s", &mut name); '
+        'if asked.known { %s(file_io::first_bytes(&name, asked.len)); } }')
+
 
 def code(crate):
     """The words of a program's source, without its comments."""
@@ -28,7 +31,7 @@ def code(crate):
 def main():
     faults = 0
     for program, (function, test, argument) in PROGRAMS.items():
-        if code(program) != 'fn main() { %s(b""); }' % function:
+        if code(program) != MAIN % (program, function):
             print("%s: crates/%s/src/main.rt is not one call of %s" % (program, program, function))
             faults += 1
         if "%s(%s);" % (function, argument) not in code(test):

@@ -50,26 +50,39 @@ def content(files, name):
     return files.get(name) or b""
 
 
-def run(program, files, read_only=False, arguments=(), output=subprocess.PIPE):
+def put(folder, files):
+    """Puts files into a folder."""
+    for name, data in files.items():
+        path = os.path.join(folder, name)
+        if data is FOLDER:
+            os.mkdir(path)
+        else:
+            with open(path, "wb") as file:
+                file.write(data)
+
+
+def contents(folder):
+    """The files of a folder, and those of its folders that have some."""
+    left = {}
+    for name in os.listdir(folder):
+        path = os.path.join(folder, name)
+        left[name] = contents(path) or FOLDER if os.path.isdir(path) else exact.read_file(path)
+    return left
+
+
+def run(program, files, read_only=False, arguments=(), folders=None, output=subprocess.PIPE):
     """Standard output, standard error and the files of the folder afterwards. A program's exit status is 0 whatever happens."""
     folder = tempfile.mkdtemp()
     try:
-        for name, data in files.items():
-            path = os.path.join(folder, name)
-            if data is FOLDER:
-                os.mkdir(path)
-            else:
-                with open(path, "wb") as file:
-                    file.write(data)
+        put(folder, files)
+        for name, inside in (folders or {}).items():
+            os.mkdir(os.path.join(folder, name))
+            put(os.path.join(folder, name), inside)
         command = [os.path.abspath(program), *arguments]
         if read_only:
             command = ["sh", "-c", "ulimit -f 0; trap '' XFSZ; exec " + command[0]]
         done = subprocess.run(command, cwd=folder, stdout=output, stderr=subprocess.PIPE, check=program != MIXREPORT)
-        left = {}
-        for name in os.listdir(folder):
-            path = os.path.join(folder, name)
-            left[name] = FOLDER if os.path.isdir(path) else exact.read_file(path)
-        return done.stdout, done.stderr, left
+        return done.stdout, done.stderr, contents(folder)
     finally:
         shutil.rmtree(folder)
 
@@ -220,6 +233,24 @@ def check_mixbook(program, runs):
     runs.expect("mixbook, book a folder", run(program, before) == (b"", b"fleet.wbk: could not be written\n", before))
 
 
+CARD = exact.write_card(BOOK, SHEET, bytes(1060))
+# files on which every program does its work
+ARGUMENT_FILES = {"fleet.csv": b"a,b,c\nd,0,0\ne,4,0\nf,0,4\n", "fleet.wbk": BOOK, "sheet.wsh": SHEET, "card.wcd": CARD[3][:CARD[2]],
+                  "first.wcd": CARD[3][:CARD[2]], "second.wcd": CARD[3][:CARD[2]]}
+
+
+def check_arguments(name, program, files, runs):
+    """A folder that is named does as the current one; anything else prints the usage and does nothing."""
+    usage = b"usage: %s [FOLDER]\n" % name.encode()
+    for arguments in (("--help",), ("-",), ("",), ("a", "b"), ("x" * 4096,)):
+        runs.expect("%s %s" % (name, arguments), run(program, files, arguments=arguments) == (b"", usage, files))
+    out, err, left = run(program, files)
+    inside = run(program, {}, arguments=("there",), folders={"there": files})
+    runs.expect("%s of a folder" % name, inside[0] == out and inside[1] == err and inside[2] == {"there": left})
+    outside = run(program, files, arguments=("missing",))
+    runs.expect("%s of a folder that is missing" % name, outside[2] == files and b"usage" not in outside[1])
+
+
 def main(arguments):
     if len(arguments) != 1:
         sys.stderr.write(__doc__)
@@ -230,8 +261,10 @@ def main(arguments):
         program = os.path.join(arguments[0], name)
         if os.path.exists(program):
             check(program, runs)
-            if check is not check_report and os.path.exists("/dev/full"):
-                check_output(program, runs)
+            if check is not check_report:
+                check_arguments(name, program, ARGUMENT_FILES, runs)
+                if os.path.exists("/dev/full"):
+                    check_output(program, runs)
     print("%d runs passed, %d failed" % (runs.passed, runs.failed))
     return 1 if runs.failed else 0
 

@@ -120,7 +120,8 @@ module _ (f c b : ℕ) (u : Bool) (n : ℕ) where
   all-quoted x w [] s h = goes-nil
   all-quoted x w (k ∷ ks) s h =
       let p = both-true (ltb k 256) (all-bytes ks) h in
-      rw (split (eqb k 34) (doubled ks) k)
+      let e : doubled (k ∷ ks) ≡ cond (eqb k 34) (34 ∷ 34 ∷ []) (k ∷ []) ++ doubled ks = split (eqb k 34) (doubled ks) k in
+      rw e
       (goes-on (one-quoted x w k (omega arith) (ltb-true k 256 (p .0)) (eqb k 34) refl) (all-quoted (with-byte x k) (progress UNIT w k) ks (omega arith) (p .1)))
 
   pub quoted-goes : (w : ℕ) (ks : List ℕ) → length ks ≤ 200 → all-bytes ks ≡ true → Goes Start (at f c b u no-bytes w) n (quoted ks) Closing (at f c b u (cell-with no-bytes ks) (word-with w ks)) []

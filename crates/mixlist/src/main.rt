@@ -1,4 +1,8 @@
-// mixlist: prints the listing of the search of fleet.wbk and sheet.wsh, files of the current folder.
+// mixlist: prints the listing of the search of fleet.wbk and sheet.wsh, files of the folder that its argument names, or of the current one.
 fn main() {
-    search_folder::list_search(b"");
+    let mut name = [0u8; 4095];
+    let asked = arguments::folder(b"mixlist", &mut name);
+    if asked.known {
+        search_folder::list_search(file_io::first_bytes(&name, asked.len));
+    }
 }
