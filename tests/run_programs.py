@@ -108,15 +108,12 @@ def unread(files):
                     for name in ("fleet.wbk", "sheet.wsh", "card.wcd", "first.wcd", "second.wcd") if name in files and files[name] is FOLDER)
 
 
-def check_output(program, runs):
+def check_output(program, files, runs):
     """Standard output takes no byte: standard error says so, and what is filed is filed all the same."""
-    _, _, length, written = exact.write_card(BOOK, SHEET, bytes(1060))
-    card = written[:length]
-    before = {"fleet.wbk": BOOK, "sheet.wsh": SHEET, "card.wcd": card, "first.wcd": card, "second.wcd": card}
-    after = dict(before, **{"better.wcd": card}) if os.path.basename(program) == "mixbetter" else before
     with open("/dev/full", "wb") as full:
-        _, err, left = run(program, before, output=full)
-    runs.expect("%s, no standard output" % os.path.basename(program), (err, left) == (b"standard output: could not be written whole\n", after))
+        _, err, left = run(program, files, output=full)
+    runs.expect("%s, no standard output" % os.path.basename(program),
+                (err, left) == (b"standard output: could not be written whole\n", run(program, files)[2]))
 
 
 def check_mixlist(program, runs):
@@ -264,7 +261,7 @@ def main(arguments):
             if check is not check_report:
                 check_arguments(name, program, ARGUMENT_FILES, runs)
                 if os.path.exists("/dev/full"):
-                    check_output(program, runs)
+                    check_output(program, ARGUMENT_FILES, runs)
     print("%d runs passed, %d failed" % (runs.passed, runs.failed))
     return 1 if runs.failed else 0
 
