@@ -1,15 +1,13 @@
 -- The listing of the part that is handed back is that of the better card. Assumes nothing.
 use mathlib.Core.Path.{_≡_, refl, sym, ap, _∙_}
-use mathlib.Core.Bool.{cond}
 use mathlib.Core.List.{List}
 use Prim.Native.Nat.{ℕ, zero, suc}
 use borrow.Author.Tests.{eq-eqb, ne-eqb}
-use lib.Dec.{eqb, eqb·suc-zero}
-use Rattle.files.specs.Sheet.{files-refusal}
+use lib.Dec.{eqb·suc-zero}
 use Rattle.method.specs.declared.Searched.the-variants.{Refused}
 use Rattle.method.specs.Answers.{outcome}
-use Rattle.card_format.specs.Checks.{card-refusal, check-refusal}
-use Rattle.listing.specs.Lines.{refused-line, outcome-listing}
+use Rattle.card_format.specs.Checks.{check-refusal}
+use Rattle.listing.specs.Lines.{outcome-listing}
 use Rattle.listing.proofs.Outcomes.{same-refusal}
 use Rattle.text.specs.Texts.{Holds}
 use Rattle.text.specs.declared.Text.{Text}

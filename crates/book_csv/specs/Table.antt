@@ -4,7 +4,7 @@
 use mathlib.Core.Bool.{Bool, false, cond}
 use mathlib.Core.List.{List, [], _∷_}
 use Prim.Native.Nat.{ℕ, _+_}
-use lib.Dec.{ltb, leb, eqb}
+use lib.Dec.{ltb, eqb}
 use Rattle.csv.specs.Cells.{no-bytes, with-byte, is-number, progress}
 use Rattle.csv.specs.declared.Cell.{Cell}
 use Rattle.book_csv.specs.declared.Table.{Table}

@@ -2,8 +2,8 @@
 //
 // Entries, which ask nothing of their caller: Table::start, read_fleet. Table::after has a requirement, which its callers prove.
 ghost use mathlib.Core.Path.{_≡_};
-ghost use Prim.Native.Nat.{_+_, _*_, _≤_, _<_};
-ghost use Rattle.book_csv.specs.Table.{start, faulty, with-text, number-fault, name-fault, field-fault, limit, units-after, next-field, field-ended, end-fault, columns-after, boats-after, word-after, next-line, whole-line-ended, line-ended, finished, consumed, after};
+ghost use Prim.Native.Nat.{_+_, _<_};
+ghost use Rattle.book_csv.specs.Table.{start, faulty, with-text, number-fault, name-fault, field-fault, limit, units-after, field-ended, end-fault, columns-after, boats-after, word-after, whole-line-ended, line-ended, finished, consumed, after};
 use csv::Cell;
 
 // What is wrong, besides the tokens csv::STRAY and csv::OPEN: a field of more than 200 bytes, no name, no column, more than 64 columns or

@@ -11,6 +11,7 @@ use Rattle.files.specs.Bytes.{number-bytes, little-endian, number, same, length
 use Rattle.files.specs.Book.{boats, columns, rows, rows-from, WBK1, book-refusal}
 use Rattle.files.proofs.Rows.{rows-flat}
 use Rattle.files.proofs.Bytes.{read-bytes}
+use Rattle.files.specs.Limits.{file-limit}
 use Rattle.card_format.proofs.Truth.{between-said}
 use Rattle.sheet_output.proofs.Back.{file-length, file-trailer, file-body, body-passed}
 use Rattle.book_output.specs.Output.{rows-bytes, book-trailer, book-bytes}
@@ -94,7 +95,7 @@ module _ (vs : List (List ℤ)) (c : ℕ) (f : Rows-fit vs c) where
         own-trailer,
         own-boats,
         own-columns,
-        between-said {least = 12} {most = 40000} {n = 2 * (length vs * c) + 12} (omega arith) (omega (arith, cells)),
+        between-said {least = 12} {most = file-limit} {n = 2 * (length vs * c) + 12} (omega arith) (omega (arith, cells)),
         foot-letters,
         between-said {least = 1} {most = 256} {n = length vs} (f .some-boats) (f .most-boats),
         between-said {least = 1} {most = 64} {n = c} (f .some-columns) (f .most-columns),

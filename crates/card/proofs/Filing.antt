@@ -11,6 +11,7 @@ use lib.ListN.{length, take, drop}
 use lib.Seq.{take-at}
 use Rattle.files.specs.Book.{boats, columns}
 use Rattle.files.specs.Sheet.{sheet, files-refusal}
+use Rattle.files.specs.Limits.{file-limit}
 use Rattle.method.specs.declared.Test.the-variants.{Sharper}
 use Rattle.method.specs.declared.Answer.{Answer}
 use Rattle.method.specs.Problem.{problem}
@@ -59,7 +60,7 @@ write-accepted b s room e = by (files-refusal b s) refl (ltb room (length (run-c
     by zero q false r e = (q, ltb-false room (length (run-card b s)) r)
     by (suc n) q u r e = absurd (omega (arith, rw (eqb·suc-zero n) at e))
 
-card-reads-back : (b s : List ℕ) → files-refusal b s ≡ 0 → (front : List ℕ) → length front + length (run-card b s) ≤ 40000 → Reads-back b s (front ++ run-card b s) (run-answer (problem b s)) (run-iterate (problem b s) .shares)
+card-reads-back : (b s : List ℕ) → files-refusal b s ≡ 0 → (front : List ℕ) → length front + length (run-card b s) ≤ file-limit → Reads-back b s (front ++ run-card b s) (run-answer (problem b s)) (run-iterate (problem b s) .shares)
 unfolding Written-accepted
 card-reads-back b s ok front h = let w = written-accepted b s front ok h in record { accepted = w .0; answer = w .1; shares = w .2 }
 

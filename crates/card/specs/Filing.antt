@@ -5,6 +5,7 @@ use Prim.Native.Nat.{ℕ, zero, suc, _+_, _≤_}
 use lib.ListN.{length, take}
 use Rattle.files.specs.Book.{boats}
 use Rattle.files.specs.Editions.{Editions}
+use Rattle.files.specs.Limits.{file-limit}
 use Rattle.method.specs.declared.Answer.{Answer}
 use Rattle.method.specs.Problem.{problem}
 use Rattle.method.specs.Answers.{run-iterate}
@@ -45,7 +46,7 @@ pub record Filed-right (b s : List ℕ) (a : Answer) (card : List ℕ) : Type 0 
   -- they read back as the answer given back and the shares of the run
   pub reads-back : Reads-back b s card a (run-iterate (problem b s) .shares)
   -- also behind any front text that keeps within 40,000 bytes
-  pub behind-front : (front : List ℕ) → length front + length card ≤ 40000 → Reads-back b s (front ++ card) a (run-iterate (problem b s) .shares)
+  pub behind-front : (front : List ℕ) → length front + length card ≤ file-limit → Reads-back b s (front ++ card) a (run-iterate (problem b s) .shares)
   -- the answer is that of a run whose shares are in the card's body
   pub right : Run-right (problem b s) a (card-shares (boats b) card)
 

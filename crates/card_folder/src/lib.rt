@@ -4,7 +4,7 @@
 
 // Files the card of a search, which has no bytes where the search is refused; what is in the way goes to standard error.
 // Whether there is a listing to print.
-fn file(path: &[u8], output: &[u8; 1060], len: usize) -> bool {
+fn file(path: &[u8], output: &[u8; card_listing::MOST_CARD], len: usize) -> bool {
     if len == 0 {
         file_io::tell(path, b": not written, the search is refused\n");
         return true;
@@ -23,7 +23,7 @@ pub fn file_card(folder: &[u8]) {
     let mut sheet = [0u8; 40001];
     let n = file_io::read_in(folder, b"fleet.wbk", &mut book);
     let m = file_io::read_in(folder, b"sheet.wsh", &mut sheet);
-    let mut output = [0u8; 1060];
+    let mut output = [0u8; card_listing::MOST_CARD];
     let filing = card_listing::filed_text(&book[..n], &sheet[..m], &mut output);
     let path = paths::path_in(folder, b"card.wcd");
     let bytes = path.bytes;

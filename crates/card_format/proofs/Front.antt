@@ -1,16 +1,16 @@
 -- Front text is never read: what stands before a card that holds its whole body changes nothing.
 use mathlib.Core.Path.{_≡_, sym, ap, _∙_}
 use mathlib.Core.List.{List, _++_, append-assoc}
-use Prim.Native.Nat.{ℕ, _+_, _-_, _≤_}
+use Prim.Native.Nat.{ℕ, _+_, _-_}
 use native.Mathlib.Omega.{arith}
 use borrow.Author.Tests.{le-leb}
-use lib.Dec.{leb}
 use lib.ListN.{length, take, drop, length-append, length-drop}
 use lib.Seq.{length-take-le}
 use Rattle.files.specs.Bytes.{between, length-in-range, trailer, body, reaches}
 use Rattle.files.specs.Book.{boats, columns}
 use Rattle.files.specs.Sheet.{sheet}
 use Rattle.files.specs.Front.{Front-fits}
+use Rattle.files.specs.Limits.{file-limit}
 use Rattle.method.specs.declared.Test.{Test}
 use Rattle.method.specs.Problem.{Problem, problem}
 use Rattle.card_format.specs.Format.{card-fields, lettered, card-test, card-body, pair-count, card-shares, card-answer}
@@ -77,7 +77,7 @@ module _ (f w : List ℕ) (h : Card-whole w) where
 
   range-front : Front-fits f w → length-in-range 36 (f ++ w) ≡ length-in-range 36 w
   unfolding length-in-range between
-  range-front k = simp (length-append, le-leb 36 (length f + length w) (omega arith), le-leb (length f + length w) 40000 (omega arith), le-leb 36 (length w) (omega arith), le-leb (length w) 40000 (omega arith))
+  range-front k = simp (length-append, le-leb 36 (length f + length w) (omega arith), le-leb (length f + length w) file-limit (omega arith), le-leb 36 (length w) (omega arith), le-leb (length w) file-limit (omega arith))
 
   form-front : Front-fits f w → (n c steps : ℕ) → form-refusal n c steps (f ++ w) ≡ form-refusal n c steps w
   unfolding form-refusal counts-agree steps-fit

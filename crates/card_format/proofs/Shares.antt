@@ -17,6 +17,7 @@ use Rattle.frank_wolfe.proofs.Vectors.{factored, mixture-is, length-combination
 use Rattle.frank_wolfe.proofs.Theorem.{frank-wolfe}
 use Rattle.files.specs.Book.{rows}
 use Rattle.files.proofs.Accepted.{files-accepted}
+use Rattle.files.specs.Limits.{total-limit, sum-limit}
 use Rattle.method.specs.Problem.{Problem, problem}
 use Rattle.method.specs.Iterates.{row, scores, argmin, mixture-distance}
 use Rattle.method.specs.Minimum.{minimum}
@@ -82,7 +83,7 @@ module _ {p : Problem} (h : Well-formed p) (f : In-range p) (qs : List ℕ) (cou
       by-least ∙ ap (λ q. weighted fs r y -ℤ pos (sum qs) *ℤ q) (sym (least-score fs r rs)) ∙ sym (inner-gap fs r y (sum qs) s (h .wide .each s a ∙ sym point-length)) in
       rw e (most _ (weighted-bound fs (4000 * sum qs) (4000 * sum qs) r _ residual-bounded (difference-bounded s (f .rows-bounded s a))))
 
-fits : (n a : ℕ) → n ≤ 64980 → a ≤ 1024000000 * (n * n) → a < 4611686018427387904
+fits : (n a : ℕ) → n ≤ total-limit → a ≤ 1024000000 * (n * n) → a < sum-limit
 fits n a h k = lt-of-le-of-lt (le-trans k (mul-le-mul (le-refl 1024000000) (mul-le-mul h h))) (lit< tt)
 
 pub shares-fit : Shares-fit

@@ -1,6 +1,6 @@
 -- A card is accepted exactly when it is well formed and true.
 use mathlib.Core.Path.{_≡_, refl, sym, ap, _∙_}
-use mathlib.Core.Bool.{Bool, true, false, _&&_, _||_, not, cond}
+use mathlib.Core.Bool.{Bool, true, false, _&&_, _||_, cond}
 use mathlib.Core.List.{List, [], _∷_}
 use Prim.Native.Nat.{ℕ, zero, suc, _+_, _*_, _-_, _/_, _%_, _≤_, _<_}
 use native.Mathlib.Omega.{arith}
@@ -32,6 +32,7 @@ use Rattle.card_format.specs.Truth.{Card-true}
 use Rattle.files.proofs.Bytes.{drop-bytes}
 use Rattle.card_format.proofs.Pairs.{Parsed, parse, Readable, readable}
 use Rattle.files.proofs.Letters.{same-eq}
+use Rattle.files.specs.Limits.{file-limit, step-limit}
 use Rattle.card_format.proofs.Trailer.{Fields-fit, length-trailer, letters-written, fields-read, fields-written, file-length, file-trailer, file-body, file-parts}
 
 -- ---- The tests, one by one
@@ -135,9 +136,9 @@ module _ (b s w : List ℕ) (all : all-bytes w ≡ true) (p : Passed b s w) wher
   own : Fields
   own = card-fields w
 
-  long : (36 ≤ length w) × (length w ≤ 40000)
+  long : (36 ≤ length w) × (length w ≤ file-limit)
   unfolding length-in-range
-  long = between-true 36 40000 (length w) (p .sized)
+  long = between-true 36 file-limit (length w) (p .sized)
 
   fits : Back-fits (boats b) (card-fields w .back) w
   fits = back-means (boats b) (card-fields w .back) w (p .back)
@@ -236,7 +237,7 @@ support-some (zero ∷ qs) h = omega (arith, support-some qs (omega arith))
 support-some (suc q ∷ qs) h = rw (ne-eqb (suc q) 0 (λ e. omega arith)) (omega arith)
 
 module _ (b s w : List ℕ) (ok : files-refusal b s ≡ 0) (c : Card-true b s w) where
-  few-steps : c .own .steps ≤ 360
+  few-steps : c .own .steps ≤ step-limit
   unfolding problem
   few-steps = omega (arith, c .truth .most-steps, files-accepted b s ok .1 .most-steps)
 

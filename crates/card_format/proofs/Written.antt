@@ -9,6 +9,7 @@ use lib.ListN.{length, getD, length-append}
 use Rattle.files.specs.Book.{columns, boats}
 use Rattle.files.specs.Sheet.{sheet, files-refusal}
 use Rattle.files.proofs.Accepted.{files-accepted}
+use Rattle.files.specs.Limits.{file-limit}
 use Rattle.method.specs.declared.Test.{Test}
 use Rattle.method.specs.declared.Test.the-variants.{Former, Sharper}
 use Rattle.frank_wolfe.specs.Vectors.{sum}
@@ -22,7 +23,7 @@ use Rattle.method.proofs.Weights.{weight-most}
 use Rattle.method.proofs.Accepted.{well-formed, in-range, sized}
 use Rattle.method.proofs.Bounds.{run-is, run-bounds}
 use Rattle.card_format.specs.Format.{pairs, trailer-bytes, answer-fields, card-bytes, run-card}
-use Rattle.card_format.specs.Truth.{Card-true, Filed-before, Filed-before-true, Written-accepted, Written-short}
+use Rattle.card_format.specs.Truth.{Card-true, Filed-before-true, Written-accepted, Written-short}
 use Rattle.card_format.proofs.Pairs.{readable}
 use Rattle.card_format.proofs.Trailer.{length-trailer}
 use Rattle.card_format.proofs.Truth.{support-most, shares-back, answer-is, true-accepted}
@@ -58,7 +59,7 @@ module _ (b s : List ℕ) (ok : files-refusal b s ≡ 0) where
 module _ (b s : List ℕ) (test : Test) {a : Answer} (qs : List ℕ) (own : a ≡ answer-of test (problem b s) qs (a .steps)) where
   -- it is true where the test ends a run, of shares that so many steps can give
   answer-card-true : length qs ≡ boats b → sum qs ≡ weight fixed (a .steps) → support qs ≤ a .steps → 1 ≤ a .steps → a .steps ≤ sheet s .steps → stops (sheet s .steps) (a .steps) (a .verdict) ≡ true →
-      (front : List ℕ) → length (front ++ card-bytes test a qs (sheet s .tolerance) (boats b) (columns b)) ≤ 40000 →
+      (front : List ℕ) → length (front ++ card-bytes test a qs (sheet s .tolerance) (boats b) (columns b)) ≤ file-limit →
       Card-true b s (front ++ card-bytes test a qs (sheet s .tolerance) (boats b) (columns b))
   unfolding problem card-bytes answer-fields
   answer-card-true count total few some most here front h =
@@ -95,7 +96,7 @@ filed-before-true b s w ok c =
 -- ---- The card of a run
 
 module _ (b s : List ℕ) (ok : files-refusal b s ≡ 0) where
-  pub run-card-true : (front : List ℕ) → length front + length (run-card b s) ≤ 40000 → Card-true b s (front ++ run-card b s)
+  pub run-card-true : (front : List ℕ) → length front + length (run-card b s) ≤ file-limit → Card-true b s (front ++ run-card b s)
   unfolding problem run-card
   run-card-true front h =
       let c = bounds b s ok in

@@ -4,7 +4,7 @@
 -- WCD2 is what is written, and its verdict is judged by the sharper test; WCD1 is the edition before, judged by the former.
 use mathlib.Core.Bool.{Bool, cond}
 use mathlib.Core.List.{List, [], _∷_, _++_}
-use Prim.Native.Nat.{ℕ, zero, suc, _+_, _/_}
+use Prim.Native.Nat.{ℕ, zero, suc, _/_}
 use lib.Dec.{eqb}
 use lib.ListN.{length, drop, set, replicate}
 use Rattle.files.specs.Bytes.{number-bytes, number, same, trailer, body}
@@ -16,6 +16,10 @@ use Rattle.method.specs.declared.Answer.{Answer}
 use Rattle.method.specs.Problem.{problem}
 use Rattle.method.specs.Answers.{verdict-number, run-iterate, run-answer}
 use Rattle.method.specs.Bounds.{answer-of}
+
+-- the bytes of the longest card that is written: 256 pairs and a trailer
+abbrev pub card-limit : ℕ
+card-limit = 1060
 
 -- ---- Writing
 

@@ -10,6 +10,7 @@ use Rattle.frank_wolfe.specs.Vectors.{subtract, scale, sum, combination}
 use Rattle.files.specs.Bytes.{all-bytes}
 use Rattle.files.specs.Book.{columns, boats}
 use Rattle.files.specs.Sheet.{sheet, files-refusal}
+use Rattle.files.specs.Limits.{file-limit, total-limit, sum-limit}
 use Rattle.method.specs.declared.Test.{Test}
 use Rattle.method.specs.declared.Test.the-variants.{Former}
 use Rattle.method.specs.declared.Answer.{Answer}
@@ -17,7 +18,7 @@ use Rattle.method.specs.Problem.{fixed, Problem, problem, weight}
 use Rattle.method.specs.Iterates.{gaps, maximum, mixture-distance, support}
 use Rattle.method.specs.Answers.{verdict-number, stops, run-answer, run-iterate}
 use Rattle.method.specs.Bounds.{answer-of, Answer-bounds}
-use Rattle.card_format.specs.Format.{Fields, pairs, trailer-bytes, card-bytes, card-fields, card-test, card-shares, card-answer, run-card}
+use Rattle.card_format.specs.Format.{card-limit, Fields, pairs, trailer-bytes, card-bytes, card-fields, card-test, card-shares, card-answer, run-card}
 use Rattle.card_format.specs.Checks.{card-refusal}
 
 -- what a trailer says, judged by a test, is true of some shares, one a vertex of a problem
@@ -44,7 +45,7 @@ pub record Card-true (b s w : List ℕ) : Type 0 where
   pub own : Fields
   pub test : Test
   pub layout : w ≡ front ++ (pairs 0 shares ++ trailer-bytes test own)
-  pub most-bytes : length w ≤ 40000
+  pub most-bytes : length w ≤ file-limit
   pub back : own .back ≡ length (pairs 0 shares)
   -- ---- Of this book: one share a boat
   pub boats : own .boats ≡ boats b
@@ -66,7 +67,7 @@ pub record Filed-before (b s w : List ℕ) : Type 0 where
   pub few-boats : support shares ≤ steps
   pub stops-here : stops (sheet s .steps) steps (answer-of Former (problem b s) shares steps .verdict) ≡ true
   pub layout : w ≡ front ++ card-bytes Former (answer-of Former (problem b s) shares steps) shares (sheet s .tolerance) (boats b) (columns b)
-  pub most-bytes : length w ≤ 40000
+  pub most-bytes : length w ≤ file-limit
 
 -- ---- What an accepted card vouches for: a is the answer given back for it, `shares` its shares. The bound by steps is a run's alone.
 pub record Card-vouches (b s w : List ℕ) (a : Answer) (shares : List ℕ) : Type 0 where
@@ -97,7 +98,7 @@ Accepted-exactly =
 -- a card that was written is accepted, also behind any front text that keeps it within 40,000 bytes, and reads back as the run's answer and shares
 unfoldable pub Written-accepted : Type 0
 Written-accepted =
-    (b s front : List ℕ) → files-refusal b s ≡ 0 → length front + length (run-card b s) ≤ 40000 →
+    (b s front : List ℕ) → files-refusal b s ≡ 0 → length front + length (run-card b s) ≤ file-limit →
     (card-refusal b s (front ++ run-card b s) ≡ 0)
     × (card-answer b s (front ++ run-card b s) ≡ run-answer (problem b s)) × (card-shares (boats b) (front ++ run-card b s) ≡ run-iterate (problem b s) .shares)
 
@@ -107,7 +108,7 @@ Filed-before-true = (b s w : List ℕ) → files-refusal b s ≡ 0 → Filed-bef
 
 -- a written card has at most 1,060 bytes, so it needs no front text to keep within 40,000
 unfoldable pub Written-short : Type 0
-Written-short = (b s : List ℕ) → files-refusal b s ≡ 0 → length (run-card b s) ≤ 1060
+Written-short = (b s : List ℕ) → files-refusal b s ≡ 0 → length (run-card b s) ≤ card-limit
 
 -- an accepted card vouches for the gap
 unfoldable pub Accepted-vouches : Type 0
@@ -126,4 +127,4 @@ unfoldable pub Shares-fit : Type 0
 Shares-fit =
     (b s qs : List ℕ) → files-refusal b s ≡ 0 → length qs ≡ boats b → 1 ≤ sum qs →
     (pos 0 ≤ℤ mixture-gap (problem b s) qs)
-    × (sum qs ≤ 64980 → (mixture-distance (problem b s) qs < 4611686018427387904) × (natAbs (mixture-gap (problem b s) qs) < 4611686018427387904))
+    × (sum qs ≤ total-limit → (mixture-distance (problem b s) qs < sum-limit) × (natAbs (mixture-gap (problem b s) qs) < sum-limit))

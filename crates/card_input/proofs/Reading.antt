@@ -9,6 +9,7 @@ use lib.Dec.{eqb, leb, ltb}
 use lib.ListN.{length, take, drop}
 use Rattle.files.specs.Bytes.{number, same, between, length-in-range, trailer, body, reaches}
 use Rattle.files.proofs.Numbers.{number-in-trailer, drop-trailer}
+use Rattle.files.specs.Limits.{file-limit}
 use Rattle.method.specs.declared.Test.the-variants.{Former, Sharper}
 use Rattle.card_format.specs.Format.{WCD1, WCD2, letters, fields, card-fields, lettered, card-test, card-body, pair-count, shares-into}
 use Rattle.card_format.specs.Checks.{back-fits, pairs-in-order, counts-agree, steps-fit, form-refusal}
@@ -148,7 +149,7 @@ module _ {n : ℕ} {w : List ℕ} (f : Back-fits n (card-fields w .back) w) wher
   into-at qs = sym (ap (λ l. shares-into (pair-count w) l qs) body-at ∙ into-take (pair-count w) _ qs)
 
 -- ---- The refusal of a card's form, test by test; each law's premises are the facts as the code has them at one of its returns
-module _ (n c steps : ℕ) (w : List ℕ) (g₁ : Bool) (e₁ : g₁ ≡ between 36 40000 (length w)) where
+module _ (n c steps : ℕ) (w : List ℕ) (g₁ : Bool) (e₁ : g₁ ≡ between 36 file-limit (length w)) where
   pub length-out : not g₁ ≡ true → 31 ≡ form-refusal n c steps w
   unfolding form-refusal length-in-range
   length-out t = simp (← e₁, not-true g₁ t)

@@ -13,7 +13,7 @@ use Rattle.method.specs.Problem.{problem}
 use Rattle.method.specs.Answers.{outcome, slots-after, run-answer}
 use Rattle.card.specs.declared.Written.{Written}
 use Rattle.card.specs.Filing.{written-size, filing}
-use Rattle.card_format.specs.Format.{run-card}
+use Rattle.card_format.specs.Format.{card-limit, run-card}
 use Rattle.card_format.specs.Checks.{write-refusal, check-refusal}
 use Rattle.card_format.specs.Truth.{Written-accepted, Written-short}
 use Rattle.card_format.proofs.Written.{written-accepted, written-short}
@@ -26,9 +26,9 @@ use Rattle.card_listing.specs.Cards.{card-listing, search-card}
 
 module _ (b s : List ℕ) where
   -- no card is longer than 1,060 bytes
-  write-refusal-is : (n : ℕ) → n ≡ files-refusal b s → write-refusal b s 1060 ≡ n
+  write-refusal-is : (n : ℕ) → n ≡ files-refusal b s → write-refusal b s card-limit ≡ n
   unfolding write-refusal Written-short
-  write-refusal-is zero e = let q : ltb 1060 (length (run-card b s)) ≡ false = le-ltb 1060 (length (run-card b s)) (written-short b s (sym e)) in rw (← e, q)
+  write-refusal-is zero e = let q : ltb card-limit (length (run-card b s)) ≡ false = le-ltb card-limit (length (run-card b s)) (written-short b s (sym e)) in rw (← e, q)
   write-refusal-is (suc n) e = rw (← e, eqb·suc-zero n)
 
   -- what stands in the buffer's first bytes, as many as were written
@@ -42,7 +42,7 @@ module _ (b s : List ℕ) where
   length-by-number zero e = rw (← e)
   length-by-number (suc n) e = rw (← e, eqb·suc-zero n)
 
-  card-fits : (n : ℕ) → n ≡ files-refusal b s → length (search-card b s) ≤ 1060
+  card-fits : (n : ℕ) → n ≡ files-refusal b s → length (search-card b s) ≤ card-limit
   unfolding search-card Written-short
   card-fits zero e = rw (← e) (written-short b s (sym e))
   card-fits (suc n) e = rw (← e, eqb·suc-zero n) (omega arith)
@@ -56,7 +56,7 @@ module _ (b s : List ℕ) where
   listing-by-number (suc n) e = rw (same-refusal b s, ← e, eqb·suc-zero n)
 
   -- the writer's reply and what it leaves in a buffer of 1,060 bytes
-  module _ (out : List ℕ) (room : length out ≡ 1060) {w : Written} {len : ℕ} (e : w ≡ filing (write-refusal b s (length out)) (run-answer (problem b s)) (length (run-card b s))) (k : len ≡ written-size w) where
+  module _ (out : List ℕ) (room : length out ≡ card-limit) {w : Written} {len : ℕ} (e : w ≡ filing (write-refusal b s (length out)) (run-answer (problem b s)) (length (run-card b s))) (k : len ≡ written-size w) where
     refusal-is : write-refusal b s (length out) ≡ files-refusal b s
     refusal-is = rw room (write-refusal-is (files-refusal b s) refl)
 
@@ -66,7 +66,7 @@ module _ (b s : List ℕ) where
     length-is : len ≡ length (search-card b s)
     length-is = written-is ∙ length-by-number (files-refusal b s) refl
 
-    pub length-fits : len ≤ 1060
+    pub length-fits : len ≤ card-limit
     length-fits = omega (arith, length-is, card-fits (files-refusal b s) refl)
 
     pub filed-listed : {now : List ℕ} {t : Text} → now ≡ slots-after (write-refusal b s (length out)) (run-card b s) out → Holds (card-listing b s (take len now)) t →

@@ -17,6 +17,9 @@ ghost use Rattle.card_listing.specs.Cards.{card-outcome, card-listing, s
 use card::Written;
 use text::Text;
 
+// The bytes of the longest card that is written: 256 pairs and a trailer.
+pub const MOST_CARD: usize = 1060;
+
 // ENTRY. The listing of a card's answer and shares, or of the number that refuses the files or the card.
 // The second clause says of what is listed all that `check_card` promises of it: the check vouches for the gap of the mixture, and not
 // for the bound that a run of so many steps has.
@@ -55,7 +58,7 @@ pub struct Filing {
 
 // ENTRY. The card of a search, written to the first bytes of `output`, and the listing of the search. Refused files leave the buffer
 // as it was; no card is longer than it. One search is made: its listing is that of the card which it wrote.
-pub fn filed_text(book: &[u8], sheet: &[u8], output: &mut [u8; 1060]) -> Filing
+pub fn filed_text(book: &[u8], sheet: &[u8], output: &mut [u8; MOST_CARD]) -> Filing
     ensures { λ r. ⌜ r .len ≡ length (search-card (now (book .entry)) (now (sheet .entry))) ⌝ }
     ensures { λ r. ⌜ Holds (search-listing (now (book .entry)) (now (sheet .entry))) (r .text) ⌝ }
     ensures { λ _. ⌜ Outcome-right (now (book .entry)) (now (sheet .entry)) (search-outcome (now (book .entry)) (now (sheet .entry))) (search-shares (now (book .entry)) (now (sheet .entry))) ⌝ }

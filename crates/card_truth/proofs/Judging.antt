@@ -13,6 +13,7 @@ use Rattle.files.specs.Book.{boats}
 use Rattle.files.specs.Sheet.{sheet, files-refusal}
 use Rattle.files.proofs.Refusal.{and-true, between-true}
 use Rattle.files.proofs.Accepted.{passed}
+use Rattle.files.specs.Limits.{file-limit, step-limit}
 use Rattle.method.specs.declared.Test.{Test}
 use Rattle.method.specs.declared.Test.the-variants.{Former, Sharper}
 use Rattle.method.specs.declared.Answer.{Answer}
@@ -38,7 +39,7 @@ pub record Formed (n steps : ℕ) (w : List ℕ) : Type 0 where
 pub formed : (n c steps : ℕ) (w : List ℕ) → form-refusal n c steps w ≡ 0 → Formed n steps w
 unfolding form-refusal length-in-range steps-fit
 formed n c steps w e =
-    let p1 = passed (between 36 40000 (length w)) 30 _ e in
+    let p1 = passed (between 36 file-limit (length w)) 30 _ e in
     let p2 = passed (lettered Former w || lettered Sharper w) 31 _ (p1 .1) in
     let p3 = passed (counts-agree n c w) 32 _ (p2 .1) in
     let p4 = passed (steps-fit steps w) 33 _ (p3 .1) in
@@ -46,7 +47,7 @@ formed n c steps w e =
     let p6 = passed (pairs-in-order (pair-count w) 0 n (card-body w)) 35 0 (p5 .1) in
     let k = between-true 1 steps (card-fields w .steps) (and-true (between 1 3 (card-fields w .verdict)) _ (p4 .0) .1) in
     record {
-      readable = record { long = between-true 36 40000 (length w) (p1 .0) .0; some-step = k .0; most-steps = k .1 };
+      readable = record { long = between-true 36 file-limit (length w) (p1 .0) .0; some-step = k .0; most-steps = k .1 };
       back = back-means n (card-fields w .back) w (p5 .0);
       ordered = p6 .0;
     }
@@ -61,7 +62,7 @@ module _ (b s w : List ℕ) (ok : files-refusal b s ≡ 0) {l : Layout} (e : l �
   unfolding file-layout
   few-boats = rw e (book-fits b s ok .most-boats)
 
-  pub few-steps : card-fields w .steps ≤ 360
+  pub few-steps : card-fields w .steps ≤ step-limit
   few-steps = omega (arith, f .most-steps, sheet-fits b s ok .most-steps)
 
   module _ (g : Bool) (eg : g ≡ shares-total fixed (pair-count w) (take (l .boats) shares) (card-fields w .steps)) where
@@ -74,7 +75,7 @@ module _ (b s w : List ℕ) (ok : files-refusal b s ≡ 0) {l : Layout} (e : l �
     total-refused k = rw (total-is, not-true g k) refl
 
     module _ (g₁ : not g ≡ false) {t : ℕ} (et : t ≡ card-fields w .steps) where
-      pub steps-asked : (1 ≤ t) × (t ≤ 360)
+      pub steps-asked : (1 ≤ t) × (t ≤ step-limit)
       steps-asked = (omega (arith, f .some-step), omega (arith, few-steps))
 
       pub total-asked : sum (take (boats b) shares) ≡ weight fixed t

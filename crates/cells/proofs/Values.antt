@@ -16,6 +16,7 @@ use Rattle.files.specs.Book.{columns, book-refusal}
 use Rattle.files.specs.Sheet.{WSH1, WSH2, sheet, sheet-columns, sheet-lettered, sheet-back, sheet-refusal-in, sheet-refusal}
 use Rattle.files.specs.Fits.{Book-fits}
 use Rattle.files.proofs.Accepted.{book-accepted}
+use Rattle.files.specs.Limits.{step-limit}
 use Rattle.rounding.specs.Rounding.{half-even, rounded}
 use Rattle.readings.specs.Readings.{numerator, denominator, whole}
 use Rattle.cells.specs.declared.ScaleCell.{ScaleCell}
@@ -109,7 +110,7 @@ target-passes c s good h =
     let p1 = next-not (length-in-range 16 s) 11 _ 17 h (λ e. omega arith) in
     let p2 = next-not (sheet-lettered WSH1 s || sheet-lettered WSH2 s) 12 _ 17 (p1 .1) (λ e. omega arith) in
     let p3 = next-not (between c c (sheet-columns s)) 13 _ 17 (p2 .1) (λ e. omega arith) in
-    let p4 = next-not (between 1 360 (number 6 2 (trailer 16 s))) 14 _ 17 (p3 .1) (λ e. omega arith) in
+    let p4 = next-not (between 1 step-limit (number 6 2 (trailer 16 s))) 14 _ 17 (p3 .1) (λ e. omega arith) in
     let p5 = next (ltb 1024000000 (number 8 4 (trailer 16 s))) 15 _ 17 (p4 .1) (λ e. omega arith) in
     body-passes (eqb back (sheet-back s) && reaches 16 back s) (all-in-range (values (sheet-columns s) (body 16 (sheet-back s) s))) (between 1 64 (sum (sheet s .factors))) good p5
 

@@ -5,7 +5,7 @@
 ghost use mathlib.Core.Path.{_≡_};
 ghost use Rattle.csv.specs.Tokens.{start-step, plain-step, quoted-step, closing-step, return-step, step, ending, look, first-line-has, separator, mark-size};
 ghost use Rattle.csv.specs.Cells.{no-bytes, class-of, after-space, after-sign, after-figure, shape-after, more, magnitude-after, with-byte, is-negative, is-number, progress};
-ghost use Prim.Native.Nat.{_≤_, _<_};
+ghost use Prim.Native.Nat.{_<_};
 
 // Tokens above the bytes: the end of a field, of a line, of the text, a byte that says nothing; and what is wrong:
 // text after a closing quote, a quote that is not closed.

@@ -1,29 +1,27 @@
 -- A book of a CSV put together: front text, rows, trailer; it is accepted and reads back.
 use mathlib.Core.Path.{_≡_, refl, sym, ap, _∙_}
-use mathlib.Core.List.{List, [], _∷_, _++_}
-use Prim.Native.Nat.{ℕ, zero, suc, _+_, _*_, _-_, _≤_, _<_}
+use mathlib.Core.List.{List, [], _++_}
+use Prim.Native.Nat.{ℕ, zero, suc, _+_, _*_, _≤_, _<_}
 use native.Mathlib.Nat.{mul-le-mul}
 use native.Mathlib.Omega.{arith}
 use borrow.Author.Tests.{lt-ltb, le-ltb}
-use lib.ListN.{length, take, drop, length-append}
-use lib.Seq.{take-at}
+use lib.ListN.{length, take, length-append}
 use Rattle.files.specs.Book.{boats, columns, rows, book-refusal, Book-whole}
 use Rattle.files.specs.Front.{Book-front-unread}
 use Rattle.files.proofs.Front.{book-front-unread}
+use Rattle.files.specs.Limits.{file-limit}
 use Rattle.card_output.specs.Output.{placed}
-use Rattle.card_output.proofs.Placing.{placed-next, placed-length}
+use Rattle.card_output.proofs.Placing.{placed-next}
 use Rattle.sheet_output.specs.Output.{values-bytes}
 use Rattle.sheet_output.proofs.Values.{length-values-bytes}
 use Rattle.sheet_output.proofs.Writing.{front-taken}
-use Rattle.book_output.specs.Output.{book-trailer, book-bytes}
+use Rattle.book_output.specs.Output.{book-trailer}
 use Rattle.book_output.proofs.Back.{book-trailer-length}
 use Rattle.book_csv.specs.declared.Table.{Table}
 use Rattle.fleet_csv.specs.Fleet.{fleet-values, last-table, last-line}
 use Rattle.fleet_rows.specs.Rows.{fleet-rows, Whole, Faultless-whole}
 use Rattle.fleet_rows.proofs.Counting.{faultless-whole}
 use Rattle.fleet_rows.proofs.Rows as fleet
-use Rattle.csv_front.specs.declared.Front.{Front}
-use Rattle.csv_front.specs.declared.Front.the-variants.{Nothing}
 use Rattle.csv_front.specs.declared.Written.{Written}
 use Rattle.csv_front.specs.Front.{front-text, file-front, with-front, written-of}
 use Rattle.csv_front.proofs.Fronts.{file-front-short}
@@ -69,7 +67,7 @@ module _ (csv : List ℕ) (z : last-table csv .fault ≡ 0) where
         front-taken out (bare-book csv) w g (omega (arith, bare-length, few-values))
 
   -- with front text
-  pub made-long : length (csv-book csv) ≤ 40000
+  pub made-long : length (csv-book csv) ≤ file-limit
   unfolding csv-book with-front
   made-long = omega (arith, length-append (front-text (file-front csv (bare-book csv)) csv) (bare-book csv), file-front-short csv (bare-book csv), bare-length, few-values)
 
@@ -79,7 +77,7 @@ module _ (csv : List ℕ) (z : last-table csv .fault ≡ 0) where
       let d = fleet.bare-back csv whole in
       rw (d .boats-back, d .columns-back) (omega (arith, d .size))
 
-  front-fits : length (front-text (file-front csv (bare-book csv)) csv) + length (bare-book csv) ≤ 40000
+  front-fits : length (front-text (file-front csv (bare-book csv)) csv) + length (bare-book csv) ≤ file-limit
   front-fits = omega (arith, file-front-short csv (bare-book csv), bare-length, few-values)
 
   bare-accepted : (book-refusal (bare-book csv) ≡ 0) × ((rows (bare-book csv) ≡ fleet-rows csv) × ((boats (bare-book csv) ≡ last-table csv .boats) × (columns (bare-book csv) ≡ last-table csv .columns)))
@@ -102,7 +100,7 @@ module _ (csv : List ℕ) (z : last-table csv .fault ≡ 0) where
         columns-are = p .1 ∙ q .1 .1 .1 ∙ sym ec;
       }
 
-book-long : (csv : List ℕ) → last-table csv .fault ≡ 0 → length (with-front csv (bare-book csv)) ≤ 40000
+book-long : (csv : List ℕ) → last-table csv .fault ≡ 0 → length (with-front csv (bare-book csv)) ≤ file-limit
 unfolding csv-book
 book-long csv z = made-long csv z
 
@@ -111,14 +109,14 @@ abbrev Done : (csv out : List ℕ) → Made → (new : List ℕ) → Type 0
 Done csv out r new = (r ≡ book-made (length out) csv) × ((new ≡ output-by (r .fault) csv out) × Book-right csv r (take (r .len) new))
 
 module _ (csv out : List ℕ) where
-  pub no-room : length out < 40000 → {r : Made} → r ≡ nothing-made 11 0 0 0 0 → Done csv out r out
+  pub no-room : length out < file-limit → {r : Made} → r ≡ nothing-made 11 0 0 0 0 → Done csv out r out
   unfolding book-made output-by Book-right-by
-  no-room h e = rw e (rw (lt-ltb (length out) 40000 h), (refl, refl))
+  no-room h e = rw e (rw (lt-ltb (length out) file-limit h), (refl, refl))
 
-  module _ (h : 40000 ≤ length out) where
+  module _ (h : file-limit ≤ length out) where
     pub too-big : 200000 < length csv → {r : Made} → r ≡ nothing-made 10 0 0 0 0 → Done csv out r out
     unfolding book-made output-by Book-right-by
-    too-big k e = rw e (rw (le-ltb (length out) 40000 h, lt-ltb 200000 (length csv) k), (refl, refl))
+    too-big k e = rw e (rw (le-ltb (length out) file-limit h, lt-ltb 200000 (length csv) k), (refl, refl))
 
     module _ (k : length csv ≤ 200000) {t : Table} (et : t ≡ last-table csv) where
       not-made : (f : ℕ) → (f ≡ 0 → ⊥) → (l : ℕ) → l ≡ last-line csv →
@@ -131,7 +129,7 @@ module _ (csv out : List ℕ) where
       unfolding book-made
       with-fault n {l} el e =
           let p = not-made (t .fault) n l el in
-          rw (e, le-ltb (length out) 40000 h, le-ltb 200000 (length csv) k, ← et) (p .0, (p .1 .0, p .1 .1))
+          rw (e, le-ltb (length out) file-limit h, le-ltb 200000 (length csv) k, ← et) (p .0, (p .1 .0, p .1 .1))
 
       pub with-book : t .fault ≡ 0 → {file : List ℕ} → file ≡ bare-book csv → {w : Written} → w ≡ written-of csv file → {new : List ℕ} → new ≡ placed out 0 (with-front csv file) →
           Done csv out (record { fault = 0; line = 0; field = 0; len = w .len; boats = t .boats; columns = t .columns; front = w .front }) new
@@ -142,6 +140,6 @@ module _ (csv out : List ℕ) where
           let b : w .front ≡ file-front csv (bare-book csv) = rw (ew, ef) in
           let m : new ≡ placed out 0 (with-front csv (bare-book csv)) = rw ef at en in
           let s : take (w .len) new ≡ with-front csv (bare-book csv) = front-taken out (with-front csv (bare-book csv)) m a (omega (arith, book-long csv y)) in (
-            rw (le-ltb (length out) 40000 h, le-ltb 200000 (length csv) k, y, a, b, et),
+            rw (le-ltb (length out) file-limit h, le-ltb 200000 (length csv) k, y, a, b, et),
             (m, rw s (book-accepted csv y _ a (rw et) (rw et))),
           )

@@ -11,6 +11,7 @@ use Rattle.fleet_rows.specs.Rows.{fleet-rows}
 use Rattle.csv_front.specs.declared.Front.the-variants.{Nothing}
 use Rattle.csv_front.specs.Front.{file-front, with-front}
 use Rattle.csv_book.specs.declared.Made.{Made}
+use Rattle.files.specs.Limits.{file-limit}
 
 -- the book of a CSV without front text, and with it
 unfoldable pub bare-book : List ℕ → List ℕ
@@ -38,7 +39,7 @@ made-by (suc f) csv = nothing-made (suc f) (last-line csv) (last-table csv .fiel
 
 -- 11 for a buffer that is too short, then 10 for a CSV that is too long, then the fault of the table
 unfoldable pub book-made : (room : ℕ) → List ℕ → Made
-book-made room csv = cond (ltb room 40000) (nothing-made 11 0 0 0 0) (cond (ltb 200000 (length csv)) (nothing-made 10 0 0 0 0) (made-by (last-table csv .fault) csv))
+book-made room csv = cond (ltb room file-limit) (nothing-made 11 0 0 0 0) (cond (ltb 200000 (length csv)) (nothing-made 10 0 0 0 0) (made-by (last-table csv .fault) csv))
 
 -- the buffer after the call: as it was where there is a fault
 unfoldable pub output-by : (fault : ℕ) → (csv output : List ℕ) → List ℕ

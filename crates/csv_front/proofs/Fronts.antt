@@ -1,7 +1,7 @@
 -- Which front text there is room for, and each of them put.
-use mathlib.Core.Path.{_≡_, refl, sym, ap, _∙_}
+use mathlib.Core.Path.{_≡_, refl, sym, ap}
 use mathlib.Core.Bool.{Bool, true, false, cond}
-use mathlib.Core.List.{List, [], _++_}
+use mathlib.Core.List.{List, _++_}
 use Prim.Native.Nat.{ℕ, _+_, _-_, _≤_, _<_}
 use native.Mathlib.Omega.{arith}
 use borrow.Author.Tests.{le-leb, lt-leb, leb-true}
@@ -13,6 +13,7 @@ use Rattle.csv_front.specs.declared.Front.{Front}
 use Rattle.csv_front.specs.declared.Front.the-variants.{Whole, Names, Nothing}
 use Rattle.csv_front.specs.declared.Written.{Written}
 use Rattle.csv_front.specs.Front.{names-text, front-of, front-text, file-front, with-front, written-of}
+use Rattle.files.specs.Limits.{file-limit}
 
 module _ (csv : List ℕ) (room : ℕ) where
   pub front-whole : length csv ≤ room → Whole ≡ front-of room csv
@@ -65,11 +66,11 @@ front-short room csv = by (leb (length csv) room) (leb (length (names-text csv))
     by false true p q = leb-true (length (names-text csv)) room q
     by false false p q = omega arith
 
-pub file-front-short : (csv file : List ℕ) → length (front-text (file-front csv file) csv) ≤ 40000 - length file
+pub file-front-short : (csv file : List ℕ) → length (front-text (file-front csv file) csv) ≤ file-limit - length file
 unfolding file-front
-file-front-short csv file = front-short (40000 - length file) csv
+file-front-short csv file = front-short (file-limit - length file) csv
 
-module _ (csv file out : List ℕ) (k : length file ≤ 40000) (l : 40000 ≤ length out) {f : Front} (ef : f ≡ front-of (40000 - length file) csv) where
+module _ (csv file out : List ℕ) (k : length file ≤ file-limit) (l : file-limit ≤ length out) {f : Front} (ef : f ≡ front-of (file-limit - length file) csv) where
   is-front : f ≡ file-front csv file
   unfolding file-front
   is-front = ef
@@ -78,20 +79,20 @@ module _ (csv file out : List ℕ) (k : length file ≤ 40000) (l : 40000 ≤ le
   front-room = rw is-front (omega (arith, file-front-short csv file))
 
   module _ {at : ℕ} (ea : at ≡ length (front-text f csv)) {o₁ : List ℕ} (e₁ : o₁ ≡ placed out 0 (front-text f csv)) where
-    pub file-small : at + length file ≤ 40000
+    pub file-small : at + length file ≤ file-limit
     file-small =
-        let h : length (front-text f csv) ≤ 40000 - length file = rw is-front (file-front-short csv file) in
+        let h : length (front-text f csv) ≤ file-limit - length file = rw is-front (file-front-short csv file) in
         omega arith
 
     pub file-room : at + length file ≤ length o₁
     file-room =
-        let h : length (front-text f csv) ≤ 40000 - length file = rw is-front (file-front-short csv file) in
+        let h : length (front-text f csv) ≤ file-limit - length file = rw is-front (file-front-short csv file) in
         omega (arith, ap length e₁, placed-length out 0 (front-text f csv) (omega arith))
 
     pub file-put : {o₂ : List ℕ} → o₂ ≡ placed o₁ at file → (_≡_ {A = Written} (record { front = f; len = at + length file }) (written-of csv file)) × (o₂ ≡ placed out 0 (with-front csv file))
     unfolding written-of with-front
     file-put {o₂} e₂ =
-        let h : length (front-text f csv) ≤ 40000 - length file = rw is-front (file-front-short csv file) in
+        let h : length (front-text f csv) ≤ file-limit - length file = rw is-front (file-front-short csv file) in
         let p : o₂ ≡ placed out 0 (front-text f csv ++ file) = placed-next out 0 (front-text f csv) file at e₁ e₂ (omega arith) (omega arith) in
         let q : at + length file ≡ length (front-text f csv ++ file) = omega (arith, length-append (front-text f csv) file) in
         (rw (q, is-front), rw (← is-front) p)

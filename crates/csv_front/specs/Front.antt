@@ -12,6 +12,7 @@ use Rattle.book_csv.specs.Table.{start, after}
 use Rattle.csv_front.specs.declared.Front.{Front}
 use Rattle.csv_front.specs.declared.Front.the-variants.{Whole, Names, Nothing}
 use Rattle.csv_front.specs.declared.Written.{Written}
+use Rattle.files.specs.Limits.{file-limit}
 
 -- whether a byte with this token is no part of a value, nor a separator before one: it stands in the line of the column names, in that
 -- of the units or in the first field of a line, or it ends a line
@@ -41,7 +42,7 @@ front-text Nothing csv = []
 
 -- beside a file, since both together have at most 40,000 bytes
 unfoldable pub file-front : (csv file : List ℕ) → Front
-file-front csv file = front-of (40000 - length file) csv
+file-front csv file = front-of (file-limit - length file) csv
 
 unfoldable pub with-front : (csv file : List ℕ) → List ℕ
 with-front csv file = front-text (file-front csv file) csv ++ file

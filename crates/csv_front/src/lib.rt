@@ -6,6 +6,7 @@ ghost use Prim.Native.Nat.{_+_, _≤_};
 ghost use lib.ListN.{length};
 ghost use Rattle.card_output.specs.Output.{placed};
 ghost use Rattle.csv_front.specs.Front.{is-kept, kept-byte, names-text, front-of, front-text, with-front, written-of};
+ghost use Rattle.files.specs.Limits.{file-limit};
 use book_csv::Table;
 use csv::Mode;
 
@@ -154,8 +155,8 @@ fn put_front(csv: &[u8], output: &mut [u8], front: Front) -> usize
 // Puts a file with the front text that there is room for, from the first byte on.
 pub fn put_with_front(csv: &[u8], output: &mut [u8], file: &[u8]) -> Written
     requires { ⌜ length (now csv) ≤ 200000 ⌝ }
-    requires { ⌜ length (now file) ≤ 40000 ⌝ }
-    requires { ⌜ 40000 ≤ length (now output) ⌝ }
+    requires { ⌜ length (now file) ≤ file-limit ⌝ }
+    requires { ⌜ file-limit ≤ length (now output) ⌝ }
     ensures { λ r. ⌜ r ≡ written-of (now (csv .entry)) (now (file .entry)) ⌝ }
     ensures { λ _. ⌜ now (output .exit) ≡ placed (now (output .entry)) 0 (with-front (now (csv .entry)) (now (file .entry))) ⌝ }
 {

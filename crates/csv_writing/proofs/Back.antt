@@ -2,26 +2,23 @@
 use mathlib.Core.Path.{_≡_, refl, sym, ap, _∙_}
 use mathlib.Core.Bool.{Bool, true, false, cond}
 use mathlib.Core.List.{List, [], _∷_, _++_, map, append-nil, append-assoc}
-use Prim.Native.Nat.{ℕ, zero, suc, _+_, _*_, _≤_, _<_}
+use Prim.Native.Nat.{ℕ, _+_, _≤_}
 use native.Mathlib.Nat.{zero-mul}
 use native.Mathlib.Omega.{arith}
-use borrow.Author.Tests.{ne-eqb, eqb-true}
 use lib.Dec.{ltb, eqb}
-use lib.IntN.{ℤ}
-use lib.ListN.{length, take, drop, length-append}
+use lib.ListN.{length}
 use lib.Seq.{take-at, drop-at}
-use Rattle.csv.specs.declared.Mode.{Mode}
-use Rattle.csv.specs.declared.Mode.the-variants.{Start, Closing}
+use Rattle.csv.specs.declared.Mode.the-variants.{Start}
 use Rattle.csv.specs.Cells.{no-bytes}
 use Rattle.csv.specs.Tokens.{tokens, look, looked, first-line-has, separator, mark-size, csv-tokens}
 use Rattle.book_csv.specs.declared.Table.{Table}
-use Rattle.book_csv.specs.Table.{UNIT, start, after}
+use Rattle.book_csv.specs.Table.{UNIT, start}
 use Rattle.book_csv.proofs.Steps.{after-good, token-end, line-blank, finished-boats}
-use Rattle.fleet_csv.specs.Fleet.{ends-value, ended-value, values-from, table-from, fleet-values, last-table}
+use Rattle.fleet_csv.specs.Fleet.{values-from, table-from, fleet-values, last-table}
 use Rattle.fleet_csv.proofs.Values.{test-name}
 use Rattle.fleet_rows.specs.Rows.{rows-of, fleet-rows}
 use Rattle.csv_writing.specs.Writing.{Boat, Fleet, doubled, quoted, fields, line, boat-lines, fleet-csv}
-use Rattle.csv_writing.specs.Back.{All, Name-fits, Boat-fits, Fleet-fits, Read-back, Fleet-reads-back, none, more}
+use Rattle.csv_writing.specs.Back.{All, Boat-fits, Fleet-fits, Fleet-reads-back, none, more}
 use Rattle.csv_writing.proofs.Going.{Goes, goes-on, no-value, at, cell-with, word-with, no-word, quoted-goes}
 use Rattle.csv_writing.proofs.Lines.{named, header-fields, unit-line, all-values, boats-go}
 

@@ -1,20 +1,18 @@
 -- What a piece of text does to a reader: from a mode and a table to others, with the values that end in it.
 use mathlib.Core.Path.{_≡_, refl, sym, ap, _∙_}
 use mathlib.Core.Bool.{Bool, true, false, cond, _&&_, not}
-use mathlib.Core.List.{List, [], _∷_, _++_, append-assoc, append-nil}
-use Prim.Native.Nat.{ℕ, zero, suc, _+_, _*_, _≤_, _<_}
-use native.Mathlib.Nat.{add-assoc}
+use mathlib.Core.List.{List, [], _∷_, _++_, append-assoc}
+use Prim.Native.Nat.{ℕ, _+_, _≤_, _<_}
 use native.Mathlib.Omega.{arith}
-use borrow.Author.Tests.{eq-eqb, ne-eqb, lt-ltb, le-ltb, ltb-true, eqb-true}
-use lib.Dec.{ltb, leb, eqb}
+use borrow.Author.Tests.{lt-ltb, ltb-true, eqb-true}
+use lib.Dec.{ltb, eqb}
 use lib.IntN.{ℤ}
 use lib.ListN.{length, length-append}
 use Rattle.files.specs.Bytes.{all-bytes}
 use Rattle.csv.specs.declared.Cell.{Cell}
 use Rattle.csv.specs.declared.Mode.{Mode}
-use Rattle.csv.specs.declared.Mode.the-variants.{Start, Plain, Quoted, Closing, Return}
-use Rattle.csv.specs.declared.Step.{Step}
-use Rattle.csv.specs.Cells.{no-bytes, with-byte, progress, signed}
+use Rattle.csv.specs.declared.Mode.the-variants.{Start, Plain, Quoted, Closing}
+use Rattle.csv.specs.Cells.{no-bytes, with-byte, progress}
 use Rattle.csv.specs.Tokens.{says, step, tokens}
 use Rattle.book_csv.specs.declared.Table.{Table}
 use Rattle.book_csv.specs.Table.{UNIT, with-text, consumed, after}

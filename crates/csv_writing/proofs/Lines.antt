@@ -1,22 +1,19 @@
 -- Lines of a written fleet: column names, units, boats.
 use mathlib.Core.Path.{_≡_, refl, sym, ap, _∙_}
-use mathlib.Core.Bool.{Bool, true, false, cond, _&&_}
+use mathlib.Core.Bool.{Bool, true, false}
 use mathlib.Core.List.{List, [], _∷_, _++_, map}
 use Prim.Native.Nat.{ℕ, zero, suc, _+_, _*_, _≤_, _<_}
-use native.Mathlib.Nat.{suc-mul, add-mul, mul-le-mul}
+use native.Mathlib.Nat.{add-mul, mul-le-mul}
 use native.Mathlib.Omega.{arith}
 use borrow.Author.Tests.{eq-eqb, lt-ltb}
-use lib.Dec.{eqb}
 use lib.IntN.{ℤ}
-use lib.ListN.{length, length-append}
-use Rattle.files.specs.Bytes.{in-range, all-in-range, all-bytes}
+use lib.ListN.{length}
+use Rattle.files.specs.Bytes.{in-range, all-in-range}
 use Rattle.csv.specs.declared.Cell.{Cell}
-use Rattle.csv.specs.declared.Mode.{Mode}
-use Rattle.csv.specs.declared.Mode.the-variants.{Start, Plain, Quoted, Closing, Return}
+use Rattle.csv.specs.declared.Mode.the-variants.{Start, Plain, Closing}
 use Rattle.csv.specs.Cells.{no-bytes, signed}
-use Rattle.csv.specs.Tokens.{says, step}
 use Rattle.book_csv.specs.declared.Table.{Table}
-use Rattle.book_csv.specs.Table.{UNIT, number-fault, name-fault, field-fault, limit, units-after, end-fault, columns-after, boats-after, word-after, after}
+use Rattle.book_csv.specs.Table.{UNIT, number-fault, field-fault, limit, units-after, end-fault, columns-after, boats-after, word-after, after}
 use Rattle.book_csv.proofs.Steps.{name-some, limit-first, limit-later, word-first, word-later, fault-header, units-word, units-kept, columns-first, columns-kept, boats-first, end-names, fault-units, fault-name, fault-value, boats-units, boats-more, end-whole, field-next, line-next, line-later, after-good, token-field, token-line}
 use Rattle.fleet_csv.specs.Fleet.{ends-value, ended-value}
 use Rattle.fleet_csv.proofs.Values.{test-names, test-units, test-name, test-value}

@@ -3,7 +3,6 @@ use mathlib.Core.Path.{_≡_}
 use mathlib.Core.Bool.{true}
 use mathlib.Core.List.{List, [], _∷_, map}
 use Prim.Native.Nat.{ℕ, _≤_}
-use lib.IntN.{ℤ}
 use lib.ListN.{length}
 use Rattle.files.specs.Bytes.{all-bytes, all-in-range}
 use Rattle.fleet_csv.specs.Fleet.{last-table}

@@ -7,13 +7,13 @@ use borrow.Author.Tests.{lt-ltb, le-ltb}
 use lib.Dec.{ltb}
 use lib.ListN.{length, take, drop}
 use Rattle.text.specs.declared.Text.{Text}
-use Rattle.text.specs.Texts.{Holds}
+use Rattle.text.specs.Texts.{text-limit, Holds}
 use Rattle.exports.specs.Buffers.{bytes-after}
 
 module _ {l : List ℕ} {t : Text} (h : Holds l t) (old : List ℕ) where
   -- what a listing's length and the buffer's bytes afterwards must be
   abbrev pub Lists : (new : List ℕ) → Type 0
-  Lists new = ((t .len ≡ length l) × (t .len ≤ 4096)) × (new ≡ bytes-after l old)
+  Lists new = ((t .len ≡ length l) × (t .len ≤ text-limit)) × (new ≡ bytes-after l old)
 
   pub left-alone : length old < t .len → Lists old
   unfolding bytes-after

@@ -27,6 +27,7 @@ ghost use Rattle.scale_sheet.specs.Promise.{Sheet-right};
 ghost use Rattle.cell_lists.specs.Lists.{flat-cells};
 ghost use Rattle.card_choice.specs.Choices.{numbered, part-of, choice};
 ghost use Rattle.card_choice.specs.Promise.{Better-right};
+ghost use Rattle.text.specs.Texts.{text-limit};
 use card_choice::Choice;
 use cells::SheetValues;
 use replies::CardReply;
@@ -72,8 +73,8 @@ pub extern "C" fn dofitrano_write_card(book: &[u8], sheet: &[u8], output: &mut [
 }
 
 // The first `count` bytes of `to` as those of `from`; later bytes as they were.
-fn put_bytes(from: [u8; 4096], count: usize, to: &mut [u8])
-    requires { ⌜ (count ≤ 4096) × (count ≤ length (now to)) ⌝ }
+fn put_bytes(from: [u8; text::MOST_BYTES], count: usize, to: &mut [u8])
+    requires { ⌜ (count ≤ text-limit) × (count ≤ length (now to)) ⌝ }
     ensures { λ _. ⌜ now (to .exit) ≡ take count from ++ drop count (now (to .entry)) ⌝ }
 {
     let mut i = 0;
@@ -87,7 +88,7 @@ fn put_bytes(from: [u8; 4096], count: usize, to: &mut [u8])
 // `output`, and later bytes are as they were; a buffer shorter than the listing is left as it was.
 #[no_mangle]
 pub extern "C" fn dofitrano_listing(book: &[u8], sheet: &[u8], output: &mut [u8]) -> usize
-    ensures { λ r. ⌜ (r ≡ length (search-listing (now (book .entry)) (now (sheet .entry)))) × (r ≤ 4096) ⌝ }
+    ensures { λ r. ⌜ (r ≡ length (search-listing (now (book .entry)) (now (sheet .entry)))) × (r ≤ text-limit) ⌝ }
     ensures { λ _. ⌜ now (output .exit) ≡ bytes-after (search-listing (now (book .entry)) (now (sheet .entry))) (now (output .entry)) ⌝ }
 {
     let text = search_listing::search_listing(book, sheet);

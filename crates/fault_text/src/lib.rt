@@ -6,7 +6,7 @@ ghost use mathlib.Core.List.{map};
 ghost use Prim.Native.Nat.{_+_, _≤_};
 ghost use lib.ListN.{length};
 ghost use Rattle.card_output.specs.Output.{placed};
-ghost use Rattle.text.specs.Texts.{Holds, Adds};
+ghost use Rattle.text.specs.Texts.{text-limit, Holds, Adds};
 ghost use Rattle.fault_text.specs.Faults.{shown, part, place, other-words, plain-words, few-words, unnamed-words, many-words, words, looked, wants-boat, wants-column, wants-value, fault-line, fleet-fault, front-line, book-lines};
 use csv_book::Made;
 use csv_front::Front;
@@ -21,7 +21,7 @@ fn shown(b: u8) -> u8
 
 // The text followed by a name, as one line shows it.
 fn with_shown(text: Text, name: &[u8]) -> Text
-    requires { ⌜ text .len + length (now name) ≤ 4096 ⌝ }
+    requires { ⌜ text .len + length (now name) ≤ text-limit ⌝ }
     ensures { λ r. ⌜ Adds text (map shown (now (name .entry))) r ⌝ }
 {
     let start = text.len;
@@ -39,7 +39,7 @@ fn with_shown(text: Text, name: &[u8]) -> Text
 
 // The text followed by a comma and a name, where there is one.
 fn with_part(text: Text, name: &[u8]) -> Text
-    requires { ⌜ text .len + length (now name) + 2 ≤ 4096 ⌝ }
+    requires { ⌜ text .len + length (now name) + 2 ≤ text-limit ⌝ }
     ensures { λ r. ⌜ Adds text (part (now (name .entry))) r ⌝ }
     ensures { λ r. ⌜ r .len ≤ text .len + length (now (name .entry)) + 2 ⌝ }
 {
@@ -52,7 +52,7 @@ fn with_part(text: Text, name: &[u8]) -> Text
 
 // The text followed by the number of a line, where there is one.
 fn with_place(text: Text, line: usize) -> Text
-    requires { ⌜ text .len + 26 ≤ 4096 ⌝ }
+    requires { ⌜ text .len + 26 ≤ text-limit ⌝ }
     ensures { λ r. ⌜ Adds text (place line) r ⌝ }
     ensures { λ r. ⌜ r .len ≤ text .len + 26 ⌝ }
 {
@@ -65,7 +65,7 @@ fn with_place(text: Text, line: usize) -> Text
 
 // The same for faults of the whole CSV and of quotes.
 fn with_other(text: Text, fault: u32) -> Text
-    requires { ⌜ text .len + 40 ≤ 4096 ⌝ }
+    requires { ⌜ text .len + 40 ≤ text-limit ⌝ }
     ensures { λ r. ⌜ Adds text (other-words fault) r ⌝ }
     ensures { λ r. ⌜ r .len ≤ text .len + 40 ⌝ }
 {
@@ -89,7 +89,7 @@ fn with_other(text: Text, fault: u32) -> Text
 
 // The text followed by the words of a fault that has no numbers.
 fn with_plain(text: Text, fault: u32) -> Text
-    requires { ⌜ text .len + 40 ≤ 4096 ⌝ }
+    requires { ⌜ text .len + 40 ≤ text-limit ⌝ }
     ensures { λ r. ⌜ Adds text (plain-words fault) r ⌝ }
     ensures { λ r. ⌜ r .len ≤ text .len + 40 ⌝ }
 {
@@ -113,7 +113,7 @@ fn with_plain(text: Text, fault: u32) -> Text
 
 // The text followed by how many values there are, of how many.
 fn with_few(text: Text, field: usize, columns: usize) -> Text
-    requires { ⌜ text .len + 60 ≤ 4096 ⌝ }
+    requires { ⌜ text .len + 60 ≤ text-limit ⌝ }
     ensures { λ r. ⌜ Adds text (few-words field columns) r ⌝ }
     ensures { λ r. ⌜ r .len ≤ text .len + 60 ⌝ }
 {
@@ -125,7 +125,7 @@ fn with_few(text: Text, field: usize, columns: usize) -> Text
 
 // The text followed by the number of a column without a name.
 fn with_unnamed(text: Text, field: usize) -> Text
-    requires { ⌜ text .len + 60 ≤ 4096 ⌝ }
+    requires { ⌜ text .len + 60 ≤ text-limit ⌝ }
     ensures { λ r. ⌜ Adds text (unnamed-words field) r ⌝ }
     ensures { λ r. ⌜ r .len ≤ text .len + 60 ⌝ }
 {
@@ -136,7 +136,7 @@ fn with_unnamed(text: Text, field: usize) -> Text
 
 // The text followed by how many values there may be.
 fn with_many(text: Text, columns: usize) -> Text
-    requires { ⌜ text .len + 60 ≤ 4096 ⌝ }
+    requires { ⌜ text .len + 60 ≤ text-limit ⌝ }
     ensures { λ r. ⌜ Adds text (many-words columns) r ⌝ }
     ensures { λ r. ⌜ r .len ≤ text .len + 60 ⌝ }
 {
@@ -147,7 +147,7 @@ fn with_many(text: Text, columns: usize) -> Text
 
 // The text followed by what is wrong.
 fn with_words(text: Text, fault: u32, field: usize, columns: usize, value: &[u8]) -> Text
-    requires { ⌜ text .len + length (now value) + 60 ≤ 4096 ⌝ }
+    requires { ⌜ text .len + length (now value) + 60 ≤ text-limit ⌝ }
     ensures { λ r. ⌜ Adds text (words fault field columns (now (value .entry))) r ⌝ }
     ensures { λ r. ⌜ r .len ≤ text .len + length (now (value .entry)) + 60 ⌝ }
 {
@@ -268,7 +268,7 @@ pub fn fleet_fault(csv: &[u8], made: Made) -> Text
 
 // The text followed by the line of the front text.
 fn with_front(text: Text, front: Front) -> Text
-    requires { ⌜ text .len + 20 ≤ 4096 ⌝ }
+    requires { ⌜ text .len + 20 ≤ text-limit ⌝ }
     ensures { λ r. ⌜ Adds text (front-line front) r ⌝ }
 {
     match front {

@@ -6,6 +6,7 @@ use lib.ListN.{length}
 use lib.Seq.{length-take-le}
 use Rattle.io.specs.Counts.{Counts}
 use Rattle.text.specs.declared.Text.{Text}
+use Rattle.text.specs.Texts.{text-limit}
 
-pub text-counts : (t : Text) → length (t .bytes) ≡ 4096 → t .len ≤ 4096 → Counts (t .len) (t .bytes)
+pub text-counts : (t : Text) → length (t .bytes) ≡ text-limit → t .len ≤ text-limit → Counts (t .len) (t .bytes)
 text-counts t l h = (omega arith, sym (length-take-le (t .len) (t .bytes) (omega arith)))

@@ -4,6 +4,7 @@ ghost use mathlib.Core.Path.{_≡_};
 ghost use Prim.Native.Nat.{_≤_};
 ghost use lib.ListN.{take};
 ghost use Rattle.io.specs.Counts.{Counts};
+ghost use Rattle.text.specs.Texts.{text-limit};
 use libc::STDERR_FILENO;
 use libc::STDOUT_FILENO;
 use text::Text;
@@ -107,7 +108,7 @@ pub fn replace_file(path: &[u8], content: &[u8]) -> bool {
 
 // Prints a text. Where standard output does not take all of it, standard error says so.
 pub fn print(t: Text)
-    requires { ⌜ t .len ≤ 4096 ⌝ }
+    requires { ⌜ t .len ≤ text-limit ⌝ }
 {
     let bytes = t.bytes;
     let len = t.len;

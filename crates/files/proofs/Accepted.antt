@@ -16,6 +16,7 @@ use Rattle.files.specs.Fits.{Book-fits, Sheet-fits}
 use Rattle.files.proofs.Values.{in-range-bound}
 use Rattle.files.proofs.Rows.{length-values, length-rows-from, rows-flat}
 use Rattle.files.proofs.Refusal.{and-true, between-true}
+use Rattle.files.specs.Limits.{file-limit, step-limit}
 
 -- a refusal of 0 passed its first test
 pub passed : (g : Bool) (k x : ℕ) → cond (not g) (suc k) x ≡ 0 → (g ≡ true) × (x ≡ 0)
@@ -92,12 +93,12 @@ factors-long s w = factors-by (sheet-lettered WSH2 s) s refl w
 pub book-accepted : (b : List ℕ) → book-refusal b ≡ 0 → Book-fits b
 unfolding book-refusal length-in-range rows
 book-accepted b e =
-    let p1 = passed (between 12 40000 (length b)) 0 _ e in
+    let p1 = passed (between 12 file-limit (length b)) 0 _ e in
     let p2 = passed (same _ _) 1 _ (p1 .1) in
     let p3 = passed (between 1 256 (boats b)) 2 _ (p2 .1) in
     let p4 = passed (between 1 64 (columns b)) 3 _ (p3 .1) in
     let fit = body-accepted 12 (2 * (boats b * columns b)) (boats b * columns b) 4 5 b (p4 .1) in
-    let size = between-true 12 40000 (length b) (p1 .0) in
+    let size = between-true 12 file-limit (length b) (p1 .0) in
     let n = between-true 1 256 (boats b) (p3 .0) in
     let c = between-true 1 64 (columns b) (p4 .0) in
     let good = rows-flat (boats b) (columns b) _ ∙ fit .in-body in
@@ -129,16 +130,16 @@ pub record Sheet-passes (least most : ℕ) (s : List ℕ) : Type 0 where
 pub sheet-passed : (a z : ℕ) (s : List ℕ) → sheet-refusal-in a z s ≡ 0 → Sheet-passes a z s
 unfolding sheet-refusal-in length-in-range
 sheet-passed a z s e =
-    let p1 = passed (between 16 40000 (length s)) 10 _ e in
+    let p1 = passed (between 16 file-limit (length s)) 10 _ e in
     let p2 = passed (sheet-lettered WSH1 s || sheet-lettered WSH2 s) 11 _ (p1 .1) in
     let p3 = passed (between a z (sheet-columns s)) 12 _ (p2 .1) in
-    let p4 = passed (between 1 360 (sheet s .steps)) 13 _ (p3 .1) in
+    let p4 = passed (between 1 step-limit (sheet s .steps)) 13 _ (p3 .1) in
     let p5 = passed-not (ltb 1024000000 (sheet s .tolerance)) 14 _ (p4 .1) in
     let p6 = passed-body _ _ (p5 .1) in
     let fit = body-accepted 16 (sheet-back s) (sheet-columns s) 15 16 s (p6 .0) in
-    let size = between-true 16 40000 (length s) (p1 .0) in
+    let size = between-true 16 file-limit (length s) (p1 .0) in
     let c = between-true a z (sheet-columns s) (p3 .0) in
-    let k = between-true 1 360 (sheet s .steps) (p4 .0) in
+    let k = between-true 1 step-limit (sheet s .steps) (p4 .0) in
     let f = between-true 1 64 (sum (sheet s .factors)) (passed-last _ 45 (p6 .1)) in
     let w : Sheet-whole s = omega (arith, fit .held, size .0) in
     let good : all-in-range (sheet s .target) ≡ true = target-good s (fit .in-body) in

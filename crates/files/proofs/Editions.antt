@@ -14,6 +14,7 @@ use Rattle.files.specs.Bytes.{number, same, between, all-in-range, lengt
 use Rattle.files.specs.Sheet.{Sheet, sheet, sheet-columns, WSH1, WSH2, sheet-lettered, sheet-back, Sheet-whole, sheet-refusal-in}
 use Rattle.files.specs.Editions.{Same-values, Editions-alike}
 use Rattle.files.proofs.Letters.{same-eq}
+use Rattle.files.specs.Limits.{file-limit}
 
 -- a sheet that holds its body: the body is refused by a wrong back count or a value alone
 module _ (s : List ℕ) (w : Sheet-whole s) where
@@ -26,9 +27,9 @@ module _ (s : List ℕ) (w : Sheet-whole s) where
   unfolding body-refusal reaches sheet
   body-tests = rw (placed _ refl)
 
-  in-length : length s ≤ 40000 → length-in-range 16 s ≡ true
+  in-length : length s ≤ file-limit → length-in-range 16 s ≡ true
   unfolding length-in-range between
-  in-length h = simp (le-leb 16 (length s) (omega arith), le-leb (length s) 40000 h)
+  in-length h = simp (le-leb 16 (length s) (omega arith), le-leb (length s) file-limit h)
 
 or-true : (a : Bool) → a || true ≡ true
 or-true true = refl

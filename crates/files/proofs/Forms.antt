@@ -14,10 +14,11 @@ use Rattle.files.specs.Bytes.{number, values, same, between, all-in-rang
 use Rattle.files.specs.Book.{boats, columns, rows-from, rows, all-rows-in-range, book-refusal}
 use Rattle.files.specs.Sheet.{sheet-columns, WSH2, sheet-lettered, factor-bytes, sheet-back, sheet, sheet-refusal-in, sheet-refusal, files-refusal}
 use Rattle.files.proofs.Rows.{rows-flat}
+use Rattle.files.specs.Limits.{file-limit, step-limit}
 
 -- ---- the forms
 length-good : (least : ℕ) → List ℕ → Bool
-length-good k bs = leb k (length bs) && leb (length bs) 40000
+length-good k bs = leb k (length bs) && leb (length bs) file-limit
 
 pub plain-rows : List ℕ → List (List ℤ)
 plain-rows bs = rows-from (boats bs) (columns bs) (body 12 (2 * boats bs * columns bs) bs)
@@ -42,7 +43,7 @@ plain-sheet-refusal c bs =
     cond (not (length-good 16 bs)) 11
     (cond (not (same (drop 12 t) (87 ∷ 83 ∷ 72 ∷ 49 ∷ []) || two)) 12
     (cond (not (eqb (number 4 2 t) c)) 13
-    (cond (eqb k 0 || ltb 360 k) 14
+    (cond (eqb k 0 || ltb step-limit k) 14
     (cond (ltb 1024000000 (number 8 4 t)) 15
     (cond (not (eqb b (cond two (3 * c) (2 * c)) && reaches 16 b bs)) 16
     (cond (not (all-in-range (sheet bs .target))) 17 (cond (eqb f 0 || ltb 64 f) 46 0)))))))

@@ -12,6 +12,7 @@ use Rattle.files.specs.Bytes.{number, between, length-in-range, trailer,
 use Rattle.files.specs.Book.{boats, columns, Book-whole, rows, book-refusal}
 use Rattle.files.specs.Sheet.{sheet-columns, WSH1, WSH2, sheet-lettered, factor-bytes, sheet-back, Sheet-whole, sheet, sheet-refusal-in, files-refusal}
 use Rattle.files.specs.Front.{Front-fits, Book-front-unread, Sheet-front-unread, Files-front-unread}
+use Rattle.files.specs.Limits.{file-limit}
 
 drop-front : (f b : List ℕ) (k m : ℕ) → m ≡ length f + k → drop m (f ++ b) ≡ drop k b
 drop-front f b k m e = rw (e, drop-append-add)
@@ -41,7 +42,7 @@ module _ (f b : List ℕ) (size : ℕ) (h : size ≤ length b) where
 
   length-in-range-front : Front-fits f b → length-in-range size (f ++ b) ≡ length-in-range size b
   unfolding length-in-range between
-  length-in-range-front k = simp (length-append, le-leb size (length f + length b) (omega arith), le-leb (length f + length b) 40000 (omega arith), le-leb size (length b) h, le-leb (length b) 40000 (omega arith))
+  length-in-range-front k = simp (length-append, le-leb size (length f + length b) (omega arith), le-leb (length f + length b) file-limit (omega arith), le-leb size (length b) h, le-leb (length b) file-limit (omega arith))
 
 -- ---- a fleet book
 module _ (f b : List ℕ) (w : Book-whole b) where

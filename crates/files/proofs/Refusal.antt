@@ -14,6 +14,7 @@ use Rattle.files.specs.Book.{boats, columns, WBK1, book-refusal}
 use Rattle.files.specs.Sheet.{sheet, sheet-columns, WSH1, WSH2, sheet-lettered, sheet-back, sheet-refusal-in, sheet-refusal, files-refusal}
 use Rattle.files.proofs.Numbers.{number-in-trailer, drop-trailer}
 use Rattle.files.proofs.Rows.{values-take-some}
+use Rattle.files.specs.Limits.{file-limit, step-limit}
 
 -- ---- numbers between two bounds
 pub and-true : (a b : Bool) → a && b ≡ true → (a ≡ true) × (b ≡ true)
@@ -61,14 +62,14 @@ module _ (size back count place range : ℕ) (bs : List ℕ) (h : size ≤ lengt
       some-out t = simp (back-at, ← eo, eq-eqb _ _ q, le-leb _ _ k, in-body, t)
 
 -- ---- a fleet book
-module _ (b : List ℕ) (g1 : Bool) (e1 : g1 ≡ between 12 40000 (length b)) where
+module _ (b : List ℕ) (g1 : Bool) (e1 : g1 ≡ between 12 file-limit (length b)) where
   pub book-length-out : not g1 ≡ true → 1 ≡ book-refusal b
   unfolding book-refusal length-in-range
   book-length-out t = simp (← e1, not-true g1 t)
 
   module _ (t1 : not g1 ≡ false) (g2 : Bool) (e2 : g2 ≡ same (drop (length b - 4) b) WBK1) where
     letters-at : drop 8 (trailer 12 b) ≡ drop (length b - 4) b
-    letters-at = drop-trailer 12 8 (length b - 4) b (omega (arith, at-least 12 40000 (length b) g1 e1 t1))
+    letters-at = drop-trailer 12 8 (length b - 4) b (omega (arith, at-least 12 file-limit (length b) g1 e1 t1))
 
     pub book-letters-differ : not g2 ≡ true → 2 ≡ book-refusal b
     unfolding book-refusal length-in-range
@@ -93,7 +94,7 @@ pub few-values : (n c : ℕ) (g h : Bool) → g ≡ between 1 256 n → not g �
 few-values n c g h eg tg eh th = mul-le-mul (at-most 1 256 n g eg tg) (at-most 1 64 c h eh th)
 
 -- ---- a sheet
-module _ (a z : ℕ) (s : List ℕ) (g1 : Bool) (e1 : g1 ≡ between 16 40000 (length s)) where
+module _ (a z : ℕ) (s : List ℕ) (g1 : Bool) (e1 : g1 ≡ between 16 file-limit (length s)) where
   pub sheet-length-out : not g1 ≡ true → 11 ≡ sheet-refusal-in a z s
   unfolding sheet-refusal-in length-in-range
   sheet-length-out t = simp (← e1, not-true g1 t)
@@ -111,7 +112,7 @@ module _ (a z : ℕ) (s : List ℕ) (g1 : Bool) (e1 : g1 ≡ between 16 40000 (l
       unfolding sheet-refusal-in length-in-range
       columns-differ t = simp (← e1, not-false g1 t1, ← e2, not-false g2 t2, columns-tested, not-true g3 t)
 
-      module _ (t3 : not g3 ≡ false) (k : ℕ) (ek : k ≡ sheet s .steps) (g4 : Bool) (e4 : g4 ≡ between 1 360 k) where
+      module _ (t3 : not g3 ≡ false) (k : ℕ) (ek : k ≡ sheet s .steps) (g4 : Bool) (e4 : g4 ≡ between 1 step-limit k) where
         pub steps-out : not g4 ≡ true → 14 ≡ sheet-refusal-in a z s
         unfolding sheet-refusal-in length-in-range
         steps-out t = simp (← e1, not-false g1 t1, ← e2, not-false g2 t2, columns-tested, not-false g3 t3, ← ek, ← e4, not-true g4 t)

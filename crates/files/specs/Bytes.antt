@@ -7,6 +7,7 @@ use Prim.Native.Nat.{ℕ, zero, suc, _+_, _*_, _-_, _/_, _%_}
 use lib.Dec.{ltb, leb, eqb}
 use lib.ListN.{length, take, drop}
 use lib.IntN.{ℤ, pos, negsuc}
+use Rattle.files.specs.Limits.{file-limit}
 
 -- whether each element is a byte
 unfoldable pub all-bytes : List ℕ → Bool
@@ -58,7 +59,7 @@ all-in-range (x ∷ xs) = in-range x && all-in-range xs
 
 -- whether a file has at least `least` bytes and at most 40,000
 unfoldable pub length-in-range : (least : ℕ) → List ℕ → Bool
-length-in-range least bs = between least 40000 (length bs)
+length-in-range least bs = between least file-limit (length bs)
 
 -- the last `size` bytes
 unfoldable pub trailer : (size : ℕ) → List ℕ → List ℕ

@@ -10,6 +10,7 @@ use lib.ListN.{length}
 use Rattle.frank_wolfe.specs.Vectors.{ones}
 use Rattle.files.specs.Bytes.{number, trailer}
 use Rattle.files.specs.Sheet.{sheet, sheet-columns, WSH1, WSH2, sheet-lettered, sheet-back, Sheet-whole, sheet-refusal-in}
+use Rattle.files.specs.Limits.{file-limit}
 
 -- x of WSH1 and y of WSH2 have the same values, steps and tolerance, and every factor of y is 1; each holds its body within
 -- 40,000 bytes behind any front text, and both back counts are right or both are wrong
@@ -22,7 +23,7 @@ pub record Same-values (x y : List ℕ) : Type 0 where
   pub steps : sheet x .steps ≡ sheet y .steps
   pub tolerance : sheet x .tolerance ≡ sheet y .tolerance
   pub whole : Sheet-whole x × Sheet-whole y
-  pub most-bytes : (length x ≤ 40000) × (length y ≤ 40000)
+  pub most-bytes : (length x ≤ file-limit) × (length y ≤ file-limit)
   pub backs : eqb (number 0 4 (trailer 16 x)) (sheet-back x) ≡ eqb (number 0 4 (trailer 16 y)) (sheet-back y)
 
 -- either way round

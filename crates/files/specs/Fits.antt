@@ -9,10 +9,11 @@ use Rattle.frank_wolfe.specs.Vectors.{sum}
 use Rattle.files.specs.Bytes.{all-in-range}
 use Rattle.files.specs.Book.{boats, columns, Book-whole, rows, all-rows-in-range}
 use Rattle.files.specs.Sheet.{sheet-columns, Sheet-whole, sheet}
+use Rattle.files.specs.Limits.{file-limit, step-limit}
 
 pub record Book-fits (b : List ℕ) : Type 0 where
   pub at-least : 12 ≤ length b
-  pub at-most : length b ≤ 40000
+  pub at-most : length b ≤ file-limit
   pub some-boats : 1 ≤ boats b
   pub most-boats : boats b ≤ 256
   pub some-columns : 1 ≤ columns b
@@ -26,7 +27,7 @@ pub record Book-fits (b : List ℕ) : Type 0 where
 -- of a sheet for a book of so many columns
 pub record Sheet-fits (columns : ℕ) (s : List ℕ) : Type 0 where
   pub at-least : 16 ≤ length s
-  pub at-most : length s ≤ 40000
+  pub at-most : length s ≤ file-limit
   pub same-columns : sheet-columns s ≡ columns
   pub whole : Sheet-whole s
   pub target-length : length (sheet s .target) ≡ columns
@@ -36,5 +37,5 @@ pub record Sheet-fits (columns : ℕ) (s : List ℕ) : Type 0 where
   pub some-factor : 1 ≤ sum (sheet s .factors)
   pub few-factors : sum (sheet s .factors) ≤ 64
   pub some-steps : 1 ≤ sheet s .steps
-  pub most-steps : sheet s .steps ≤ 360
+  pub most-steps : sheet s .steps ≤ step-limit
   pub most-tolerance : sheet s .tolerance ≤ 1024000000

@@ -6,10 +6,11 @@ use Prim.Native.Nat.{ℕ, _+_, _≤_}
 use lib.ListN.{length}
 use Rattle.files.specs.Book.{boats, columns, Book-whole, rows, book-refusal}
 use Rattle.files.specs.Sheet.{Sheet-whole, sheet, sheet-refusal-in, files-refusal}
+use Rattle.files.specs.Limits.{file-limit}
 
 -- a front and a file of at most 40,000 bytes together
 abbrev pub Front-fits : (front file : List ℕ) → Type 0
-Front-fits front file = length front + length file ≤ 40000
+Front-fits front file = length front + length file ≤ file-limit
 
 unfoldable pub Book-front-unread : Type 0
 Book-front-unread =

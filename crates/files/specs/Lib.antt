@@ -1,4 +1,5 @@
 -- The definitions of this crate, bytes first.
+pub mod Limits
 pub mod Bytes
 pub mod Book
 pub mod Sheet

@@ -11,6 +11,7 @@ use lib.IntN.{ℤ}
 use Rattle.frank_wolfe.specs.Vectors.{ones, sum}
 use Rattle.files.specs.Bytes.{number, values, same, between, length-in-range, trailer, body-offset, body, body-refusal}
 use Rattle.files.specs.Book.{columns, book-refusal}
+use Rattle.files.specs.Limits.{step-limit}
 
 pub record Sheet : Type 0 where
   pub target : List ℤ
@@ -65,7 +66,7 @@ sheet-refusal-in least most s =
     cond (not (length-in-range 16 s)) 11
     (cond (not (sheet-lettered WSH1 s || sheet-lettered WSH2 s)) 12
     (cond (not (between least most (sheet-columns s))) 13
-    (cond (not (between 1 360 (sheet s .steps))) 14
+    (cond (not (between 1 step-limit (sheet s .steps))) 14
     (cond (ltb 1024000000 (sheet s .tolerance)) 15
     (cond (not (eqb in-body 0)) in-body (cond (between 1 64 (sum (sheet s .factors))) 0 46))))))
 

@@ -1,7 +1,7 @@
 -- The value that a token ends: how large it is, how it is written, how many there can be.
-use mathlib.Core.Path.{_≡_, refl, sym, ap, _∙_}
+use mathlib.Core.Path.{_≡_, refl, sym, _∙_}
 use mathlib.Core.Bool.{Bool, true, false, cond}
-use mathlib.Core.List.{List, [], _∷_, _++_, append-nil}
+use mathlib.Core.List.{List, [], _∷_, append-nil}
 use Prim.Native.Nat.{ℕ, zero, suc, _+_, _*_, _-_, _%_, _≤_, _<_}
 use native.Mathlib.Nat.{mod-eq-of-lt}
 use native.Mathlib.Omega.{arith}
@@ -14,7 +14,6 @@ use Rattle.card_output.specs.Output.{placed}
 use Rattle.card_output.proofs.Placing.{placed-nil}
 use Rattle.sheet_output.specs.Output.{bits, values-bytes}
 use Rattle.csv.specs.Cells.{signed, is-number}
-use Rattle.csv.specs.declared.Cell.{Cell}
 use Rattle.book_csv.specs.declared.Table.{Table}
 use Rattle.book_csv.specs.Table.{number-fault, after}
 use Rattle.fleet_csv.specs.Fleet.{ends-value, ended-value, values-from}

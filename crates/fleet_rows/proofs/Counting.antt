@@ -1,12 +1,12 @@
 -- A CSV without fault has as many values as boats times columns, all in range.
-use mathlib.Core.Path.{_≡_, refl, sym, ap, _∙_}
+use mathlib.Core.Path.{_≡_, refl}
 use mathlib.Core.Bool.{Bool, true, false, cond, _&&_}
 use mathlib.Core.List.{List, [], _∷_, _++_}
-use Prim.Native.Nat.{ℕ, zero, suc, _+_, _*_, _≤_, _<_}
+use Prim.Native.Nat.{ℕ, zero, suc, _+_, _≤_}
 use native.Mathlib.Omega.{arith}
 use borrow.Author.Tests.{le-leb, lt-ltb}
-use lib.Dec.{ltb, leb, eqb}
-use lib.IntN.{ℤ, pos, negsuc}
+use lib.Dec.{ltb}
+use lib.IntN.{ℤ}
 use lib.ListN.{length, length-append, drop}
 use Rattle.files.specs.Bytes.{in-range, all-in-range}
 use Rattle.csv.specs.Cells.{signed}
@@ -17,8 +17,8 @@ use Rattle.book_csv.specs.declared.Table.{Table}
 use Rattle.book_csv.specs.Table.{start, after}
 use Rattle.fleet_csv.specs.Fleet.{ends-value, ended-value, values-from, table-from, fleet-values, last-table}
 use Rattle.fleet_csv.proofs.Values.{value-small}
-use Rattle.fleet_rows.specs.Rows.{Whole, Faultless-whole}
-use Rattle.fleet_rows.proofs.Kept.{in-names, Kept, kept-more, Ended, Ends, end-kept, open-kept}
+use Rattle.fleet_rows.specs.Rows.{Faultless-whole}
+use Rattle.fleet_rows.proofs.Kept.{in-names, Kept, kept-more, Ends, end-kept, open-kept}
 
 -- ---- the count
 last-kept : (t : Table) (n : ℕ) → Kept t n → (m : Mode) → Ends (after t (ending m)) (n + length (ended-value t n (ending m)))

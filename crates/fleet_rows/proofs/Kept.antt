@@ -1,7 +1,7 @@
 -- What each token keeps: at the start of a line there are as many values as boats times columns, and inside a boat's line one more for each value read.
-use mathlib.Core.Path.{_≡_, refl, sym, ap, _∙_}
+use mathlib.Core.Path.{_≡_, refl, sym, _∙_}
 use mathlib.Core.Bool.{Bool, true, false, cond}
-use mathlib.Core.List.{List, [], _∷_}
+use mathlib.Core.List.{[]}
 use Prim.Native.Nat.{ℕ, zero, suc, _+_, _*_, _≤_, _<_}
 use native.Mathlib.Nat.{add-mul, mul-le-mul}
 use native.Mathlib.Omega.{arith}
@@ -11,7 +11,7 @@ use lib.IntN.{ℤ}
 use lib.ListN.{length}
 use Rattle.book_csv.specs.declared.Table.{Table}
 use Rattle.book_csv.specs.Table.{faulty, with-text, number-fault, field-fault, limit, units-after, next-field, field-ended, end-fault, columns-after, boats-after, next-line, whole-line-ended, line-ended, finished, consumed, after}
-use Rattle.book_csv.proofs.Steps.{limit-first, limit-later, fault-boats, fault-value, units-word, units-kept, columns-first, columns-kept, boats-first, boats-units, boats-more, end-none, end-short}
+use Rattle.book_csv.proofs.Steps.{limit-first, limit-later, fault-boats, fault-value, units-kept, columns-first, columns-kept, boats-first, boats-units, boats-more, end-none, end-short}
 use Rattle.fleet_csv.specs.Fleet.{ends-value, ended-value}
 use Rattle.fleet_csv.proofs.Values.{test-byte, test-other, test-names, test-units, test-name, test-value}
 

@@ -1,6 +1,6 @@
 -- What the Frank-Wolfe method reaches, as one record of statements, which proofs/Theorem.antt proves for every space, vertices and target u.
 -- E = |r|² with r = y - W u is W² times the run's squared distance, Q = |ρ|² with ρ = z - N u is N² times a mixture's. Assumes nothing.
-use Prim.Native.Nat.{ℕ, suc, _+_, _*_, _≤_, _<_}
+use Prim.Native.Nat.{ℕ, suc, _+_, _*_, _≤_}
 use lib.IntN.{ℤ, pos, _+ℤ_, _-ℤ_, _*ℤ_}
 use lib.Signed.{_≤ℤ_, _<ℤ_}
 use Rattle.frank_wolfe.specs.Method.{Space, squared-distance, Plus, Residual, Zero, Mixture, Diameter, Argmin, Gap, total, Run, Sequence}

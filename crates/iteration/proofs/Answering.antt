@@ -9,6 +9,7 @@ use lib.IntN.{ℤ, pos}
 use Rattle.files.specs.Bytes.{values}
 use Rattle.files.specs.Book.{columns, rows}
 use Rattle.files.specs.Sheet.{sheet, target-offset, files-refusal}
+use Rattle.files.specs.Limits.{step-limit}
 use Rattle.frank_wolfe.specs.Vectors.{ones}
 use Rattle.method.specs.declared.Test.the-variants.{Sharper}
 use Rattle.method.specs.Problem.{fixed, weight}
@@ -26,7 +27,7 @@ use Rattle.iteration.specs.Measures.{measure, Measurable, Answerable}
 use Rattle.iteration.proofs.States.{book-fits, sheet-fits, target-span, target-is, bounded-front}
 use Rattle.iteration.proofs.Mixed.{mixed-sized, mixed-judged, mixed-answer}
 
-module _ (b s : List ℕ) (ok : files-refusal b s ≡ 0) {t : ℕ} {x : State} (H : Holds b s (suc t) x) (few : suc t ≤ 360) where
+module _ (b s : List ℕ) (ok : files-refusal b s ≡ 0) {t : ℕ} {x : State} (H : Holds b s (suc t) x) (few : suc t ≤ step-limit) where
   abbrev r : List ℤ
   r = residual (plain-problem b s) (suc t) (iterate-of b s (suc t))
 

@@ -8,6 +8,7 @@ use lib.ListN.{getD, take, drop, replicate, getD-replicate}
 use Rattle.files.specs.Bytes.{values}
 use Rattle.files.specs.Book.{boats, columns, rows}
 use Rattle.files.specs.Sheet.{sheet, files-refusal}
+use Rattle.files.specs.Limits.{entry-limit}
 use Rattle.frank_wolfe.specs.Vectors.{add, subtract, scale}
 use Rattle.method.specs.declared.Test.the-variants.{Sharper}
 use Rattle.method.specs.declared.Answer.{Answer}
@@ -47,7 +48,7 @@ module _ (b s : List ℕ) (ok : files-refusal b s ≡ 0) {i : ℕ} (h : i ≡ pi
     unfolding file-layout
     first-moved = rw e (row-span b s ok i pick-below, (target-span b s ok, movable b s ok (replicate 64 (pos 0)) i 1 pick-below (omega arith) zero-entry))
       where
-        zero-entry : (j : ℕ) → j < columns b → natAbs (getD (replicate 64 (pos 0)) j (pos 0)) + 4000 * 1 ≤ 260000000
+        zero-entry : (j : ℕ) → j < columns b → natAbs (getD (replicate 64 (pos 0)) j (pos 0)) + 4000 * 1 ≤ entry-limit
         zero-entry j k = rw (getD-replicate 64 j (pos 0) (pos 0) (omega (arith, book-fits b s ok .most-columns))) (omega arith)
 
     module _ {r : List ℤ}

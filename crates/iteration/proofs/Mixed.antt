@@ -10,6 +10,7 @@ use lib.IntN.{ℤ, pos, natAbs}
 use Rattle.integers.proofs.Order.{≤→≤ℤ}
 use Rattle.files.specs.Book.{columns, rows}
 use Rattle.files.specs.Sheet.{sheet, files-refusal}
+use Rattle.files.specs.Limits.{step-limit, sum-limit}
 use Rattle.frank_wolfe.specs.Vectors.{inner, weighted, weighted-norm, ones, squared-norm}
 use Rattle.frank_wolfe.proofs.Vectors.{weighted-ones, norm-ones}
 use Rattle.method.specs.declared.Test.{Test}
@@ -29,7 +30,7 @@ use Rattle.verdicts.specs.Sizes.{Judgeable}
 use Rattle.iteration.specs.Measures.{gap-by, measure}
 use Rattle.iteration.proofs.States.{sheet-fits}
 
-module _ (b s : List ℕ) (ok : files-refusal b s ≡ 0) {t : ℕ} {x : Iterate} (some : 1 ≤ t) (few : t ≤ 360) (m : Mixed (plain-problem b s) t x) where
+module _ (b s : List ℕ) (ok : files-refusal b s ≡ 0) {t : ℕ} {x : Iterate} (some : 1 ≤ t) (few : t ≤ step-limit) (m : Mixed (plain-problem b s) t x) where
   abbrev u : List ℤ
   u = sheet s .target
 
@@ -70,7 +71,7 @@ module _ (b s : List ℕ) (ok : files-refusal b s ≡ 0) {t : ℕ} {x : Iterate}
       (score-most (well-formed b s ok) (in-range b s ok) m (row (rows b) (argmin scores))
       (in-range b s ok .rows-bounded _ (among-row (rows b) (argmin scores) (argmin-below (ones (columns b)) r (rows b) (well-formed b s ok .some-row)))))
 
-  square : squared-norm r < 4611686018427387904
+  square : squared-norm r < sum-limit
   unfolding plain-problem distance
   square = rw (← norm-is) (lt-of-le-of-lt (distance-most (well-formed b s ok) (in-range b s ok) m) (weight-fits (weight-most few) (le-refl 1024000000)))
 

@@ -14,6 +14,7 @@ use Rattle.files.specs.Sheet.{sheet, target-offset, files-refusal}
 use Rattle.files.specs.Fits.{Book-fits, Sheet-fits}
 use Rattle.files.proofs.Accepted.{files-accepted}
 use Rattle.files.proofs.Access.{rows-at, row-at, target-at}
+use Rattle.files.specs.Limits.{total-limit, entry-limit}
 use Rattle.frank_wolfe.specs.Vectors.{add, subtract, scale, weighted, ones, sum}
 use Rattle.frank_wolfe.proofs.Vectors.{length-scale, length-subtract, weighted-symmetric, weighted-add, weighted-scale, weighted-zero, scale-one}
 use Rattle.method.specs.Problem.{share}
@@ -90,7 +91,7 @@ module _ (b s : List ℕ) (ok : files-refusal b s ≡ 0) where
 
   -- ---- A step
 
-  pub movable : (r : List ℤ) (i k : ℕ) → i < boats b → k ≤ 64980 → ((j : ℕ) → j < columns b → natAbs (getD r j (pos 0)) + 4000 * k ≤ 260000000) →
+  pub movable : (r : List ℤ) (i k : ℕ) → i < boats b → k ≤ total-limit → ((j : ℕ) → j < columns b → natAbs (getD r j (pos 0)) + 4000 * k ≤ entry-limit) →
       Movable r (values (columns b) (drop (rows-offset b + 2 * (i * columns b)) b)) (values (columns b) (drop (target-offset s) s)) (columns b) k
   movable r i k h hk room =
       rw (row-is i h, target-is) (record { few-shares = hk; row-range = row-bounded i h; target-range = target-bounded; room = room })
@@ -106,7 +107,7 @@ module _ (b s : List ℕ) (ok : files-refusal b s ≡ 0) where
   moved-is r z i k h l eo en = en ∙ rw (eo, take-at r z (columns b) l, drop-at r z (columns b) l, row-is i h, target-is)
 
   -- a list whose first entries are bounded
-  pub bounded-front : (m : ℕ) (x y : List ℤ) → length x ≡ 64 → take (columns b) x ≡ y → ((j : ℕ) → natAbs (getD y j (pos 0)) ≤ m) → m ≤ 260000000 → Bounded 260000000 (columns b) x
+  pub bounded-front : (m : ℕ) (x y : List ℤ) → length x ≡ 64 → take (columns b) x ≡ y → ((j : ℕ) → natAbs (getD y j (pos 0)) ≤ m) → m ≤ entry-limit → Bounded entry-limit (columns b) x
   bounded-front m x y l e f h =
       record {
         long = omega (arith, book-fits .most-columns);
@@ -156,7 +157,7 @@ module _ (b s : List ℕ) (ok : files-refusal b s ≡ 0) where
       rw (score-at (ones (columns b)) (subtract (row (rows b) i) (sheet s .target)) (rows b) q) (omega (arith, m, few-ones b s ok))
 
   -- scores of at most 512,000,000 × 64,980, moved by k times a boat's products
-  pub rescorable : (k i : ℕ) {sc ps : List ℤ} → i < boats b → boats b ≤ length sc → boats b ≤ length ps → take (boats b) ps ≡ boat-products b s i → k ≤ 64980 →
+  pub rescorable : (k i : ℕ) {sc ps : List ℤ} → i < boats b → boats b ≤ length sc → boats b ≤ length ps → take (boats b) ps ≡ boat-products b s i → k ≤ total-limit →
       ((q : ℕ) → q < boats b → natAbs (getD sc q (pos 0)) ≤ 33269760000000) → Rescorable sc k ps (boats b)
   rescorable k i {sc} {ps} h ls lp e hk f =
       record {

@@ -12,6 +12,7 @@ use mir.Val.{Fits}
 use Rattle.files.specs.Bytes.{values}
 use Rattle.files.specs.Book.{boats, columns, rows, rows-from}
 use Rattle.files.specs.Sheet.{files-refusal}
+use Rattle.files.specs.Limits.{step-limit, total-limit}
 use Rattle.frank_wolfe.specs.Vectors.{add, subtract, scale, ones}
 use Rattle.method.specs.Problem.{fixed, weight}
 use Rattle.method.specs.Plain.{plain-problem}
@@ -81,8 +82,8 @@ module _ (b s : List ℕ) (ok : files-refusal b s ≡ 0) {l : Layout} (e : l ≡
 
   -- ---- next
 
-  module _ {x : State} (H : Holds b s (x .steps) x) (few : x .steps < 360) where
-    next-weight : weight fixed (suc (x .steps)) ≤ 64980
+  module _ {x : State} (H : Holds b s (x .steps) x) (few : x .steps < step-limit) where
+    next-weight : weight fixed (suc (x .steps)) ≤ total-limit
     next-weight = weight-most (omega arith)
 
     old-entry : (j : ℕ) → j < columns b → natAbs (getD (x .residual) j (pos 0)) ≤ 4000 * weight fixed (x .steps)

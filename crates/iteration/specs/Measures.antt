@@ -5,6 +5,7 @@ use lib.ListN.{length, take, drop}
 use lib.IntN.{ℤ, pos, _+ℤ_, _-ℤ_, _*ℤ_}
 use Rattle.files.specs.Bytes.{values}
 use Rattle.files.specs.Sheet.{sheet}
+use Rattle.files.specs.Limits.{step-limit, entry-limit}
 use Rattle.frank_wolfe.specs.Vectors.{inner, squared-norm}
 use Rattle.method.specs.Problem.{fixed, weight}
 use Rattle.method.specs.Iterates.{natural}
@@ -34,11 +35,11 @@ measure test t w tolerance r u least =
 pub record Measurable (r : List ℤ) (w : ℕ) (least : ℤ) (s : List ℕ) (l : Layout) : Type 0 where
   pub whole : 16 ≤ length s
   pub target : Span s (l .target) (l .columns)
-  pub entries : Bounded 260000000 (l .columns) r
+  pub entries : Bounded entry-limit (l .columns) r
   pub sized : Gap-sized (squared-norm (take (l .columns) r)) w (inner (take (l .columns) r) (values (l .columns) (drop (l .target) s))) least
   pub judged : Judgeable (sheet s .tolerance) w (squared-norm (take (l .columns) r)) (natural (gap-by w (take (l .columns) r) (values (l .columns) (drop (l .target) s)) least))
 
 -- what an answer asks of a state: a step count of the table, and numbers that keep to the machine's
 pub record Answerable (x : State) (s : List ℕ) (l : Layout) : Type 0 where
-  pub few-steps : x .steps ≤ 360
+  pub few-steps : x .steps ≤ step-limit
   pub numbers : Measurable (x .residual) (weight fixed (x .steps)) (x .least) s l

@@ -11,7 +11,7 @@ use Rattle.method.specs.declared.Verdict.{Verdict}
 use Rattle.method.specs.declared.Answer.{Answer}
 use Rattle.listing.specs.Lines.{fleet-word, sheet-word, distance-word, gap-word, boat-word, verdict-word, boat-line, boat-lines, head-lines}
 use Rattle.text.specs.Lines.{number-line, pair-line}
-use Rattle.text.specs.Texts.{Holds, Adds}
+use Rattle.text.specs.Texts.{text-limit, Holds, Adds}
 use Rattle.text.specs.declared.Text.{Text}
 use Rattle.text.proofs.Decimals.{figures-at-most}
 use Rattle.text.proofs.Texts.{adds-both, adds-to-empty}
@@ -22,7 +22,7 @@ verdict-added v m n e h p = (rw e (p .0), omega (arith, p .1))
 
 -- ---- Boats
 
-pub no-boat-added : {t : Text} (boat share : ℕ) → t .len + 47 ≤ 4096 → share ≡ 0 → Adds t (boat-line boat share) t × (t .len ≤ t .len + 15)
+pub no-boat-added : {t : Text} (boat share : ℕ) → t .len + 47 ≤ text-limit → share ≡ 0 → Adds t (boat-line boat share) t × (t .len ≤ t .len + 15)
 unfolding boat-line
 no-boat-added {t} i q h e = (rw e (record { fits = omega arith; length-is = sym (add-zero (t .len)); bytes-are = sym (append-nil _); rest = refl }), omega arith)
 

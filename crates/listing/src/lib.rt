@@ -6,7 +6,7 @@ ghost use Prim.Native.Nat.{_+_, _≤_, _<_};
 ghost use lib.ListN.{take};
 ghost use Rattle.files.specs.Sheet.{files-refusal};
 ghost use Rattle.text.specs.Lines.{pair-line};
-ghost use Rattle.text.specs.Texts.{Holds, Adds};
+ghost use Rattle.text.specs.Texts.{text-limit, Holds, Adds};
 ghost use Rattle.listing.specs.Lines.{verdict-word, boat-line, boat-lines, head-lines, outcome-listing, Listable};
 use method::Answer;
 use method::Searched;
@@ -15,7 +15,7 @@ use text::Text;
 
 // The text followed by the line of a verdict after `steps` steps with the total `weight`.
 fn with_verdict(text: Text, v: Verdict, steps: u32, weight: u32) -> Text
-    requires { ⌜ text .len + 49 ≤ 4096 ⌝ }
+    requires { ⌜ text .len + 49 ≤ text-limit ⌝ }
     ensures { λ r. ⌜ Adds text (pair-line (verdict-word v) steps weight) r ⌝ }
     ensures { λ r. ⌜ r .len ≤ text .len + 49 ⌝ }
 {
@@ -28,7 +28,7 @@ fn with_verdict(text: Text, v: Verdict, steps: u32, weight: u32) -> Text
 
 // The text followed by the line of a boat, if it has shares.
 fn with_boat(text: Text, boat: usize, share: u16) -> Text
-    requires { ⌜ (boat < 256) × (text .len + 47 ≤ 4096) ⌝ }
+    requires { ⌜ (boat < 256) × (text .len + 47 ≤ text-limit) ⌝ }
     ensures { λ r. ⌜ Adds text (boat-line boat share) r ⌝ }
     ensures { λ r. ⌜ r .len ≤ text .len + 15 ⌝ }
 {

@@ -10,7 +10,7 @@ use lib.ListN.{length}
 use Rattle.frank_wolfe.specs.Vectors.{sum}
 use Rattle.integers.proofs.Order.{≤→≤ℤ}
 use Rattle.method.specs.declared.Test.{Test}
-use Rattle.method.specs.declared.Test.the-variants.{Former, Sharper}
+use Rattle.method.specs.declared.Test.the-variants.{Sharper}
 use Rattle.method.specs.Problem.{Problem, weight}
 use Rattle.method.specs.Iterates.{Iterate, iterate, distance, gap, support}
 use Rattle.method.specs.Answers.{stops, answer-at, steps-used, run-iterate, run-answer}
@@ -21,6 +21,7 @@ use Rattle.method.proofs.Mixtures.{Well-formed, In-range, Sized, gap-is
 use Rattle.method.proofs.Iterates.{step-bound, spent-bound}
 use Rattle.method.proofs.Verdicts.{verdict-means, within-means, beyond-means, spent-means, beyond-wherever, unstopped-former, stops-spent}
 use Rattle.method.proofs.Running.{stops-at, stopped}
+use Rattle.files.specs.Limits.{total-limit}
 
 -- the answer of a run is that of its shares
 pub run-is : {p : Problem} → Well-formed p → run-answer p ≡ answer-of Sharper p (run-iterate p .shares) (run-answer p .steps)
@@ -38,7 +39,7 @@ module _ {p : Problem} (h : Well-formed p) (f : In-range p) (z : Sized p) where
   answer-bounds test shares t one total boats some most here =
       let x = mixture-iterate p shares in
       let m = shares-mixed p t shares one total in
-      let few : weight (p .schedule) t ≤ 64980 = z .weights t most in
+      let few : weight (p .schedule) t ≤ total-limit = z .weights t most in
       let hw : 1 ≤ weight (p .schedule) t = weight-positive (h .schedule-fits) some in
       let means = verdict-means test (p .tolerance) (weight (p .schedule) t) (distance p t x) (gap p t x) in
       record {

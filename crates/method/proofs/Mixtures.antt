@@ -16,6 +16,7 @@ use Rattle.integers.proofs.Order.{≤→≤ℤ, ≤ℤ→≤, <→<ℤ, <ℤ→
 use Rattle.integers.proofs.Bounds.{pos-sub}
 use Rattle.integers.proofs.Facts.{_≼_, known, _⊡_, derive}
 use Rattle.files.proofs.Refusal.{and-true}
+use Rattle.files.specs.Limits.{total-limit}
 use Rattle.frank_wolfe.specs.Method.{Space, Residual, Mixture, Gap}
 use Rattle.frank_wolfe.specs.Theorem.{Compared}
 use Rattle.frank_wolfe.specs.Vectors.{subtract, scale, weighted, sum, combination, Among}
@@ -50,7 +51,7 @@ pub record In-range (p : Problem) : Type 0 where
 -- some steps, whose weights and the tolerance keep to the machine's numbers
 pub record Sized (p : Problem) : Type 0 where
   pub some-steps : 1 ≤ p .steps
-  pub weights : (t : ℕ) → t ≤ p .steps → weight (p .schedule) t ≤ 64980
+  pub weights : (t : ℕ) → t ≤ p .steps → weight (p .schedule) t ≤ total-limit
   pub most-tolerance : p .tolerance ≤ 1024000000
 
 -- ---- Residual and gap of a point y / W

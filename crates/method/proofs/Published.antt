@@ -24,7 +24,7 @@ use Rattle.method.specs.declared.Test.the-variants.{Sharper}
 use Rattle.method.specs.Answers.{is-beyond, verdict, verdict-number, verdict-carries, stops, answer-at, steps-used, run-iterate, run-answer}
 use Rattle.method.specs.Fractions.{Fraction, integer, Is-ratio, _-ℚ_, _*ℚ_, ltQ, _≤ℚ_, _<ℚ_, fractions}
 use Rattle.method.specs.Published.{unit-vector, linear-form, active-minimizer, gradient, step-size, move, minimizer, published-iterate, published-pick, published-distance, published-gap, published-floor}
-use Rattle.method.specs.PublishedRun.{Published-beyond, Is-published, Published-step, Published-run}
+use Rattle.method.specs.PublishedRun.{Published-beyond, Published-step, Published-run}
 use Rattle.method.proofs.Weights.{weight-zero, weight-suc, weight-positive}
 use Rattle.method.proofs.Argmin.{length-scores, among-row}
 use Rattle.method.proofs.Picks.{active-none}

@@ -6,6 +6,7 @@ use native.Mathlib.Omega.{arith}
 use lib.Dec.{lit<}
 use Rattle.frank_wolfe.specs.Method.{total}
 use Rattle.method.specs.Problem.{Schedule, fixed, share, weight}
+use Rattle.files.specs.Limits.{step-limit, total-limit, sum-limit}
 
 -- ---- Any schedule
 
@@ -52,10 +53,10 @@ pub weight-monotone : {s t : ℕ} → s ≤ t → weight fixed s ≤ weight fixe
 weight-monotone {s} {t} h = let k : s * (s + 1) ≤ t * (t + 1) = mul-le-mul h (omega arith) in omega (arith, weight-twice s, weight-twice t)
 
 -- the weight of the most steps that a sheet may ask
-pub weight-most : {t : ℕ} → t ≤ 360 → weight fixed t ≤ 64980
+pub weight-most : {t : ℕ} → t ≤ step-limit → weight fixed t ≤ total-limit
 unfolding weight
 weight-most h = weight-monotone h
 
 -- W² times a number that is no more than the greatest tolerance is below 2^62
-pub weight-fits : {w d : ℕ} → w ≤ 64980 → d ≤ 1024000000 → d * (w * w) < 4611686018427387904
+pub weight-fits : {w d : ℕ} → w ≤ total-limit → d ≤ 1024000000 → d * (w * w) < sum-limit
 weight-fits h k = lt-of-le-of-lt (mul-le-mul k (mul-le-mul h h)) (lit< tt)

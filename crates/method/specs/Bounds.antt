@@ -15,6 +15,7 @@ use Rattle.method.specs.declared.Answer.{Answer}
 use Rattle.method.specs.Problem.{Schedule, fixed, Problem, weight}
 use Rattle.method.specs.Iterates.{Iterate, iterate, signed-gap, mixture-distance, diameter, support}
 use Rattle.method.specs.Answers.{is-beyond, stops, answer-at}
+use Rattle.files.specs.Limits.{sum-limit}
 
 -- some shares with their sum of share times vertex
 abbrev pub mixture-iterate : Problem → (shares : List ℕ) → Iterate
@@ -73,11 +74,11 @@ pub record Answer-bounds (test : Test) (p : Problem) (a : Answer) (shares : List
   pub spent-shortfall : (shortfall : ℕ) → a .verdict ≡ Spent shortfall → shortfall + p .tolerance * (a .weight * a .weight) ≡ a .distance
   -- ---- Bits
   -- E is below 2^62
-  pub distance-fits : a .distance < 4611686018427387904
+  pub distance-fits : a .distance < sum-limit
   -- so is G
-  pub gap-fits : a .gap < 4611686018427387904
+  pub gap-fits : a .gap < sum-limit
   -- and tolerance × W²
-  pub limit-fits : p .tolerance * (a .weight * a .weight) < 4611686018427387904
+  pub limit-fits : p .tolerance * (a .weight * a .weight) < sum-limit
 
 -- a / b - Q / N² is at most the bound of t steps, multiplied out; d is D². With the fixed shares the bound is 4 D² / (t + 2)
 unfoldable pub Step-bound : Schedule → (t d a b n q : ℕ) → Type 0

@@ -14,6 +14,7 @@ use Rattle.files.specs.Bytes.{values}
 use Rattle.files.specs.Book.{boats, columns, rows, rows-from}
 use Rattle.files.specs.Sheet.{sheet, files-refusal}
 use Rattle.files.proofs.Access.{rows-at}
+use Rattle.files.specs.Limits.{step-limit, total-limit, entry-limit}
 use Rattle.method.specs.declared.Test.{Test}
 use Rattle.method.specs.declared.Answer.{Answer}
 use Rattle.method.specs.Problem.{fixed, weight}
@@ -40,9 +41,9 @@ pub all-rows : (b s : List ℕ) → files-refusal b s ≡ 0 → {l : Layout} →
 unfolding file-layout
 all-rows b s ok e = rw e (grid b s ok)
 
-module _ (b s : List ℕ) (ok : files-refusal b s ≡ 0) {l : Layout} (e : l ≡ file-layout b s) (shares : List ℕ) {t : ℕ} (some : 1 ≤ t) (few : t ≤ 360)
+module _ (b s : List ℕ) (ok : files-refusal b s ≡ 0) {l : Layout} (e : l ≡ file-layout b s) (shares : List ℕ) {t : ℕ} (some : 1 ≤ t) (few : t ≤ step-limit)
     (total : sum (take (boats b) shares) ≡ weight fixed t) where
-  pub few-shares : sum (take (boats b) shares) ≤ 64980
+  pub few-shares : sum (take (boats b) shares) ≤ total-limit
   few-shares = rw total (weight-most few)
 
   module _ (slots : length shares ≡ 256) where
@@ -69,7 +70,7 @@ module _ (b s : List ℕ) (ok : files-refusal b s ≡ 0) {l : Layout} (e : l ≡
       unfolding plain-problem residual
       residual-is = en ∙ rw total
 
-      pub entries : Bounded 260000000 (l .columns) now
+      pub entries : Bounded entry-limit (l .columns) now
       unfolding plain-problem file-layout
       entries = rw e (bounded-front b s ok (4000 * w) now r n residual-is (residual-bounded (in-range b s ok) mixed .each) (omega (arith, weight-most few)))
 

@@ -15,6 +15,7 @@ use Rattle.frank_wolfe.proofs.Vectors.{Wide, wide-rest, length-add, length-scal
 use Rattle.files.specs.Bytes.{values}
 use Rattle.files.specs.Book.{boats, columns, rows, rows-offset}
 use Rattle.files.specs.Sheet.{sheet, target-offset, files-refusal}
+use Rattle.files.specs.Limits.{total-limit, entry-limit}
 use Rattle.method.specs.Plain.{plain-problem}
 use Rattle.method.specs.Iterates.{row}
 use Rattle.method.proofs.Argmin.{among-row}
@@ -156,10 +157,10 @@ module _ (b s : List ℕ) (ok : files-refusal b s ≡ 0) where
       parts-next : d .used + (q + sum (drop (i + 1) (take (boats b) shares))) ≡ sum (take (boats b) shares)
       parts-next = (rw (shares-next, sum-more) at (d .parts))
 
-      room : sum (take (boats b) shares) ≤ 64980 → (j : ℕ) → j < columns b → natAbs (getD r j (pos 0)) + 4000 * q ≤ 260000000
+      room : sum (take (boats b) shares) ≤ total-limit → (j : ℕ) → j < columns b → natAbs (getD r j (pos 0)) + 4000 * q ≤ entry-limit
       room few j k = rw (← getD-take (columns b) r j (pos 0) k) (omega (arith, d .size .each j, parts-next))
 
-      pub summing-moved : sum (take (boats b) shares) ≤ 64980 →
+      pub summing-moved : sum (take (boats b) shares) ≤ total-limit →
           Span b (rows-offset b + 2 * (i * columns b)) (columns b) × (Span s (target-offset s) (columns b)
           × Movable r (values (columns b) (drop (rows-offset b + 2 * (i * columns b)) b)) (values (columns b) (drop (target-offset s) s)) (columns b) q)
       summing-moved few = (row-span b s ok i h, (target-span b s ok, movable b s ok r i q h (omega (arith, parts-next)) (room few)))
@@ -231,7 +232,7 @@ module _ (b s : List ℕ) (ok : files-refusal b s ≡ 0) {l : Layout} (e : l ≡
     row-cell-fits k = rw e (cell-fits b s ok d slots (rw e at h) k)
 
     module _ {k : ℕ} (ek : k ≡ getD shares i 0) where
-      pub boat-moved : sum (take (boats b) shares) ≤ 64980 →
+      pub boat-moved : sum (take (boats b) shares) ≤ total-limit →
           Span b (l .rows + 2 * (i * l .columns)) (l .columns) × (Span s (l .target) (l .columns)
           × Movable r (values (l .columns) (drop (l .rows + 2 * (i * l .columns)) b)) (values (l .columns) (drop (l .target) s)) (l .columns) k)
       unfolding file-layout

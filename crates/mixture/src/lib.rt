@@ -8,6 +8,7 @@ ghost use Rattle.frank_wolfe.specs.Vectors.{subtract, scale, sum, combination};
 ghost use Rattle.files.specs.Book.{boats, columns, rows};
 ghost use Rattle.files.specs.Sheet.{files-refusal};
 ghost use Rattle.files.specs.Sheet as Sheets;
+ghost use Rattle.files.specs.Limits.{total-limit};
 ghost use Rattle.method.specs.Problem.{fixed, weight};
 ghost use Rattle.method.specs.Plain.{plain-problem};
 ghost use Rattle.iteration.specs.States.{file-layout};
@@ -21,7 +22,7 @@ use method::Test;
 fn residual_of(book: &[u8], sheet: &[u8], layout: Layout, shares: [u16; 256]) -> [i32; 64]
     requires { ⌜ files-refusal (now book) (now sheet) ≡ 0 ⌝ }
     requires { ⌜ layout ≡ file-layout (now book) (now sheet) ⌝ }
-    requires { ⌜ sum (take (boats (now book)) shares) ≤ 64980 ⌝ }
+    requires { ⌜ sum (take (boats (now book)) shares) ≤ total-limit ⌝ }
     ensures { λ r. ⌜ take (columns (now (book .entry))) r ≡ subtract (combination (columns (now (book .entry))) (take (boats (now (book .entry))) shares) (rows (now (book .entry)))) (scale (sum (take (boats (now (book .entry))) shares)) (Sheets.sheet (now (sheet .entry)) .target)) ⌝ }
 {
     let rows = layout.rows;

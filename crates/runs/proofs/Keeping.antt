@@ -11,6 +11,7 @@ use lib.Seq.{getD-take, take-at, drop-at, set-append-left, length-front, length-
 use Rattle.integers.proofs.Filling.{replicate-parts}
 use Rattle.files.specs.Book.{boats, columns, rows}
 use Rattle.files.specs.Sheet.{files-refusal}
+use Rattle.files.specs.Limits.{step-limit, total-limit}
 use Rattle.frank_wolfe.specs.Vectors.{add, scale, ones}
 use Rattle.method.specs.Problem.{fixed, weight}
 use Rattle.method.specs.Plain.{plain-problem}
@@ -50,7 +51,7 @@ module _ (b s : List ℕ) (ok : files-refusal b s ≡ 0) where
   shared-room : {t : ℕ} {qs z : List ℕ} → Shared b s t qs z → boats b ≤ length qs
   shared-room {t} q = rw (q .is, length-append, count t) (omega arith)
 
-  module _ {t : ℕ} {x : State} (H : Holds b s t x) (few : t < 360) {qs z : List ℕ} (q : Shared b s t qs z) where
+  module _ {t : ℕ} {x : State} (H : Holds b s t x) (few : t < step-limit) {qs z : List ℕ} (q : Shared b s t qs z) where
     share-is : getD qs (x .best) 0 ≡ getD (iterate-of b s t .shares) (x .best) 0
     share-is = sym (getD-take (boats b) qs (x .best) 0 (best-below b s ok H)) ∙ ap (λ (l : List ℕ). getD l (x .best) 0) (shared-front q)
 
@@ -59,7 +60,7 @@ module _ (b s : List ℕ) (ok : files-refusal b s ≡ 0) where
     share-room =
         let n : boats b ≤ length qs = shared-room q in
         let m : getD (iterate-of b s t .shares) (x .best) 0 ≤ weight fixed t = mixed-share (mixed b s ok t) (x .best) in
-        let w : weight fixed (suc t) ≤ 64980 = weight-most (omega arith) in
+        let w : weight fixed (suc t) ≤ total-limit = weight-most (omega arith) in
         (omega (arith, best-below b s ok H), rw share-is (omega (arith, weight-more t)))
 
     pub shares-next : {rs : List ℕ} → rs ≡ set qs (x .best) (getD qs (x .best) 0 + suc t) → Shared b s (suc t) rs z
@@ -114,7 +115,7 @@ module _ (b s : List ℕ) (ok : files-refusal b s ≡ 0) where
   unfolding file-layout
   scores-for n e h = scores-start n (rw e at h)
 
-  score-sizes : {t : ℕ} → t ≤ 360 → {sc : List ℤ} → Scores-at b s t sc → Bounded 33269760000000 (boats b) sc
+  score-sizes : {t : ℕ} → t ≤ step-limit → {sc : List ℤ} → Scores-at b s t sc → Bounded 33269760000000 (boats b) sc
   unfolding plain-problem
   score-sizes {t} few {sc} S =
       let f = in-range b s ok in
@@ -124,7 +125,7 @@ module _ (b s : List ℕ) (ok : files-refusal b s ≡ 0) where
             (omega (arith, score-most (well-formed b s ok) f (mixed b s ok t) (row (rows b) q) (f .rows-bounded _ (among-row (rows b) q (omega (arith, book-fits b s ok .row-count)))), weight-most few));
       }
 
-  module _ {l : Layout} (e : l ≡ file-layout b s) {x : State} (H : Holds b s (x .steps) x) (few : x .steps < 360) {sc : List ℤ} (S : Scores-at b s (x .steps) sc)
+  module _ {l : Layout} (e : l ≡ file-layout b s) {x : State} (H : Holds b s (x .steps) x) (few : x .steps < step-limit) {sc : List ℤ} (S : Scores-at b s (x .steps) sc)
       {ps : List ℤ} (P : Products b s (x .best) ps) where
     pub rescorable-here : Rescorable sc (x .steps + 1) ps (l .boats)
     unfolding file-layout
@@ -227,7 +228,7 @@ shared-end {z = z} q e = q .is ∙ ap (λ (l : List ℕ). l ++ z) e
 
 module _ (b s : List ℕ) (ok : files-refusal b s ≡ 0) {x : State} {shares₀ shares : List ℕ} {scores₀ scores : List ℤ} {tags : List ℕ} {memory₀ memory : List ℤ}
     (K : Kept b s x shares₀ shares scores₀ scores tags memory₀ memory) where
-  pub few-here : x .steps < 360
+  pub few-here : x .steps < step-limit
   few-here = omega (arith, K .going .left, sheet-fits b s ok .most-steps)
 
   pub best-here : x .best < boats b

@@ -11,6 +11,7 @@ use lib.ListN.{take, drop}
 use Rattle.files.specs.Bytes.{values}
 use Rattle.files.specs.Book.{columns}
 use Rattle.files.specs.Sheet.{sheet, files-refusal}
+use Rattle.files.specs.Limits.{step-limit}
 use Rattle.method.specs.Problem.{fixed, weight}
 use Rattle.method.specs.Plain.{plain-problem}
 use Rattle.method.specs.Iterates.{iterate}
@@ -72,7 +73,7 @@ module _ (b s : List ℕ) (ok : files-refusal b s ≡ 0) where
     next-held : Holds b s (suc (x .steps)) y
     next-held = rw add-one at H
 
-    next-few : suc (x .steps) ≤ 360
+    next-few : suc (x .steps) ≤ step-limit
     next-few = omega (arith, g .left, sheet-fits b s ok .most-steps)
 
     module _ {l : Layout} (e : l ≡ file-layout b s) where

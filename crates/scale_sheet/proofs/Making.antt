@@ -18,6 +18,7 @@ use Rattle.files.specs.Sheet.{Sheet}
 use Rattle.files.specs.Fits.{Book-fits}
 use Rattle.files.proofs.Accepted.{book-accepted}
 use Rattle.files.proofs.Refusal.{between-true, book-passed}
+use Rattle.files.specs.Limits.{step-limit}
 use Rattle.cells.specs.declared.ScaleCell.{ScaleCell}
 use Rattle.cells.specs.Cells.{cell-value, read-cells, scale-refusal, values-after, sheet-values}
 use Rattle.cells.specs.Promise.{Values-accepted, Values-right}
@@ -32,10 +33,10 @@ use Rattle.scale_sheet.specs.declared.ScaleSheet.{ScaleSheet}
 use Rattle.scale_sheet.specs.Sheets.{scale-sheet-refusal, asked, refused-sheet, sheet-after, scale-sheet}
 use Rattle.scale_sheet.specs.Promise.{Sheet-accepted, Reason, by-cells, by-steps, by-tolerance, Sheet-right-by, Sheet-right}
 
-steps-outside : (k : ℕ) → between 1 360 k ≡ false → (k ≡ 0) ⊎ (360 < k)
+steps-outside : (k : ℕ) → between 1 step-limit k ≡ false → (k ≡ 0) ⊎ (step-limit < k)
 unfolding between
 steps-outside zero h = inl refl
-steps-outside (suc k) h = inr (leb-false (suc k) 360 (rw (le-leb 1 (suc k) (omega arith)) at h))
+steps-outside (suc k) h = inr (leb-false (suc k) step-limit (rw (le-leb 1 (suc k) (omega arith)) at h))
 
 module _ (b : List ℕ) (cs : List ScaleCell) (k t : ℕ) (L : length cs ≡ 64) where
   abbrev Given : ScaleSheet → Type 0
@@ -57,21 +58,21 @@ module _ (b : List ℕ) (cs : List ScaleCell) (k t : ℕ) (L : length cs ≡ 64)
   unfolding sheet-values Values-right
   accepted-values z = subst (λ (m : ℕ). Values-right b cs m (sheet-values b cs .values)) z (conversion-right b cs L .right)
 
-  pub steps-refused : scale-refusal b cs ≡ 0 → between 1 360 k ≡ false → {r : ScaleSheet} → r ≡ refused-sheet 14 → Given r
+  pub steps-refused : scale-refusal b cs ≡ 0 → between 1 step-limit k ≡ false → {r : ScaleSheet} → r ≡ refused-sheet 14 → Given r
   unfolding scale-sheet-refusal
   steps-refused z e er = refused-by 13 (rw (eq-eqb (scale-refusal b cs) 0 z, e)) (by-steps z (steps-outside k e)) er
 
-  pub tolerance-refused : scale-refusal b cs ≡ 0 → between 1 360 k ≡ true → 1024000000 < t → {r : ScaleSheet} → r ≡ refused-sheet 15 → Given r
+  pub tolerance-refused : scale-refusal b cs ≡ 0 → between 1 step-limit k ≡ true → 1024000000 < t → {r : ScaleSheet} → r ≡ refused-sheet 15 → Given r
   unfolding scale-sheet-refusal
   tolerance-refused z e l er =
-      let p = between-true 1 360 k e in
+      let p = between-true 1 step-limit k e in
       refused-by 14 (rw (eq-eqb (scale-refusal b cs) 0 z, e, lt-ltb 1024000000 t l)) (by-tolerance z (p .0) (p .1) l) er
 
 -- what the last test leaves
 pub record Passed (b : List ℕ) (cs : List ScaleCell) (k t : ℕ) : Type 0 where
   pub all-cells : length cs ≡ 64
   pub cells-passed : scale-refusal b cs ≡ 0
-  pub steps-passed : between 1 360 k ≡ true
+  pub steps-passed : between 1 step-limit k ≡ true
   pub tolerance-passed : t ≤ 1024000000
 
 -- ---- the sheet
@@ -94,7 +95,7 @@ module _ {b : List ℕ} {cs : List ScaleCell} {k t : ℕ} (p : Passed b cs k t) 
   of : Sheet-of (asked b cs k t) bs
   unfolding Sheet-reads-back
   of =
-      let q = between-true 1 360 k (p .steps-passed) in
+      let q = between-true 1 step-limit k (p .steps-passed) in
       sheet-reads-back (asked b cs k t)
       (record {
         plain = ap ones (sym target-length);

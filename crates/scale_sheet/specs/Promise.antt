@@ -7,6 +7,7 @@ use lib.ListN.{take, drop, replicate}
 use Rattle.frank_wolfe.specs.Vectors.{ones}
 use Rattle.files.specs.Book.{columns}
 use Rattle.files.specs.Sheet.{sheet, files-refusal}
+use Rattle.files.specs.Limits.{step-limit}
 use Rattle.cells.specs.declared.ScaleCell.{ScaleCell}
 use Rattle.cells.specs.Cells.{scale-refusal, sheet-values}
 use Rattle.cells.specs.Promise.{Values-accepted, Values-refused}
@@ -32,8 +33,8 @@ pub record Sheet-accepted (b : List ℕ) (cs : List ScaleCell) (steps tolerance 
 -- why a call is refused by n: the book or a cell, then the steps, then the tolerance
 pub data Reason (b : List ℕ) (cs : List ScaleCell) (steps tolerance : ℕ) : ℕ → Type 0 where
   by-cells : (n : ℕ) → Values-refused b cs n (sheet-values b cs .values) → Reason b cs steps tolerance n
-  by-steps : scale-refusal b cs ≡ 0 → (steps ≡ 0) ⊎ (360 < steps) → Reason b cs steps tolerance 14
-  by-tolerance : scale-refusal b cs ≡ 0 → 1 ≤ steps → steps ≤ 360 → 1024000000 < tolerance → Reason b cs steps tolerance 15
+  by-steps : scale-refusal b cs ≡ 0 → (steps ≡ 0) ⊎ (step-limit < steps) → Reason b cs steps tolerance 14
+  by-tolerance : scale-refusal b cs ≡ 0 → 1 ≤ steps → steps ≤ step-limit → 1024000000 < tolerance → Reason b cs steps tolerance 15
 
 unfoldable pub Sheet-right-by : (b : List ℕ) → List ScaleCell → (steps tolerance refusal : ℕ) → ScaleSheet → Type 0
 Sheet-right-by b cs k t zero r = Sheet-accepted b cs k t r

@@ -8,6 +8,7 @@ use Rattle.frank_wolfe.specs.Vectors.{ones}
 use Rattle.files.specs.Bytes.{between}
 use Rattle.files.specs.Book.{columns}
 use Rattle.files.specs.Sheet.{Sheet}
+use Rattle.files.specs.Limits.{step-limit}
 use Rattle.cells.specs.declared.ScaleCell.{ScaleCell}
 use Rattle.cells.specs.Cells.{cell-value, read-cells, scale-refusal}
 use Rattle.sheet_output.specs.Output.{sheet-bytes}
@@ -17,7 +18,7 @@ use Rattle.scale_sheet.specs.declared.ScaleSheet.{ScaleSheet}
 unfoldable pub scale-sheet-refusal : (book : List ℕ) → List ScaleCell → (steps tolerance : ℕ) → ℕ
 scale-sheet-refusal b cs steps tolerance =
     cond (not (eqb (scale-refusal b cs) 0)) (scale-refusal b cs)
-    (cond (not (between 1 360 steps)) 14
+    (cond (not (between 1 step-limit steps)) 14
     (cond (ltb 1024000000 tolerance) 15
     0))
 

@@ -2,7 +2,7 @@
 use mathlib.Core.Path.{_≡_, refl, sym, _∙_}
 use mathlib.Core.Bool.{true, false}
 use mathlib.Core.List.{List, [], _∷_, _++_}
-use Prim.Native.Nat.{ℕ, zero, suc, _+_, _*_, _-_, _≤_, _<_}
+use Prim.Native.Nat.{ℕ, zero, suc, _+_, _≤_, _<_}
 use native.Mathlib.Omega.{arith}
 use lib.IntN.{ℤ, pos, natAbs, _+ℤ_, _*ℤ_}
 use lib.Signed.{ltZ}
@@ -20,6 +20,7 @@ use Rattle.scoring.specs.declared.Least.{Least}
 use Rattle.scoring.specs.Scores.{least-of}
 use Rattle.sums.proofs.Sums.{cast-fits, cast-read}
 use Rattle.scoring.proofs.Scans.{Ahead, ahead-first, ahead-better, ahead-same, ahead-end}
+use Rattle.files.specs.Limits.{total-limit}
 
 module _ {b : ℤ} {k : ℕ} {p : ℤ} (z : Score-sized b k p) where
   -- k p, and b + k p, as the machine has them
@@ -36,7 +37,7 @@ module _ {b : ℤ} {k : ℕ} {p : ℤ} (z : Score-sized b k p) where
   change-is = rw (toZ-pos w64 {n = k} (omega (arith, z .few-shares)), cast-read p 512000000 (z .product-size) tt)
 
   change-size : natAbs (pos k *ℤ p) ≤ 33269760000000
-  change-size = abs-mul-le (pos k) p 64980 512000000 (z .few-shares) (z .product-size)
+  change-size = abs-mul-le (pos k) p total-limit 512000000 (z .few-shares) (z .product-size)
 
   pub change-fits : SFits w64 change
   change-fits = rw change-is (fits w64 33269760000000 change-size tt)

@@ -6,6 +6,7 @@ ghost use Prim.Native.Nat.{_≤_};
 ghost use lib.ListN.{length, take, drop};
 ghost use lib.IntN.{pos, _+ℤ_, _*ℤ_};
 ghost use Rattle.files.specs.Book.{rows-from};
+ghost use Rattle.files.specs.Limits.{entry-limit};
 ghost use Rattle.frank_wolfe.specs.Vectors.{add, scale, ones};
 ghost use Rattle.method.specs.Iterates.{scores};
 ghost use Rattle.sums.specs.Operands.{Bounded, Grid, Rows-bounded, Score-sized, Rescorable};
@@ -20,7 +21,7 @@ pub struct Least {
 // One pass over the rows at `at`: the boat of least score <r, v>, where v is the boat's row; the lowest-numbered of equals.
 pub fn least_score(r: &[i32], book: &[u8], at: usize, boats: usize, columns: usize) -> Least
     requires { ⌜ Grid (now book) at boats columns ⌝ }
-    requires { ⌜ Bounded 260000000 columns (now r) ⌝ }
+    requires { ⌜ Bounded entry-limit columns (now r) ⌝ }
     ensures { λ x. ⌜ x ≡ least-of (scores (ones columns) (take columns (now (r .entry))) (rows-from boats columns (drop at (now (book .entry))))) ⌝ }
 {
     let mut boat = 0;

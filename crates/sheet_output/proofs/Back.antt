@@ -9,9 +9,10 @@ use lib.ListN.{length, drop, length-append}
 use lib.Seq.{drop-at, take-at}
 use Rattle.frank_wolfe.specs.Vectors.{ones, sum}
 use Rattle.frank_wolfe.proofs.Vectors.{sum-ones}
-use Rattle.files.specs.Bytes.{number-bytes, little-endian, number, values, same, between, all-in-range, length-in-range, trailer, body, reaches, body-refusal}
+use Rattle.files.specs.Bytes.{number-bytes, little-endian, number, values, same, all-in-range, length-in-range, trailer, body, reaches, body-refusal}
 use Rattle.files.specs.Sheet.{Sheet, sheet, sheet-columns, WSH1, WSH2, sheet-lettered, factor-bytes, sheet-refusal-in, sheet-refusal}
 use Rattle.files.proofs.Bytes.{read-bytes}
+use Rattle.files.specs.Limits.{file-limit, step-limit}
 use Rattle.card_format.proofs.Truth.{between-said}
 use Rattle.sheet_output.specs.Output.{values-bytes, sheet-trailer, sheet-bytes}
 use Rattle.sheet_output.specs.Back.{Sheet-fit, Sheet-reads-back}
@@ -163,9 +164,9 @@ module _ (s : Sheet) (f : Sheet-fit s) where
         own-back,
         own-sheet,
         own-total,
-        between-said {least = 16} {most = 40000} {n = 2 * c + 16} (omega arith) (omega (arith, few-columns)),
+        between-said {least = 16} {most = file-limit} {n = 2 * c + 16} (omega arith) (omega (arith, few-columns)),
         between-said {least = c} {most = c} {n = c} (omega arith) (omega arith),
-        between-said {least = 1} {most = 360} {n = s .steps} (f .some-steps) (f .most-steps),
+        between-said {least = 1} {most = step-limit} {n = s .steps} (f .some-steps) (f .most-steps),
         between-said {least = 1} {most = 64} {n = c} some-columns few-columns,
         le-ltb 1024000000 (s .tolerance) (f .most-tolerance),
         own-sheet-body,

@@ -1,6 +1,6 @@
 -- The 16 bits of a value as the code has them: the value and 65,536 more, modulo 65,536.
 use mathlib.Core.Path.{_≡_, refl, ap, _∙_}
-use Prim.Native.Nat.{suc, _+_, _-_, _%_, _≤_}
+use Prim.Native.Nat.{suc, _%_, _≤_}
 use native.Mathlib.Omega.{arith}
 use borrow.Author.Tests.{le-ltb}
 use lib.Dec.{T}

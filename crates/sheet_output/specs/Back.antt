@@ -7,6 +7,7 @@ use lib.ListN.{length}
 use Rattle.frank_wolfe.specs.Vectors.{ones}
 use Rattle.files.specs.Bytes.{all-in-range}
 use Rattle.files.specs.Sheet.{Sheet, sheet, sheet-columns, sheet-refusal}
+use Rattle.files.specs.Limits.{step-limit}
 use Rattle.sheet_output.specs.Output.{sheet-bytes}
 
 -- what a sheet of the edition WSH1 can ask for: every factor is 1
@@ -16,7 +17,7 @@ pub record Sheet-fit (s : Sheet) : Type 0 where
   pub most-columns : length (s .target) ≤ 64
   pub in-range : all-in-range (s .target) ≡ true
   pub some-steps : 1 ≤ s .steps
-  pub most-steps : s .steps ≤ 360
+  pub most-steps : s .steps ≤ step-limit
   pub most-tolerance : s .tolerance ≤ 1024000000
 
 -- t is a sheet that is not refused and asks for this

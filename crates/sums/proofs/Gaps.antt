@@ -1,6 +1,6 @@
 -- E + w (a - b) in an i64. Assumes nothing.
 use mathlib.Core.Path.{_≡_, _∙_}
-use Prim.Native.Nat.{ℕ, _+_, _*_, _≤_}
+use Prim.Native.Nat.{ℕ, _*_, _≤_}
 use native.Mathlib.Omega.{arith}
 use lib.Dec.{T}
 use lib.IntN.{ℤ, pos, natAbs, _+ℤ_, _-ℤ_, _*ℤ_}
@@ -10,6 +10,7 @@ use mir.Val.{SFits, Fits, toZ, ofZ}
 use mir.Facts.{toZ-ofZ, toZ-pos}
 use Rattle.integers.proofs.Bounds.{fits, read, abs-add, abs-sub, abs-mul-le}
 use Rattle.sums.specs.Operands.{Gap-sized}
+use Rattle.files.specs.Limits.{total-limit}
 
 module _ {e w : ℕ} {a b : ℤ} (s : Gap-sized e w a b) where
   -- a - b, times w, and added to E, as the machine has them
@@ -40,7 +41,7 @@ module _ {e w : ℕ} {a b : ℤ} (s : Gap-sized e w a b) where
 
   -- 64,980 × 66,539,520,000,000, below 2^62
   product-size : natAbs (pos w *ℤ (a -ℤ b)) ≤ 4323738009600000000
-  product-size = abs-mul-le (pos w) (a -ℤ b) 64980 66539520000000 (s .few-shares) (omega (arith, spread-size, s .few-shares))
+  product-size = abs-mul-le (pos w) (a -ℤ b) total-limit 66539520000000 (s .few-shares) (omega (arith, spread-size, s .few-shares))
 
   pub product-fits : SFits w64 product
   product-fits = rw product-is (fits w64 4323738009600000000 product-size tt)

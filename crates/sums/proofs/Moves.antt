@@ -14,6 +14,7 @@ use mir.Facts.{toZ-ofZ, toZ-pos}
 use Rattle.integers.proofs.Bounds.{fits, read, abs-add, abs-sub, abs-mul-le}
 use Rattle.files.specs.Bytes.{values, value, number}
 use Rattle.files.proofs.Rows.{values-suc, value-of-values}
+use Rattle.files.specs.Limits.{entry-limit}
 use Rattle.frank_wolfe.specs.Vectors.{add, subtract, scale}
 use Rattle.sums.specs.Operands.{Movable}
 
@@ -85,14 +86,14 @@ module _ {bs : List ℕ} {at : ℕ} {ss : List ℕ} {from c k : ℕ} {r : List �
     pub change-fits : SFits w32 change
     change-fits = rw change-is (fits w32 259920000 (omega (arith, change-size, m .few-shares)) tt)
 
-    old-size : natAbs (getD ys j (pos 0)) + 4000 * k ≤ 260000000
+    old-size : natAbs (getD ys j (pos 0)) + 4000 * k ≤ entry-limit
     old-size = rw (d .later j (omega arith)) (m .room j h)
 
     entry-is : entry ≡ getD ys j (pos 0) +ℤ pos k *ℤ (x -ℤ y)
-    entry-is = rw (read w32 {z = getD ys j (pos 0)} 260000000 (omega (arith, old-size)) tt, toZ-ofZ change-fits, change-is)
+    entry-is = rw (read w32 {z = getD ys j (pos 0)} entry-limit (omega (arith, old-size)) tt, toZ-ofZ change-fits, change-is)
 
     pub entry-fits : SFits w32 entry
-    entry-fits = rw entry-is (fits w32 260000000 (omega (arith, abs-add (getD ys j (pos 0)) (pos k *ℤ (x -ℤ y)), change-size, old-size)) tt)
+    entry-fits = rw entry-is (fits w32 entry-limit (omega (arith, abs-add (getD ys j (pos 0)) (pos k *ℤ (x -ℤ y)), change-size, old-size)) tt)
 
     pub move-more : Moving bs at ss from c k r (j + 1) (set ys j (toZ w32 (ofZ w32 entry)))
     unfolding add scale subtract

@@ -1,7 +1,7 @@
 -- A sum of squares, added up from the first number on. Assumes nothing.
 use mathlib.Core.Path.{_≡_, ap, _∙_}
 use mathlib.Core.List.{List}
-use Prim.Native.Nat.{ℕ, suc, _+_, _*_, _-_, _≤_, _<_}
+use Prim.Native.Nat.{ℕ, suc, _+_, _*_, _≤_, _<_}
 use native.Mathlib.Nat.{mul-le-mul}
 use native.Mathlib.Omega.{arith}
 use native.Mathlib.Numerals.{add-one}
@@ -17,24 +17,25 @@ use Rattle.integers.proofs.Bounds.{fits, read, abs-mul, abs-mul-le}
 use Rattle.frank_wolfe.specs.Vectors.{squared-norm}
 use Rattle.sums.specs.Operands.{Bounded}
 use Rattle.sums.proofs.Sums.{cast-fits, cast-read}
+use Rattle.files.specs.Limits.{entry-limit}
 
 square-nonneg : (x : ℤ) → T (nonNeg (x *ℤ x))
 square-nonneg (pos n) = tt
 square-nonneg (negsuc n) = tt
 
 -- one number, cast to i64, squared, and cast to u64
-module _ (x : ℤ) (h : natAbs x ≤ 260000000) where
+module _ (x : ℤ) (h : natAbs x ≤ entry-limit) where
   abbrev held : ℤ
   held = toZ w64 (ofZ w64 (toZ w32 (ofZ w32 x)))
 
   pub held-fits : SFits w64 (toZ w32 (ofZ w32 x))
-  held-fits = cast-fits x 260000000 h tt
+  held-fits = cast-fits x entry-limit h tt
 
   held-read : held ≡ x
-  held-read = cast-read x 260000000 h tt
+  held-read = cast-read x entry-limit h tt
 
   square-size : natAbs (x *ℤ x) ≤ 67600000000000000
-  square-size = abs-mul-le x x 260000000 260000000 h h
+  square-size = abs-mul-le x x entry-limit entry-limit h h
 
   pub square-fits : SFits w64 (held *ℤ held)
   square-fits = rw held-read (fits w64 67600000000000000 square-size tt)
@@ -65,9 +66,9 @@ module _ {xs : List ℤ} {n i sum : ℕ} (d : Squared xs n i sum) where
       let f : sum + 0 ≡ squared-norm (take n xs) = rw (e, slice-empty) at (d .rest) in
       omega arith
 
-  module _ (few : n ≤ 64) (b : Bounded 260000000 n xs) (h : i < n) {q : ℕ} (eq : q ≡ natAbs (toZ w32 (ofZ w32 (getD xs i (pos 0)))) * natAbs (toZ w32 (ofZ w32 (getD xs i (pos 0))))) where
+  module _ (few : n ≤ 64) (b : Bounded entry-limit n xs) (h : i < n) {q : ℕ} (eq : q ≡ natAbs (toZ w32 (ofZ w32 (getD xs i (pos 0)))) * natAbs (toZ w32 (ofZ w32 (getD xs i (pos 0))))) where
     plain : q ≡ natAbs (getD xs i (pos 0)) * natAbs (getD xs i (pos 0))
-    plain = eq ∙ rw (read w32 {z = getD xs i (pos 0)} 260000000 (b .each i h) tt)
+    plain = eq ∙ rw (read w32 {z = getD xs i (pos 0)} entry-limit (b .each i h) tt)
 
     small : q ≤ 67600000000000000
     small = rw plain (mul-le-mul (b .each i h) (b .each i h))
@@ -82,5 +83,5 @@ module _ {xs : List ℤ} {n i sum : ℕ} (d : Squared xs n i sum) where
         let e : sum + (q + squared-norm (slice (suc i) n xs)) ≡ squared-norm (take n xs) = rw (slice-cons i n xs (pos 0) h (b .long), ← plain) at (d .rest) in
         record { within = omega arith; size = omega (arith, small, d .size); rest = rw t (omega arith) }
 
-pub entry-size : {xs : List ℤ} {n : ℕ} → Bounded 260000000 n xs → (i : ℕ) → i < n → natAbs (toZ w32 (ofZ w32 (getD xs i (pos 0)))) ≤ 260000000
-entry-size {xs} b i h = rw (read w32 {z = getD xs i (pos 0)} 260000000 (b .each i h) tt) (b .each i h)
+pub entry-size : {xs : List ℤ} {n : ℕ} → Bounded entry-limit n xs → (i : ℕ) → i < n → natAbs (toZ w32 (ofZ w32 (getD xs i (pos 0)))) ≤ entry-limit
+entry-size {xs} b i h = rw (read w32 {z = getD xs i (pos 0)} entry-limit (b .each i h) tt) (b .each i h)

@@ -16,6 +16,7 @@ use Rattle.integers.proofs.Bounds.{fits, read, abs-add, abs-mul-le}
 use Rattle.files.specs.Bytes.{values, value, number}
 use Rattle.files.proofs.Values.{value-bound, value-fits}
 use Rattle.files.proofs.Rows.{values-suc, value-of-values}
+use Rattle.files.specs.Limits.{entry-limit}
 use Rattle.frank_wolfe.specs.Vectors.{inner}
 use Rattle.sums.specs.Operands.{Bounded, Span}
 
@@ -71,16 +72,16 @@ module _ {xs : List ℤ} {n i : ℕ} (b : Bounded 4000 n xs) (h : i < n) where
 pub value-read : (u : ℕ) {v : ℤ} → v ≡ value u → toZ w32 (ofZ w32 v) ≡ v
 value-read u e = rw e (toZ-ofZ (value-fits u))
 
-module _ {xs : List ℤ} {n i : ℕ} (b : Bounded 260000000 n xs) (h : i < n) where
+module _ {xs : List ℤ} {n i : ℕ} (b : Bounded entry-limit n xs) (h : i < n) where
   pub entry-cast-fits : SFits w64 (toZ w32 (ofZ w32 (getD xs i (pos 0))))
-  entry-cast-fits = cast-fits (getD xs i (pos 0)) 260000000 (b .each i h) tt
+  entry-cast-fits = cast-fits (getD xs i (pos 0)) entry-limit (b .each i h) tt
 
   pub entry-cast-read : toZ w64 (ofZ w64 (toZ w32 (ofZ w32 (getD xs i (pos 0))))) ≡ getD xs i (pos 0)
-  entry-cast-read = cast-read (getD xs i (pos 0)) 260000000 (b .each i h) tt
+  entry-cast-read = cast-read (getD xs i (pos 0)) entry-limit (b .each i h) tt
 
   -- an entry times any 16-bit value
   pub wide-product : (u : ℕ) {v : ℤ} → v ≡ value u → {x y : ℤ} → x ≡ getD xs i (pos 0) → y ≡ v → natAbs (x *ℤ y) ≤ 8519680000000
-  wide-product u ev {x} {y} ex ey = abs-mul-le x y 260000000 32768 (rw ex (b .each i h)) (rw (ey, ev) (value-bound u))
+  wide-product u ev {x} {y} ex ey = abs-mul-le x y entry-limit 32768 (rw ex (b .each i h)) (rw (ey, ev) (value-bound u))
 
 -- 64 products of at most m fit the accumulator
 module _ {w : Width} {m : ℕ} (t : T (ltb (64 * m) (2 ^ hbits w))) {xs : List ℤ} {bs : List ℕ} {at n i bits : ℕ} (d : Summed w m xs bs at n i bits) (s : Span bs at n) where

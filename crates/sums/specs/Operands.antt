@@ -4,6 +4,7 @@ use Prim.Native.Nat.{ℕ, _+_, _*_, _≤_, _<_}
 use lib.ListN.{length, getD}
 use lib.IntN.{ℤ, pos, natAbs, _+ℤ_, _-ℤ_, _*ℤ_}
 use lib.Signed.{_≤ℤ_}
+use Rattle.files.specs.Limits.{total-limit, entry-limit, sum-limit}
 
 -- there are `count` numbers, and the first `count` are at most so large
 pub record Bounded (most count : ℕ) (xs : List ℤ) : Type 0 where
@@ -24,15 +25,15 @@ pub record Grid (bs : List ℕ) (at boats columns : ℕ) : Type 0 where
 
 -- the numbers r stay within 260,000,000 when they move by k (v - u), with v and u in a book's and a sheet's range
 pub record Movable (r v u : List ℤ) (columns k : ℕ) : Type 0 where
-  pub few-shares : k ≤ 64980
+  pub few-shares : k ≤ total-limit
   pub row-range : Bounded 2000 columns v
   pub target-range : Bounded 2000 columns u
-  pub room : (j : ℕ) → j < columns → natAbs (getD r j (pos 0)) + 4000 * k ≤ 260000000
+  pub room : (j : ℕ) → j < columns → natAbs (getD r j (pos 0)) + 4000 * k ≤ entry-limit
 
 -- E + w (a - b) is not below 0 and all of it keeps to 63 bits
 pub record Gap-sized (e w : ℕ) (a b : ℤ) : Type 0 where
-  pub distance : e < 4611686018427387904
-  pub few-shares : w ≤ 64980
+  pub distance : e < sum-limit
+  pub few-shares : w ≤ total-limit
   pub first : natAbs a ≤ 512000000 * w
   pub second : natAbs b ≤ 512000000 * w
   pub sign : pos 0 ≤ℤ (pos e +ℤ pos w *ℤ (a -ℤ b))
@@ -43,7 +44,7 @@ pub record Rows-bounded (rs : List (List ℤ)) (columns : ℕ) : Type 0 where
 
 -- a score and a product that keep to 63 bits when the score moves by k times the product
 pub record Score-sized (score : ℤ) (k : ℕ) (product : ℤ) : Type 0 where
-  pub few-shares : k ≤ 64980
+  pub few-shares : k ≤ total-limit
   pub score-size : natAbs score ≤ 33269760000000
   pub product-size : natAbs product ≤ 512000000
 

@@ -6,13 +6,14 @@ ghost use Prim.Native.Nat.{_-_, _*_, _≤_};
 ghost use lib.ListN.{take, drop, replicate};
 ghost use lib.IntN.{pos, natAbs, _+ℤ_, _-ℤ_, _*ℤ_};
 ghost use Rattle.files.specs.Bytes.{values};
+ghost use Rattle.files.specs.Limits.{entry-limit};
 ghost use Rattle.frank_wolfe.specs.Vectors.{add, subtract, scale, inner, squared-norm};
 ghost use Rattle.sums.specs.Operands.{Bounded, Span, Movable, Gap-sized};
 
 // <r, v>, where v is the row of `columns` values at `at`.
 pub fn inner_at(r: &[i32], bytes: &[u8], at: usize, columns: usize) -> i64
     requires { ⌜ Span (now bytes) at columns ⌝ }
-    requires { ⌜ Bounded 260000000 columns (now r) ⌝ }
+    requires { ⌜ Bounded entry-limit columns (now r) ⌝ }
     ensures { λ x. ⌜ x ≡ inner (take columns (now (r .entry))) (values columns (drop at (now (bytes .entry)))) ⌝ }
 {
     let mut sum: i64 = 0;
@@ -41,7 +42,7 @@ pub fn narrow_inner(d: &[i16], bytes: &[u8], at: usize, columns: usize) -> i32
 
 // The square of a number.
 fn square(x: i32) -> u64
-    requires { ⌜ natAbs x ≤ 260000000 ⌝ }
+    requires { ⌜ natAbs x ≤ entry-limit ⌝ }
     ensures { λ r. ⌜ r ≡ natAbs x * natAbs x ⌝ }
 {
     let z = x as i64;
@@ -51,7 +52,7 @@ fn square(x: i32) -> u64
 // The sum of the squares of the first `columns` numbers.
 pub fn squared_norm(r: &[i32], columns: usize) -> u64
     requires { ⌜ columns ≤ 64 ⌝ }
-    requires { ⌜ Bounded 260000000 columns (now r) ⌝ }
+    requires { ⌜ Bounded entry-limit columns (now r) ⌝ }
     ensures { λ x. ⌜ x ≡ squared-norm (take columns (now (r .entry))) ⌝ }
 {
     let mut sum: u64 = 0;

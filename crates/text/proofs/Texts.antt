@@ -9,7 +9,7 @@ use lib.ListN.{length, getD, take, drop, set, replicate, length-append, length-d
 use lib.Seq.{paste, paste-zero, paste-suc, take-paste, drop-paste, drop-drop, take-all}
 use Rattle.text.specs.Decimal.{figure, decimal, pair}
 use Rattle.text.specs.Lines.{number-line, pair-line}
-use Rattle.text.specs.Texts.{bytes-of, Holds, Adds, Figures-of}
+use Rattle.text.specs.Texts.{text-limit, bytes-of, Holds, Adds, Figures-of}
 use Rattle.text.specs.declared.Figures.{Figures}
 use Rattle.text.specs.declared.Text.{Text}
 use Rattle.text.proofs.Decimals.{decimal-one, decimal-two, decimal-hundred}
@@ -123,11 +123,11 @@ written-two {n} {rest} {at} {x} {y} {bytes} w h g p q =
 -- `new` is `old` with the first i bytes of s from `at` on
 pub record Copied (s : List ℕ) (at : ℕ) (old new : List ℕ) (i : ℕ) : Type 0 where
   pub reached : i ≤ length s
-  pub room : at + length s ≤ 4096
-  pub long : length old ≡ 4096
+  pub room : at + length s ≤ text-limit
+  pub long : length old ≡ text-limit
   pub copied : new ≡ paste old at s i
 
-pub copied-start : {s old : List ℕ} {at : ℕ} → at + length s ≤ 4096 → length old ≡ 4096 → Copied s at old old 0
+pub copied-start : {s old : List ℕ} {at : ℕ} → at + length s ≤ text-limit → length old ≡ text-limit → Copied s at old old 0
 copied-start {s} {old} {at} r l = record { reached = omega arith; room = r; long = l; copied = paste-zero old at s }
 
 pub copied-more : {s old new : List ℕ} {at i : ℕ} → Copied s at old new i → i < length s → Copied s at old (set new (at + i) (getD s i 0)) (i + 1)
@@ -161,10 +161,10 @@ drop-zeros : (n m : ℕ) → drop {A = ℕ} n (replicate (n + m) 0) ≡ replicat
 drop-zeros zero m = let e : 0 + m ≡ m = omega arith in rw e
 drop-zeros (suc n) m = let e : suc n + m ≡ suc (n + m) = omega arith in rw e (drop-zeros n m)
 
-behind-zeros : {t u : Text} {l : List ℕ} → Adds t l u → drop (t .len) (t .bytes) ≡ replicate (4096 - t .len) 0 → drop (u .len) (u .bytes) ≡ replicate (4096 - u .len) 0
+behind-zeros : {t u : Text} {l : List ℕ} → Adds t l u → drop (t .len) (t .bytes) ≡ replicate (text-limit - t .len) 0 → drop (u .len) (u .bytes) ≡ replicate (text-limit - u .len) 0
 behind-zeros {t} {u} {l} q e =
-    let n : 4096 - t .len ≡ length l + (4096 - u .len) = omega (arith, q .fits, q .length-is) in
-    behind q e ∙ rw n (drop-zeros (length l) (4096 - u .len))
+    let n : text-limit - t .len ≡ length l + (text-limit - u .len) = omega (arith, q .fits, q .length-is) in
+    behind q e ∙ rw n (drop-zeros (length l) (text-limit - u .len))
 
 pub adds-both : {t u v : Text} {a b : List ℕ} → Adds t a u → Adds u b v → Adds t (a ++ b) v
 adds-both {t} {u} {v} {a} {b} p q =

@@ -7,20 +7,24 @@ use Rattle.text.specs.Decimal.{decimal}
 use Rattle.text.specs.declared.Figures.{Figures}
 use Rattle.text.specs.declared.Text.{Text}
 
+-- the bytes of a text
+abbrev pub text-limit : ℕ
+text-limit = 4096
+
 -- the bytes that a text holds
 abbrev pub bytes-of : Text → List ℕ
 bytes-of t = take (t .len) (t .bytes)
 
 -- a text of these bytes, with 0 in every byte behind them
 pub record Holds (l : List ℕ) (t : Text) : Type 0 where
-  pub fits : t .len ≤ 4096
+  pub fits : t .len ≤ text-limit
   pub length-is : t .len ≡ length l
   pub bytes-are : bytes-of t ≡ l
-  pub rest : drop (t .len) (t .bytes) ≡ replicate (4096 - t .len) 0
+  pub rest : drop (t .len) (t .bytes) ≡ replicate (text-limit - t .len) 0
 
 -- the text u is t followed by these bytes, with every byte behind them as it was
 pub record Adds (t : Text) (l : List ℕ) (u : Text) : Type 0 where
-  pub fits : u .len ≤ 4096
+  pub fits : u .len ≤ text-limit
   pub length-is : u .len ≡ t .len + length l
   pub bytes-are : bytes-of u ≡ bytes-of t ++ l
   pub rest : drop (u .len) (u .bytes) ≡ drop (u .len) (t .bytes)

@@ -6,9 +6,12 @@ ghost use Prim.Native.Nat.{_+_, _≤_};
 ghost use lib.ListN.{length};
 ghost use Rattle.text.specs.Decimal.{decimal};
 ghost use Rattle.text.specs.Lines.{number-line, pair-line};
-ghost use Rattle.text.specs.Texts.{Holds, Adds, Figures-of};
+ghost use Rattle.text.specs.Texts.{text-limit, Holds, Adds, Figures-of};
 
 mod pairs;
+
+// The bytes of a text: more than the longest listing has.
+pub const MOST_BYTES: usize = 4096;
 
 // Decimal figures at the end of a buffer, from `at`.
 pub struct Figures {
@@ -44,7 +47,7 @@ fn figures_of(n: u64) -> Figures
 
 // Text: the first `len` bytes, of which 4,096 hold the longest listing. A text that begins empty has 0 in every byte after them.
 pub struct Text {
-    pub bytes: [u8; 4096],
+    pub bytes: [u8; MOST_BYTES],
     pub len: usize,
 }
 
@@ -54,14 +57,14 @@ impl Text {
         ensures { λ r. ⌜ Holds [] r ⌝ }
     {
         Text {
-            bytes: [0u8; 4096],
+            bytes: [0u8; MOST_BYTES],
             len: 0,
         }
     }
 
     // The text followed by `s`.
     pub fn with_bytes(self, s: &[u8]) -> Text
-        requires { ⌜ self .len + length (now s) ≤ 4096 ⌝ }
+        requires { ⌜ self .len + length (now s) ≤ text-limit ⌝ }
         ensures { λ r. ⌜ Adds self (now (s .entry)) r ⌝ }
     {
         let start = self.len;
@@ -79,7 +82,7 @@ impl Text {
 
     // The text followed by the figures of `n`, of which there are at most 20.
     pub fn with_number(self, n: u64) -> Text
-        requires { ⌜ self .len + 20 ≤ 4096 ⌝ }
+        requires { ⌜ self .len + 20 ≤ text-limit ⌝ }
         ensures { λ r. ⌜ Adds self (decimal n) r ⌝ }
         ensures { λ r. ⌜ r .len ≤ self .len + 20 ⌝ }
     {
@@ -91,7 +94,7 @@ impl Text {
 
     // The text followed by a line of a word and a number.
     pub fn with_line(self, word: &[u8], a: u64) -> Text
-        requires { ⌜ self .len + length (now word) + 21 ≤ 4096 ⌝ }
+        requires { ⌜ self .len + length (now word) + 21 ≤ text-limit ⌝ }
         ensures { λ r. ⌜ Adds self (number-line (now (word .entry)) a) r ⌝ }
         ensures { λ r. ⌜ r .len ≤ self .len + length (now (word .entry)) + 21 ⌝ }
     {
@@ -102,7 +105,7 @@ impl Text {
 
     // The text followed by a line of a word and two numbers.
     pub fn with_pair(self, word: &[u8], a: u64, b: u64) -> Text
-        requires { ⌜ self .len + length (now word) + 42 ≤ 4096 ⌝ }
+        requires { ⌜ self .len + length (now word) + 42 ≤ text-limit ⌝ }
         ensures { λ r. ⌜ Adds self (pair-line (now (word .entry)) a b) r ⌝ }
         ensures { λ r. ⌜ r .len ≤ self .len + length (now (word .entry)) + 42 ⌝ }
     {

@@ -6,6 +6,7 @@ ghost use Prim.Native.Nat.{_<_};
 ghost use Rattle.method.specs.declared.Test.the-variants.{Sharper};
 ghost use Rattle.method.specs.Answers.{is-beyond, verdict, verdict-number, stops};
 ghost use Rattle.verdicts.specs.Sizes.{Judgeable};
+ghost use Rattle.files.specs.Limits.{sum-limit};
 use method::Test;
 use method::Verdict;
 
@@ -22,7 +23,7 @@ fn is_far(limit: u64, e: u64, g: u64) -> bool
 
 // Whether the test says Beyond. Where the former does, so does the sharper: only where it does not are products of 128 bits compared.
 fn is_beyond(test: Test, limit: u64, e: u64, g: u64) -> bool
-    requires { ⌜ (limit < 4611686018427387904) × (g < 4611686018427387904) ⌝ }
+    requires { ⌜ (limit < sum-limit) × (g < sum-limit) ⌝ }
     ensures { λ r. ⌜ r ≡ is-beyond test limit e g ⌝ }
 {
     if limit + 2 * g < e {

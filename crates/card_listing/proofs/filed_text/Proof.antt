@@ -9,14 +9,15 @@ use Rattle.card_listing.proofs.Filed.{length-fits, filed-listed}
 use borrow.Author.Needs.{needs}
 use Rattle.card_listing.proofs.filed_text.Statement.{statement}
 use Rattle.card_listing.proofs.filed_text.Tie as tie
+use Rattle.card_format.specs.Format.{card-limit}
 
 first-text-requires : tie.Need-first-text-requires
 first-text-requires c κs =
     let at-write = c .before .before .before in
     let x = at-write .before .before .before .before .args in
-    let most : c .before .before .written-size .result ≤ 1060 =
+    let most : c .before .before .written-size .result ≤ card-limit =
     length-fits (now (x .book)) (now (x .sheet)) (now (x .output)) (search needs) (at-write .write-card .ensures .0) (c .before .before .written-size .ensures) in
-    let room : length (at-write .write-card .last .1 .1 .0) ≡ 1060 = search needs in
+    let room : length (at-write .write-card .last .1 .1 .0) ≡ card-limit = search needs in
     omega arith
 
 returns : tie.Need-returns

@@ -1,13 +1,12 @@
 -- `csv_book::csv_book` meets its contract: a law of `Making` for each return.
 use borrow.Author.Needs.{needs}
 use mathlib.Core.Path.{_≡_, sym, ap, _∙_}
-use Prim.Native.Nat.{_+_, _*_, _≤_}
+use Prim.Native.Nat.{_≤_}
 use native.Mathlib.Omega.{arith}
-use lib.ListN.{length, take}
+use lib.ListN.{length}
 use lib.Seq.{length-take-le}
 use Rattle.book_csv.specs.declared.Table.{Table}
 use Rattle.fleet_csv.specs.Fleet.{last-table}
-use Rattle.csv_book.specs.Books.{bare-book}
 use Rattle.csv_book.proofs.Making.{few-values, bare-put, no-room, too-big, with-fault, with-book}
 use Rattle.csv_book.proofs.csv_book.Statement.{statement}
 use Rattle.csv_book.proofs.csv_book.Tie as tie

@@ -1,9 +1,8 @@
 -- `csv_front::put_bytes` meets its contract: the bytes that are left are still to be put.
 use borrow.Author.Needs.{needs}
 use native.Mathlib.Omega.{arith}
-use Prim.Native.Nat.{_+_, _-_, _≤_}
-use lib.ListN.{length, drop}
-use Rattle.sheet_output.proofs.Writing.{Writing}
+use Prim.Native.Nat.{_-_}
+use lib.ListN.{length}
 use Rattle.csv_front.proofs.Keeping.{Copying, copying-start, copying-more, copying-end}
 use Rattle.csv_front.proofs.put_bytes.Statement.{statement}
 use Rattle.csv_front.proofs.put_bytes.Tie as tie

@@ -8,6 +8,7 @@ use native.Mathlib.Omega.{arith}
 use Rattle.integers.proofs.Filling.{Filled, filled-start, filled-long, filled-more, filled-end}
 use Rattle.exports.proofs.put_bytes.Statement.{statement}
 use Rattle.exports.proofs.put_bytes.Tie as tie
+use Rattle.text.specs.Texts.{text-limit}
 
 abbrev Inv-loop : tie.InvT-loop
 Inv-loop count to₀ from i₀ to i = Filled to₀ (take count from) i to
@@ -23,7 +24,7 @@ array-read-to c = search needs
 
 slice-write-to : tie.Need-slice-write-to Inv-loop μ-loop
 slice-write-to c =
-    let l : length (c .before .before .args .t1) ≡ 4096 = search needs in
+    let l : length (c .before .before .args .t1) ≡ text-limit = search needs in
     let n = length-take-le (c .before .before .args .count) (c .before .before .args .t1) (omega arith) in
     omega (arith, c .loop-test .taken, filled-long (c .before .loop .inv) (rw n (c .before .before .pre .1)), c .before .before .pre .1)
 
@@ -35,19 +36,19 @@ loop-less c = search needs
 
 loop-again : tie.Need-loop-again Inv-loop μ-loop
 loop-again c =
-    let l : length (c .before .before .args .t1) ≡ 4096 = search needs in
+    let l : length (c .before .before .args .t1) ≡ text-limit = search needs in
     let n = length-take-le (c .before .before .args .count) (c .before .before .args .t1) (omega arith) in
     filled-more (c .before .loop .inv) (rw n (c .before .before .pre .1)) 0 (rw n (c .loop-test .taken)) (sym (getD-take _ _ _ 0 (c .loop-test .taken)))
 
 same-length : tie.Need-same-length Inv-loop μ-loop
 same-length c =
-    let l : length (c .before .before .args .t1) ≡ 4096 = search needs in
+    let l : length (c .before .before .args .t1) ≡ text-limit = search needs in
     let n = length-take-le (c .before .before .args .count) (c .before .before .args .t1) (omega arith) in
     filled-long (c .before .loop .inv) (rw n (c .before .before .pre .1))
 
 returns : tie.Need-returns Inv-loop μ-loop
 returns c =
-    let l : length (c .before .before .args .t1) ≡ 4096 = search needs in
+    let l : length (c .before .before .args .t1) ≡ text-limit = search needs in
     let n = length-take-le (c .before .before .args .count) (c .before .before .args .t1) (omega arith) in
     let e = filled-end (c .before .loop .inv) (rw n (c .loop-test .left)) in
     rw n at e

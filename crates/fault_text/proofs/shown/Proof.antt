@@ -1,5 +1,5 @@
 -- `fault_text::shown` meets its contract.
-use borrow.Author.Tests.{eq-eqb, ne-eqb, lt-ltb, le-ltb}
+use borrow.Author.Tests.{lt-ltb, le-ltb}
 use Rattle.fault_text.proofs.shown.Statement.{statement}
 use Rattle.fault_text.proofs.shown.Tie as tie
 

@@ -1,7 +1,7 @@
 -- `gap_test::diameter` meets its contract.
 use mathlib.Core.Path.{_≡_}
 use native.Mathlib.Omega.{arith}
-use Prim.Native.Nat.{_≤_, _<_}
+use Prim.Native.Nat.{_≤_}
 use lib.ListN.{drop}
 use Rattle.files.specs.Book.{boats, columns, rows}
 use Rattle.frank_wolfe.specs.Vectors.{ones}

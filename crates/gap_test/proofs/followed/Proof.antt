@@ -1,5 +1,5 @@
 -- `gap_test::followed` meets its contract.
-use mathlib.Core.Path.{_≡_, sym, _∙_}
+use mathlib.Core.Path.{sym, _∙_}
 use borrow.Author.Needs.{needs}
 use Rattle.iteration.proofs.States.{book-fits, sheet-fits}
 use Rattle.runs.proofs.Keeping.{first-held}

@@ -2,7 +2,7 @@
 use mathlib.Core.Path.{_≡_}
 use native.Mathlib.Omega.{arith}
 use native.Mathlib.Nat.{mul-zero, mul-le-mul-right, suc-mul, mul-div-le, mul-comm, div-add-mod, mod-lt}
-use Prim.Native.Nat.{ℕ, _+_, _*_, _/_, _≤_, _<_}
+use Prim.Native.Nat.{ℕ, _*_, _/_, _≤_, _<_}
 use borrow.Author.Needs.{needs}
 use Rattle.gap_test.proofs.product.Statement.{statement}
 use Rattle.gap_test.proofs.product.Tie as tie

@@ -6,6 +6,7 @@ use mathlib.Core.Bool.{true}
 use native.Mathlib.Omega.{arith}
 use lib.ListN.{length}
 use Rattle.files.specs.Bytes.{between}
+use Rattle.files.specs.Limits.{step-limit}
 use Rattle.cells.specs.declared.SheetValues.{SheetValues}
 use Rattle.cells.specs.Cells.{scale-refusal, sheet-values}
 use Rattle.scale_sheet.proofs.Making.{Passed, cells-refused, steps-refused, tolerance-refused, book, few, front-in-range, trailer-room, made-sheet}
@@ -23,7 +24,7 @@ refusal-is c = sym (ap (λ (v : SheetValues). v .refusal) (c .sheet-values .ensu
 cells-passed : (c : tie.Else1) → (let a = c .before .before .before .before .args in scale-refusal (a .book .now) (a .cells) ≡ 0)
 cells-passed c = refusal-is (c .before .before) ∙ c .if1 .left
 
-steps-passed : (c : tie.Else2) → between 1 360 (c .before .before .before .before .before .before .args .steps) ≡ true
+steps-passed : (c : tie.Else2) → between 1 step-limit (c .before .before .before .before .before .before .args .steps) ≡ true
 steps-passed c = sym (c .before .is-between .ensures) ∙ not-false _ (c .if2 .left)
 
 all-passed : (c : tie.Else3) → (let a = c .before .before .before .before .before .before .before .args in Passed (a .book .now) (a .cells) (a .steps) (a .tolerance))
