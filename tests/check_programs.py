@@ -11,11 +11,11 @@ CRATES = os.path.join(os.path.dirname(os.path.abspath(__file__)), "..", "crates"
 
 # the function of each program, and the call of it in the test program
 PROGRAMS = {
-    "mixlist": ("search_folder::list_search", "program_test", "folder"),
-    "mixcard": ("card_folder::file_card", "program_test", "folder"),
-    "mixcheck": ("card_folder::check_card", "program_test", "folder"),
-    "mixbetter": ("better_folder::file_better", "program_test", "folder"),
-    "mixbook": ("book_folder::file_book", "book_test", "name"),
+    "mixlist": ("search_folder::list_search", "test_program", "folder"),
+    "mixcard": ("card_folder::file_card", "test_program", "folder"),
+    "mixcheck": ("card_folder::check_card", "test_program", "folder"),
+    "mixbetter": ("better_folder::file_better", "test_program", "folder"),
+    "mixbook": ("book_folder::file_book", "test_book", "name"),
 }
 
 MAIN = ('fn main() { let mut name = [0u8; 4095]; let asked = arguments::folder(b"%s", &mut name); '

@@ -1,4 +1,4 @@
-"""The fleet book of a CSV and the line that names a fault, by tests/csv_reader.py, with the cases of book_test.
+"""The fleet book of a CSV and the line that names a fault, by tests/csv_reader.py, with the cases of test_book.
 
 A file of cases has, for each, its length in 3 bytes and the CSV.
 """

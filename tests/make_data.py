@@ -1,7 +1,7 @@
 #!/usr/bin/env python3
 """Write the files that the programs and test programs are run on, crates/NAME/data.
 
-The cards of crates/edition_test/data are not written here: the program filed them before WCD2, and they are kept as they are.
+The cards of crates/test_edition/data are not written here: the program filed them before WCD2, and they are kept as they are.
 """
 import os
 import sys
@@ -18,7 +18,7 @@ CRATES = os.path.join(HERE, "..", "crates")
 P = [[0, 0], [4, 0], [0, 4]]
 LINE = [[-2000], [2000]]
 
-# search_test: the marked sheets and the limits of the files.
+# test_search: the marked sheets and the limits of the files.
 FILES = {
     "p.wbk": make_book(P),
     "a.wsh": make_sheet([1, 1], steps=9, tolerance=1),
@@ -96,7 +96,7 @@ FACTOR_SHEET = make_sheet([1, 1], steps=9, tolerance=1000, factors=[2, 1], front
 FIRST_OFF = true_card(BOOK, FACTOR_SHEET, [2, 0, 1], 2)
 SECOND_OFF = true_card(BOOK, FACTOR_SHEET, [2, 1, 0], 2, front=b"front text")
 
-# program_test: folders by their names. The current folder has no name. In `long` each file is replaced by longer ones.
+# test_program: folders by their names. The current folder has no name. In `long` each file is replaced by longer ones.
 FOLDERS = {
     "": folder(BOOK, SHEET),
     "larger": folder(LARGER, LARGER_SHEET),
@@ -127,7 +127,7 @@ FOLDERS = {
     "pair_better_a_folder": {**folder(BOOK, PAIR_SHEET, None, FARTHER, NEARER), "better.wcd/inside": b"a folder stands in the place of the card\n"},
 }
 
-# edition_test: books and sheets whose cards were filed before WCD2, by the names of the cards. The far targets are ones at which the
+# test_edition: books and sheets whose cards were filed before WCD2, by the names of the cards. The far targets are ones at which the
 # former test needs more steps than the sharper, or never ends Beyond. In the last a tie went to the lowest number.
 DRAWS = Draws(31)
 FAR = make_book([draw_row(DRAWS, 16, 20) for _ in range(20)], front=b"twenty boats\n")
@@ -161,12 +161,12 @@ def write(crate, name, content):
 
 
 def main():
-    data = {"search_test": FILES, "better_test": {"pairs.dat": pairs.file_of(pairs.cases())}, **PROGRAMS}
-    data["edition_test"] = {name: content for card, (book, rows, sheet) in FILED_BEFORE.items()
+    data = {"test_search": FILES, "test_better": {"pairs.dat": pairs.file_of(pairs.cases())}, **PROGRAMS}
+    data["test_edition"] = {name: content for card, (book, rows, sheet) in FILED_BEFORE.items()
                             for name, content in ((book, rows), (card + ".wsh", sheet))}
-    data["book_test"] = {os.path.join(name, file): content for name, files in csv_books.FOLDERS.items() for file, content in files.items()}
-    data["book_test"]["cases.dat"] = csv_books.file_of(csv_books.cases())
-    data["program_test"] = {os.path.join(name, file): content for name, files in FOLDERS.items() for file, content in files.items()}
+    data["test_book"] = {os.path.join(name, file): content for name, files in csv_books.FOLDERS.items() for file, content in files.items()}
+    data["test_book"]["cases.dat"] = csv_books.file_of(csv_books.cases())
+    data["test_program"] = {os.path.join(name, file): content for name, files in FOLDERS.items() for file, content in files.items()}
     for crate, files in data.items():
         for name, content in files.items():
             write(crate, name, content)

@@ -1,4 +1,4 @@
-"""Answers as the test programs print them (crates/printing), and listings of a program's data folder."""
+"""Answers as the test programs print them (crates/test_printing), and listings of a program's data folder."""
 import os
 
 import exact

@@ -461,11 +461,11 @@ def editions():
 
 
 def filed_before():
-    """The cards of crates/edition_test/data are those of runs by the former test and tie rule, byte for byte."""
+    """The cards of crates/test_edition/data are those of runs by the former test and tie rule, byte for byte."""
     for name, (_, book, sheet) in make_data.FILED_BEFORE.items():
         rows, (target, steps, tolerance, factors) = exact.read_book(book), exact.read_sheet(sheet)
         answer, shares = exact.run(rows, target, steps, tolerance, factors, exact.former_test, exact.former_vertex)
-        card = printing.data_file("edition_test", name + ".wcd")
+        card = printing.data_file("test_edition", name + ".wcd")
         agree("card %s" % name, card, exact.card_bytes(answer, shares, tolerance, len(rows), len(target), b"WCD1"))
         agree("card %s checked" % name, exact.check_card(book, sheet, card, [0] * len(rows)), (0, answer, shares))
 
@@ -745,7 +745,7 @@ def wrongly_shared(rows, target, steps, factors, ways):
 
 
 def drawn_sheets_with_factors():
-    """Sheets with factors drawn as factor_test draws them tell the factors from wrong ones; and what draw_factors gives meets the limits."""
+    """Sheets with factors drawn as test_factor draws them tell the factors from wrong ones; and what draw_factors gives meets the limits."""
     draws = generator.Draws(25)
     totals, differ = [], [0] * len(WRONG_FACTORS)
     for number in range(400):
@@ -833,7 +833,7 @@ OTHER_RULES = [(lowest_number, 100), (last_that_holds, 50), (picked_last, 5), (m
 
 
 def drawn_ties():
-    """The 1,000 drawn books with mirrored rows of random_test tell the tie rule from others."""
+    """The 1,000 drawn books with mirrored rows of test_random tell the tie rule from others."""
     draws = generator.Draws(6)
     differ = {choose: 0 for choose, _ in OTHER_RULES}
     for number in range(1000):

@@ -1,4 +1,4 @@
-// The work of mixbetter, in a folder that the caller names. What the system reads and writes no contract can say; program_test holds
+// The work of mixbetter, in a folder that the caller names. What the system reads and writes no contract can say; test_program holds
 // what is printed and filed to the reference.
 // Of each file one byte more is read than it may have, so that a longer file is refused and not cut.
 

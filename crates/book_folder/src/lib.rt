@@ -1,4 +1,4 @@
-// The work of mixbook, in a folder that the caller names. What the system reads and writes no contract can say; book_test holds what is
+// The work of mixbook, in a folder that the caller names. What the system reads and writes no contract can say; test_book holds what is
 // printed and filed to the reference.
 use csv_book::Made;
 

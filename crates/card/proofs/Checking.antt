@@ -28,7 +28,7 @@ use Rattle.card_format.specs.Checks.{pairs-in-order, form-refusal, truth-refusa
 use Rattle.card_format.specs.Truth.{Card-true, Card-vouches, Accepted-exactly, Filed-before-true, Accepted-vouches}
 use Rattle.card_format.proofs.Editions.{same-check, same-card-answer}
 use Rattle.card_format.proofs.Pairs.{into-none, into-more}
-use Rattle.card_format.proofs.Truth.{both-zero}
+use Rattle.card_format.proofs.Accepted.{both-zero}
 use Rattle.card_format.proofs.Vouches.{accepted-exactly, accepted-vouches}
 use Rattle.card_format.proofs.Written.{filed-before-true}
 use Rattle.card_pairs.proofs.Pairs.{boat-below, order-more}

@@ -24,7 +24,7 @@ use Rattle.card_format.specs.Format.{card-fields, card-answer}
 use Rattle.card_format.specs.Checks.{card-refusal, check-refusal}
 use Rattle.card_format.specs.Truth.{Card-true, Accepted-exactly}
 use Rattle.card_format.proofs.Editions.{same-card-refusal, same-card-answer}
-use Rattle.card_format.proofs.Truth.{both-zero}
+use Rattle.card_format.proofs.Accepted.{both-zero}
 use Rattle.card_format.proofs.Vouches.{accepted-exactly}
 use Rattle.card_choice.specs.declared.Choice.{Choice}
 use Rattle.card_choice.specs.Choices.{better-refusal, nearer, better-number, numbered, better, bare, better-part, part-of, bare-choice, no-choice, choice}

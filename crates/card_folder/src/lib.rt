@@ -1,5 +1,5 @@
 // The work of mixcard and mixcheck, in a folder that the caller names. What the system reads and writes no contract can say;
-// program_test holds what is printed and filed to the reference.
+// test_program holds what is printed and filed to the reference.
 // Of each file one byte more is read than it may have, so that a longer file is refused and not cut.
 
 // Files the card of a search, which has no bytes where the search is refused; what is in the way goes to standard error.

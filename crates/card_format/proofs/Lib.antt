@@ -1,7 +1,7 @@
 -- The laws behind the proofs of this crate: laws of the bytes of a card, and what an accepted or a written card vouches for.
 pub mod Pairs
 pub mod Trailer
-pub mod Truth
+pub mod Accepted
 pub mod Shares
 pub mod Written
 pub mod Vouches

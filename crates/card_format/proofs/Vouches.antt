@@ -8,7 +8,7 @@ use Rattle.method.specs.Iterates.{distance, gap}
 use Rattle.method.specs.Answers.{answer-at}
 use Rattle.method.specs.Bounds.{answer-of}
 use Rattle.card_format.specs.Truth.{Card-true, Card-vouches, Accepted-exactly, Accepted-vouches}
-use Rattle.card_format.proofs.Truth.{accepted-true, own-bounds, fields-are, shares-back, test-is, answer-is, true-accepted}
+use Rattle.card_format.proofs.Accepted.{accepted-true, own-bounds, fields-are, shares-back, test-is, answer-is, true-accepted}
 
 pub accepted-exactly : Accepted-exactly
 unfolding Accepted-exactly

@@ -26,7 +26,7 @@ use Rattle.card_format.specs.Format.{pairs, trailer-bytes, answer-fields
 use Rattle.card_format.specs.Truth.{Card-true, Filed-before-true, Written-accepted, Written-short}
 use Rattle.card_format.proofs.Pairs.{readable}
 use Rattle.card_format.proofs.Trailer.{length-trailer}
-use Rattle.card_format.proofs.Truth.{support-most, shares-back, answer-is, true-accepted}
+use Rattle.card_format.proofs.Accepted.{support-most, shares-back, answer-is, true-accepted}
 
 module _ (b s : List ℕ) (ok : files-refusal b s ≡ 0) where
   bounds : Answer-bounds Sharper (problem b s) (run-answer (problem b s)) (run-iterate (problem b s) .shares)

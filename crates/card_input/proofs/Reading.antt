@@ -13,7 +13,7 @@ use Rattle.files.specs.Limits.{file-limit}
 use Rattle.method.specs.declared.Test.the-variants.{Former, Sharper}
 use Rattle.card_format.specs.Format.{WCD1, WCD2, letters, fields, card-fields, lettered, card-test, card-body, pair-count, shares-into}
 use Rattle.card_format.specs.Checks.{back-fits, pairs-in-order, counts-agree, steps-fit, form-refusal}
-use Rattle.card_format.proofs.Truth.{Back-fits, back-means}
+use Rattle.card_format.proofs.Accepted.{Back-fits, back-means}
 use Rattle.card_pairs.proofs.Pairs.{order-take, into-take}
 
 -- ---- Fields

@@ -16,7 +16,7 @@ use Rattle.listing.specs.Lines.{outcome-listing, Listable}
 use Rattle.text.specs.Texts.{Holds}
 use Rattle.text.specs.declared.Text.{Text}
 use Rattle.listing.proofs.Outcomes.{listable, same-listing, long-enough, same-refusal, after-itself}
-use Rattle.card_format.proofs.Truth.{both-zero}
+use Rattle.card_format.proofs.Accepted.{both-zero}
 use Rattle.card.specs.Checking.{Check-right}
 use Rattle.card.proofs.Checking.{check-right}
 use Rattle.card_listing.specs.Cards.{card-outcome, card-listing}

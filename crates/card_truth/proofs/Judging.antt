@@ -26,9 +26,9 @@ use Rattle.iteration.proofs.States.{book-fits, sheet-fits}
 use Rattle.card_format.specs.Format.{card-fields, lettered, card-test, card-body, pair-count}
 use Rattle.card_format.specs.Checks.{back-fits, pairs-in-order, counts-agree, steps-fit, form-refusal, shares-total, numbers-agree, truth-refusal}
 use Rattle.method.specs.Bounds.{answer-of}
-use Rattle.card_format.proofs.Truth.{Back-fits, back-means}
+use Rattle.card_format.proofs.Accepted.{Back-fits, back-means}
 use Rattle.card_input.proofs.Reading.{tolerance-at}
-use Rattle.card_truth.specs.Truth.{Card-readable}
+use Rattle.card_truth.specs.Readable.{Card-readable}
 
 -- what a card of right form is known by
 pub record Formed (n steps : ℕ) (w : List ℕ) : Type 0 where

@@ -13,7 +13,7 @@ ghost use Rattle.method.specs.Bounds.{answer-of};
 ghost use Rattle.iteration.specs.States.{file-layout};
 ghost use Rattle.card_format.specs.Format.{card-fields, card-test, pair-count};
 ghost use Rattle.card_format.specs.Checks.{shares-total, numbers-agree, truth-refusal};
-ghost use Rattle.card_truth.specs.Truth.{Card-readable};
+ghost use Rattle.card_truth.specs.Readable.{Card-readable};
 use iteration::Layout;
 use iteration::State;
 use method::Answer;

@@ -18,7 +18,7 @@ ghost use Rattle.card.specs.Filing.{filing, Filing-right};
 ghost use Rattle.card.specs.Checking.{Check-right};
 ghost use Rattle.method.specs.Promise.{Outcome-right};
 ghost use Rattle.search_listing.specs.Searches.{search-listing};
-ghost use Rattle.replies.specs.Replies.{reply-of, card-reply-of};
+ghost use Rattle.exported_types.specs.Replies.{reply-of, card-reply-of};
 ghost use Rattle.exports.specs.Buffers.{bytes-after};
 ghost use Rattle.cells.specs.Cells.{sheet-values};
 ghost use Rattle.cells.specs.Promise.{Conversion-right};
@@ -30,8 +30,8 @@ ghost use Rattle.card_choice.specs.Promise.{Better-right};
 ghost use Rattle.text.specs.Texts.{text-limit};
 use card_choice::Choice;
 use cells::SheetValues;
-use replies::CardReply;
-use replies::Reply;
+use exported_types::CardReply;
+use exported_types::Reply;
 use scale_sheet::ScaleSheet;
 
 // ENTRY. The search for other languages: the reply of `search` for these files and this share list, and its slots afterwards.
@@ -42,7 +42,7 @@ pub extern "C" fn dofitrano_search(book: &[u8], sheet: &[u8], shares: &mut [u16]
     ensures { λ _. ⌜ Outcome-right (now (book .entry)) (now (sheet .entry)) (outcome (search-refusal (now (book .entry)) (now (sheet .entry)) (length (now (shares .entry)))) (run-answer (problem (now (book .entry)) (now (sheet .entry))))) (now (shares .exit)) ⌝ }
 {
     let found = search::search(book, sheet, &mut *shares);
-    replies::reply_of(found)
+    exported_types::reply_of(found)
 }
 
 // ENTRY. The card check for other languages: the reply of `check_card` for these files and this share list, and its slots afterwards.
@@ -58,7 +58,7 @@ pub extern "C" fn dofitrano_check_card(
     ensures { λ _. ⌜ Check-right (now (book .entry)) (now (sheet .entry)) (now (card .entry)) (outcome (check-refusal (now (book .entry)) (now (sheet .entry)) (now (card .entry)) (length (now (shares .entry)))) (card-answer (now (book .entry)) (now (sheet .entry)) (now (card .entry)))) (now (shares .exit)) ⌝ }
 {
     let found = card::check_card(book, sheet, card, &mut *shares);
-    replies::reply_of(found)
+    exported_types::reply_of(found)
 }
 
 // ENTRY. The card writer for other languages: the reply of `write_card` for these files and this buffer, and its bytes afterwards.
@@ -69,7 +69,7 @@ pub extern "C" fn dofitrano_write_card(book: &[u8], sheet: &[u8], output: &mut [
     ensures { λ _. ⌜ Filing-right (now (book .entry)) (now (sheet .entry)) (filing (write-refusal (now (book .entry)) (now (sheet .entry)) (length (now (output .entry)))) (run-answer (problem (now (book .entry)) (now (sheet .entry)))) (length (run-card (now (book .entry)) (now (sheet .entry))))) (now (output .exit)) ⌝ }
 {
     let written = card::write_card(book, sheet, &mut *output);
-    replies::card_reply_of(written)
+    exported_types::card_reply_of(written)
 }
 
 // The first `count` bytes of `to` as those of `from`; later bytes as they were.

@@ -55,7 +55,7 @@ fn plain_answer(test: Test, book: &[u8], sheet: &[u8], shares: [u16; 256], t: u3
     ensures { λ x. ⌜ x ≡ answer-of test (plain-problem (now (book .entry)) (now (sheet .entry))) (take (boats (now (book .entry))) shares) t ⌝ }
 {
     let layout = iteration::layout_of(book, sheet);
-    mixture::answer_of(test, book, sheet, layout, shares, t)
+    mixture_answer::answer_of(test, book, sheet, layout, shares, t)
 }
 
 // The same with the factors of a sheet of the edition WSH2, on derived files.

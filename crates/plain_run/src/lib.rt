@@ -40,21 +40,21 @@ pub fn run(book: &[u8], sheet: &[u8], shares: &mut [u16]) -> Answer
     let answer = iteration::first_answer(boat, book, sheet, layout);
     let verdict = answer.verdict;
     if verdicts::stops(files::steps(sheet), 1, verdict) {
-        runs::add_shares(shares, boat, 1);
+        run_loop::add_shares(shares, boat, 1);
         return answer;
     }
     let start = State::fresh(pick);
     if boats <= 16 {
         let mut scores = [0i64; 16];
         let mut memory = [0i32; 1024];
-        return runs::run_from(start, book, sheet, layout, shares, &mut scores, &mut memory);
+        return run_loop::run_from(start, book, sheet, layout, shares, &mut scores, &mut memory);
     }
     if boats <= 64 {
         let mut scores = [0i64; 64];
         let mut memory = [0i32; 4096];
-        return runs::run_from(start, book, sheet, layout, shares, &mut scores, &mut memory);
+        return run_loop::run_from(start, book, sheet, layout, shares, &mut scores, &mut memory);
     }
     let mut scores = [0i64; 256];
     let mut memory = [0i32; 16384];
-    runs::run_from(start, book, sheet, layout, shares, &mut scores, &mut memory)
+    run_loop::run_from(start, book, sheet, layout, shares, &mut scores, &mut memory)
 }

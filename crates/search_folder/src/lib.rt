@@ -1,5 +1,5 @@
 // The work of mixlist, in a folder that the caller names. What the system reads and writes no contract can say;
-// program_test holds what is printed to the reference.
+// test_program holds what is printed to the reference.
 
 // Prints the listing of the search of fleet.wbk and sheet.wsh in a folder. The current folder has no name.
 // One byte more is read than a file may have, so that a longer file is refused and not cut.

@@ -13,7 +13,7 @@ use Rattle.files.specs.Bytes.{number-bytes, little-endian, number, values, same
 use Rattle.files.specs.Sheet.{Sheet, sheet, sheet-columns, WSH1, WSH2, sheet-lettered, factor-bytes, sheet-refusal-in, sheet-refusal}
 use Rattle.files.proofs.Bytes.{read-bytes}
 use Rattle.files.specs.Limits.{file-limit, step-limit}
-use Rattle.card_format.proofs.Truth.{between-said}
+use Rattle.card_format.proofs.Accepted.{between-said}
 use Rattle.sheet_output.specs.Output.{values-bytes, sheet-trailer, sheet-bytes}
 use Rattle.sheet_output.specs.Back.{Sheet-fit, Sheet-reads-back}
 use Rattle.sheet_output.proofs.Values.{length-values-bytes, values-back}

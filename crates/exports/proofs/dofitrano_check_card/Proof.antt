@@ -1,6 +1,6 @@
 -- `exports::dofitrano_check_card` meets its contract.
 use mathlib.Core.Path.{ap, _∙_}
-use Rattle.replies.specs.Replies.{reply-of}
+use Rattle.exported_types.specs.Replies.{reply-of}
 use Rattle.exports.proofs.Promises.{checked-right}
 use borrow.Author.Needs.{needs}
 use Rattle.exports.proofs.dofitrano_check_card.Statement.{statement}

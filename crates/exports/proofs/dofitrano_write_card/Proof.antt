@@ -1,6 +1,6 @@
 -- `exports::dofitrano_write_card` meets its contract.
 use mathlib.Core.Path.{ap, _∙_}
-use Rattle.replies.specs.Replies.{card-reply-of}
+use Rattle.exported_types.specs.Replies.{card-reply-of}
 use Rattle.exports.proofs.Promises.{filed-right}
 use borrow.Author.Needs.{needs}
 use Rattle.exports.proofs.dofitrano_write_card.Statement.{statement}

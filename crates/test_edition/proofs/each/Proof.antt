@@ -1,0 +1,17 @@
+-- `test_edition::each` meets its contract.
+use borrow.Author.Needs.{needs}
+use Prim.Native.Nat.{_≤_, _-_}
+use lib.ListN.{length}
+use Rattle.test_edition.proofs.each.Statement.{statement}
+use Rattle.test_edition.proofs.each.Tie as tie
+
+abbrev Inv-loop : tie.InvT-loop
+Inv-loop table at₀ at = (at ≤ length table)
+
+abbrev μ-loop : tie.MeasureT-loop
+μ-loop table at₀ at = length table - at
+
+pub each-spec : {M : Type 1} → statement M
+each-spec =
+    tie.close
+    (tie.spec Inv-loop μ-loop (λ c. search needs) (λ c κs. search needs) (λ c κs. search needs) (λ c κs. search needs) (λ c. search needs) (λ c. search needs) (λ c. search needs))

@@ -1,0 +1,86 @@
+#!/usr/bin/env python3
+"""What test_factor prints: drawn books with three sheets each, one without factors and two with drawn ones, over fractions."""
+import os
+import sys
+
+sys.path.insert(0, os.path.join(os.path.dirname(os.path.abspath(__file__)), ".."))
+import exact  # noqa: E402
+import generator  # noqa: E402
+from printing import answer_lines, checksum  # noqa: E402
+
+ROOM = 1060
+
+
+def with_tolerance(sheet, tolerance):
+    return sheet[:-8] + tolerance.to_bytes(4, "little") + sheet[-4:]
+
+
+def tolerance_for(draws, book, sheet):
+    kind = draws.draw(6)
+    small = draws.draw(10)
+    large = draws.draw(20000000)
+    if kind == 3:
+        return small
+    if kind > 3:
+        return large
+    refusal, answer, _ = exact.search(book, sheet, [0] * 256)
+    if refusal:
+        return small
+    return max(answer.distance // answer.weight ** 2 % 1000000000 + kind % 3 - 1, 0)
+
+
+def found(book, sheet):
+    """What the verdict of a search carries, and the listing."""
+    refusal, answer, _ = exact.search(book, sheet, [7] * 256)
+    carried = answer_lines(answer).split("\n", 1)[1] if not refusal else ""
+    return carried + exact.listing(book, sheet).decode()
+
+
+def written(book, sheet):
+    """The lines of a card's writing, the buffer afterwards, and the card."""
+    refusal, answer, length, buffer = exact.write_card(book, sheet, bytes([9] * ROOM))
+    text = "refused %d\n" % refusal if refusal else answer_lines(answer) + "bytes %d\n" % length
+    return text, buffer, buffer[:length]
+
+
+def checked(book, sheets, card):
+    numbers = [exact.check_card(book, sheet, card, [7] * 256)[0] for sheet in sheets]
+    return "checked %d %d %d\n" % tuple(numbers)
+
+
+def chosen(book, sheet, first, second):
+    return "better %d %d %d %d\n" % exact.better_card(book, sheet, first, second)
+
+
+def cards(book, plain, sheet, other):
+    text, buffer, first = written(book, sheet)
+    yield text + "sum %d\n" % checksum(buffer)
+    text, _, second = written(book, plain)
+    yield text
+    yield "".join(checked(book, (plain, sheet, other), card) for card in (first, second))
+    yield chosen(book, sheet, first, second) + chosen(book, plain, second, first)
+
+
+def one(draws, number, plan):
+    rows, book = generator.draw_book(draws, plan)
+    plain = generator.draw_sheet(draws, plan, book, rows, 0)
+    sheet, other = (generator.factored_sheet(plain, generator.draw_factors(draws, plan.columns)) for _ in range(2))
+    tolerance = tolerance_for(draws, book, sheet)
+    plain, sheet, other = (with_tolerance(file, tolerance) for file in (plain, sheet, other))
+    yield "case %d\n" % number + found(book, sheet)
+    yield from cards(book, plain, sheet, other)
+    yield found(book, generator.damage(draws, sheet))
+
+
+def main():
+    draws = generator.Draws(25)
+    out = []
+    for number in range(1000):
+        out += one(draws, number, generator.draw_plan(draws))
+    for number in range(30):
+        out += one(draws, number, generator.Plan(6, 64, 20, 8, 3))
+    out += one(draws, 30, generator.Plan(256, 64, 2000, 12, 3))
+    sys.stdout.write("".join(out))
+
+
+main()
