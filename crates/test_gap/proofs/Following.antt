@@ -9,6 +9,7 @@ use lib.ListN.{length, getD, set, take, drop, replicate, length-append}
 use lib.Seq.{take-at}
 use Rattle.files.specs.Book.{boats}
 use Rattle.files.specs.Sheet.{sheet, files-refusal}
+use Rattle.files.specs.Limits.{step-limit}
 use Rattle.frank_wolfe.specs.Vectors.{add, scale}
 use Rattle.iteration.specs.declared.Layout.{Layout}
 use Rattle.iteration.specs.declared.State.{State}
@@ -38,7 +39,7 @@ module _ (b s : List ℕ) (ok : files-refusal b s ≡ 0) where
       }
 
   -- the shares after a step
-  module _ {x : State} (H : Holds b s (x .steps) x) (few : x .steps < 360) {qs : List ℕ} (Q : Shares-at b s (x .steps) qs) where
+  module _ {x : State} (H : Holds b s (x .steps) x) (few : x .steps < step-limit) {qs : List ℕ} (Q : Shares-at b s (x .steps) qs) where
     pub shares-room : (x .best < length qs) × (getD qs (x .best) 0 + (x .steps + 1) < 65536)
     shares-room = rw add-one (share-room b s ok H few (shares-before b s ok Q))
 
@@ -49,7 +50,7 @@ module _ (b s : List ℕ) (ok : files-refusal b s ≡ 0) where
     shares-after f = rw add-one (shares-at b s ok (shared-after f))
 
   -- the scores after a step
-  pub scores-after : {l : Layout} → l ≡ file-layout b s → {x : State} → Holds b s (x .steps) x → x .steps < 360 → {sc : List ℤ} → Scores-at b s (x .steps) sc → {ps : List ℤ} → Products b s (x .best) ps →
+  pub scores-after : {l : Layout} → l ≡ file-layout b s → {x : State} → Holds b s (x .steps) x → x .steps < step-limit → {sc : List ℤ} → Scores-at b s (x .steps) sc → {ps : List ℤ} → Products b s (x .best) ps →
       {new : List ℤ} → new ≡ add (take (l .boats) sc) (scale (x .steps + 1) (take (l .boats) ps)) ++ drop (l .boats) sc → Scores-at b s (x .steps + 1) new
   scores-after e H few S P f = rw add-one (scores-next b s ok e H few S P f)
 
@@ -65,7 +66,7 @@ module _ (b s : List ℕ) (ok : files-refusal b s ≡ 0) where
       }
 
   module _ {x : State} {shares : List ℕ} {scores : List ℤ} (F : Followed b s x shares scores) (left : x .steps < sheet s .steps) where
-    pub few : x .steps < 360
+    pub few : x .steps < step-limit
     few = omega (arith, left, sheet-fits b s ok .most-steps)
 
     module _ {y : State} (H : Holds b s (x .steps + 1) y) where

@@ -11,6 +11,7 @@ use Rattle.integers.proofs.Filling.{replicate-parts, drop-replicate}
 use Rattle.files.specs.Bytes.{values}
 use Rattle.files.specs.Book.{boats, columns, rows}
 use Rattle.files.specs.Sheet.{files-refusal}
+use Rattle.files.specs.Limits.{entry-limit}
 use Rattle.frank_wolfe.specs.Vectors.{add, subtract, scale, squared-norm, weighted-norm, ones}
 use Rattle.frank_wolfe.proofs.Vectors.{length-subtract, scale-one, norm-ones}
 use Rattle.method.specs.Plain.{plain-problem}
@@ -31,7 +32,7 @@ module _ (b s : List ℕ) (ok : files-refusal b s ≡ 0) where
   between i j = subtract (row (rows b) i) (row (rows b) j)
 
   module _ {l : Layout} (e : l ≡ file-layout b s) {i j : ℕ} (h : i < boats b) (k : j < boats b) where
-    zero-entry : (n : ℕ) → n < columns b → natAbs (getD zeros n (pos 0)) + 4000 * 1 ≤ 260000000
+    zero-entry : (n : ℕ) → n < columns b → natAbs (getD zeros n (pos 0)) + 4000 * 1 ≤ entry-limit
     zero-entry n m = rw (getD-replicate 64 n (pos 0) (pos 0) (omega (arith, book-fits b s ok .most-columns))) (omega arith)
 
     pub moved-asks : Span b (l .rows + 2 * (i * l .columns)) (l .columns) × (Span b (l .rows + 2 * (j * l .columns)) (l .columns)
@@ -70,7 +71,7 @@ module _ (b s : List ℕ) (ok : files-refusal b s ≡ 0) where
           let a : (i : ℕ) → i < boats b → _ = λ i h. in-range b s ok .rows-bounded (row (rows b) i) (among-row (rows b) i (omega (arith, book-fits b s ok .row-count))) in
           bounded-subtract (a i h) (a j k) .each
 
-      pub norm-asks : length d ≡ 64 → (l .columns ≤ 64) × Bounded 260000000 (l .columns) d
+      pub norm-asks : length d ≡ 64 → (l .columns ≤ 64) × Bounded entry-limit (l .columns) d
       unfolding file-layout
       norm-asks n = rw e (book-fits b s ok .most-columns, bounded-front b s ok 4000 d (between i j) n front entries (omega arith))
 

@@ -5,6 +5,7 @@ ghost use Prim.Native.Nat.{_+_, _*_, _<_, max};
 ghost use lib.ListN.{drop};
 ghost use Rattle.files.specs.Book.{boats, columns, rows};
 ghost use Rattle.files.specs.Sheet.{files-refusal};
+ghost use Rattle.files.specs.Limits.{step-limit};
 ghost use Rattle.frank_wolfe.specs.Vectors.{subtract, weighted-norm, ones};
 ghost use Rattle.method.specs.Plain.{plain-problem};
 ghost use Rattle.method.specs.Iterates.{row, farthest, diameter};
@@ -95,7 +96,7 @@ fn step(
     requires { ⌜ files-refusal (now book) (now sheet) ≡ 0 ⌝ }
     requires { ⌜ layout ≡ file-layout (now book) (now sheet) ⌝ }
     requires { ⌜ Holds (now book) (now sheet) (state .steps) state ⌝ }
-    requires { ⌜ state .steps < 360 ⌝ }
+    requires { ⌜ state .steps < step-limit ⌝ }
     requires { ⌜ Shares-at (now book) (now sheet) (state .steps) (now shares) ⌝ }
     requires { ⌜ Scores-at (now book) (now sheet) (state .steps) (now scores) ⌝ }
     ensures { λ r. ⌜ Holds (now (book .entry)) (now (sheet .entry)) (state .steps + 1) r ⌝ }
