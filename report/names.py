@@ -157,11 +157,11 @@ def first_that_serves(sources, read):
     return None, None, notes
 
 
-def names_of(book, sheet, fleet_csv, sheet_csv, displacement=None, length=None):
+def names_of(book, sheet, fleet_reader, sheet_csv, displacement=None, length=None):
     """The names for a book and a sheet, from their front texts or else from the CSVs beside them (None where there is none). A displacement or a
     length that is given goes before one of a table."""
     names = Names(["boat %d" % i for i in range(len(book.rows))], ["column %d" % j for j in range(len(sheet.target))], [""] * len(sheet.target))
-    fleet = [("the front text of fleet.wbk", book.front), ("fleet.csv", fleet_csv)]
+    fleet = [("the front text of fleet.wbk", book.front), ("fleet.csv", fleet_reader)]
     found, place, notes = first_that_serves(fleet, lambda lines: fleet_table(lines, book.rows))
     known = None
     if found:

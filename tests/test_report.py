@@ -339,11 +339,11 @@ DO_NOT_SERVE = {
 }
 
 
-def names_for(fleet=b"", sheet=b"", fleet_csv=None, sheet_csv=None, target=(1, 1), factors=None, **sizes):
+def names_for(fleet=b"", sheet=b"", fleet_reader=None, sheet_csv=None, target=(1, 1), factors=None, **sizes):
     """The names of a book of P and a sheet with these front texts and CSVs."""
     files = hand_files(P, list(target), 1, 9, 1, 3, [3, 1, 2], 8, 56, fronts=(fleet, sheet), factors=factors)
     book, sheet = mixreport.read_book("book", files["fleet.wbk"]), mixreport.read_sheet("sheet", files["sheet.wsh"])
-    return names.names_of(book, sheet, fleet_csv, sheet_csv, **sizes)
+    return names.names_of(book, sheet, fleet_reader, sheet_csv, **sizes)
 
 
 def names_of_things():

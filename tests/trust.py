@@ -133,7 +133,7 @@ def entries():
     for crate in re.findall(r"^(\w+):", read("crates.txt"), re.M):
         path = "crates/%s/src/lib.rt" % crate
         text = read(path) if os.path.isfile(os.path.join(ROOT, path)) else ""
-        for name, contract in re.findall(r"^// ENTRY\..*\n(?:(?://|#).*\n)*pub .*?fn (\w+)(?:<[^>]*>)?(\((?:.*\n)+?)\{", text, re.M):
+        for name, contract in re.findall(r"^ *// ENTRY\..*\n(?: *(?://|#).*\n)* *pub .*?fn (\w+)(?:<[^>]*>)?(\((?:.*\n)+?) *\{", text, re.M):
             if "requires" in contract:
                 sys.exit("trust: the entry %s of %s has a `requires`" % (name, path))
             yield name, load(path), contract

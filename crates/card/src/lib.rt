@@ -35,7 +35,7 @@ pub fn write_card(book: &[u8], sheet: &[u8], output: &mut [u8]) -> Written
     }
     let boats = files::boats(book);
     let mut shares = [0u16; 256];
-    let answer = factored::run(book, sheet, &mut shares);
+    let answer = factored_run::run(book, sheet, &mut shares);
     let back = 4 * card_output::holding(shares, boats);
     if output.len() < back + 36 {
         return Written::Refused(22);

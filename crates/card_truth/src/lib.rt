@@ -67,7 +67,7 @@ pub fn judged(
     if !shares_total(card, shares, layout.boats) {
         return Searched::Refused(37);
     }
-    let answer = factored::answer_of(
+    let answer = factored_run::answer_of(
         card_input::test_of(card),
         book,
         sheet,

@@ -17,8 +17,8 @@ use Rattle.sheet_output.proofs.Values.{length-values-bytes}
 use Rattle.sheet_output.proofs.Writing.{front-taken}
 use Rattle.book_output.specs.Output.{book-trailer}
 use Rattle.book_output.proofs.Back.{book-trailer-length}
-use Rattle.book_csv.specs.declared.Table.{Table}
-use Rattle.fleet_csv.specs.Fleet.{fleet-values, last-table, last-line}
+use Rattle.fleet_table.specs.declared.Table.{Table}
+use Rattle.fleet_reader.specs.Fleet.{fleet-values, last-table, last-line}
 use Rattle.fleet_rows.specs.Rows.{fleet-rows, Whole, Faultless-whole}
 use Rattle.fleet_rows.proofs.Counting.{faultless-whole}
 use Rattle.fleet_rows.proofs.Rows as fleet

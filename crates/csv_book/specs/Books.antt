@@ -6,7 +6,7 @@ use lib.Dec.{ltb}
 use lib.ListN.{length}
 use Rattle.card_output.specs.Output.{placed}
 use Rattle.book_output.specs.Output.{book-bytes}
-use Rattle.fleet_csv.specs.Fleet.{last-table, last-line}
+use Rattle.fleet_reader.specs.Fleet.{last-table, last-line}
 use Rattle.fleet_rows.specs.Rows.{fleet-rows}
 use Rattle.csv_front.specs.declared.Front.the-variants.{Nothing}
 use Rattle.csv_front.specs.Front.{file-front, with-front}

@@ -7,7 +7,7 @@ ghost use Rattle.csv_book.specs.Books.{nothing-made, book-made, output-b
 ghost use Rattle.csv_book.specs.Promise.{Book-right};
 use csv_front::Front;
 
-// What is wrong, besides what book_csv and csv name: more than 200,000 bytes of CSV, a buffer of fewer than 40,000 bytes.
+// What is wrong, besides what fleet_table and csv name: more than 200,000 bytes of CSV, a buffer of fewer than 40,000 bytes.
 pub const BIG: u32 = 10;
 
 pub const ROOM: u32 = 11;
@@ -52,7 +52,7 @@ pub fn csv_book(csv: &[u8], output: &mut [u8]) -> Made
         return nothing(BIG, 0, 0, 0, 0);
     }
     let mut book = [0u8; 32780];
-    let fleet = fleet_csv::read_fleet(csv, &mut book);
+    let fleet = fleet_reader::read_fleet(csv, &mut book);
     let table = fleet.table;
     if table.fault != 0 {
         return nothing(

@@ -16,9 +16,9 @@ use Rattle.csv.specs.declared.Mode.{Mode}
 use Rattle.csv.specs.declared.Mode.the-variants.{Start}
 use Rattle.csv.specs.declared.Step.{Step}
 use Rattle.csv.specs.Tokens.{step, separator, mark-size}
-use Rattle.book_csv.specs.declared.Table.{Table}
-use Rattle.book_csv.specs.Table.{start, after}
-use Rattle.fleet_csv.proofs.Reading.{after-slow, mark-inside}
+use Rattle.fleet_table.specs.declared.Table.{Table}
+use Rattle.fleet_table.specs.Table.{start, after}
+use Rattle.fleet_reader.proofs.Reading.{after-slow, mark-inside}
 use Rattle.csv_front.specs.Front.{is-kept, kept-byte, names-from, names-text}
 
 -- ---- which bytes are kept

@@ -7,8 +7,8 @@ use lib.ListN.{length, drop}
 use Rattle.csv.specs.declared.Mode.{Mode}
 use Rattle.csv.specs.declared.Mode.the-variants.{Start}
 use Rattle.csv.specs.Tokens.{step, separator, mark-size}
-use Rattle.book_csv.specs.declared.Table.{Table}
-use Rattle.book_csv.specs.Table.{start, after}
+use Rattle.fleet_table.specs.declared.Table.{Table}
+use Rattle.fleet_table.specs.Table.{start, after}
 use Rattle.csv_front.specs.declared.Front.{Front}
 use Rattle.csv_front.specs.declared.Front.the-variants.{Whole, Names, Nothing}
 use Rattle.csv_front.specs.declared.Written.{Written}

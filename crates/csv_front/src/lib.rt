@@ -7,8 +7,8 @@ ghost use lib.ListN.{length};
 ghost use Rattle.card_output.specs.Output.{placed};
 ghost use Rattle.csv_front.specs.Front.{is-kept, kept-byte, names-text, front-of, front-text, with-front, written-of};
 ghost use Rattle.files.specs.Limits.{file-limit};
-use book_csv::Table;
 use csv::Mode;
+use fleet_table::Table;
 
 // What of a CSV is the front text: all of it, the names and units, nothing.
 pub enum Front {

@@ -114,7 +114,7 @@ pub extern "C" fn dofitrano_sheet_values(
     ensures { λ r. ⌜ Conversion-right (now (book .entry)) (flat-cells (now (kinds .entry)) (now (first .entry)) (now (second .entry)) (now (units .entry))) r ⌝ }
 {
     let cells = cell_lists::cells_of(kinds, first, second, units);
-    conversion::sheet_values(book, cells)
+    cell_conversion::sheet_values(book, cells)
 }
 
 // ENTRY. The sheet of scale cells for other languages: that of `scale_sheet` for the cells of four lists.

@@ -13,10 +13,10 @@ use Rattle.csv.specs.Cells.{signed}
 use Rattle.csv.specs.declared.Mode.{Mode}
 use Rattle.csv.specs.declared.Mode.the-variants.{Start, Plain, Quoted, Closing, Return}
 use Rattle.csv.specs.Tokens.{step, ending, tokens, csv-tokens, separator, mark-size}
-use Rattle.book_csv.specs.declared.Table.{Table}
-use Rattle.book_csv.specs.Table.{start, after}
-use Rattle.fleet_csv.specs.Fleet.{ends-value, ended-value, values-from, table-from, fleet-values, last-table}
-use Rattle.fleet_csv.proofs.Values.{value-small}
+use Rattle.fleet_table.specs.declared.Table.{Table}
+use Rattle.fleet_table.specs.Table.{start, after}
+use Rattle.fleet_reader.specs.Fleet.{ends-value, ended-value, values-from, table-from, fleet-values, last-table}
+use Rattle.fleet_reader.proofs.Values.{value-small}
 use Rattle.fleet_rows.specs.Rows.{Faultless-whole}
 use Rattle.fleet_rows.proofs.Kept.{in-names, Kept, kept-more, Ends, end-kept, open-kept}
 

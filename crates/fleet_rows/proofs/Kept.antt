@@ -9,11 +9,11 @@ use borrow.Author.Tests.{ltb-true, ltb-false, eqb-true, eqb-false, lt-ltb, eq-eq
 use lib.Dec.{ltb, eqb}
 use lib.IntN.{ℤ}
 use lib.ListN.{length}
-use Rattle.book_csv.specs.declared.Table.{Table}
-use Rattle.book_csv.specs.Table.{faulty, with-text, number-fault, field-fault, limit, units-after, next-field, field-ended, end-fault, columns-after, boats-after, next-line, whole-line-ended, line-ended, finished, consumed, after}
-use Rattle.book_csv.proofs.Steps.{limit-first, limit-later, fault-boats, fault-value, units-kept, columns-first, columns-kept, boats-first, boats-units, boats-more, end-none, end-short}
-use Rattle.fleet_csv.specs.Fleet.{ends-value, ended-value}
-use Rattle.fleet_csv.proofs.Values.{test-byte, test-other, test-names, test-units, test-name, test-value}
+use Rattle.fleet_table.specs.declared.Table.{Table}
+use Rattle.fleet_table.specs.Table.{faulty, with-text, number-fault, field-fault, limit, units-after, next-field, field-ended, end-fault, columns-after, boats-after, next-line, whole-line-ended, line-ended, finished, consumed, after}
+use Rattle.fleet_table.proofs.Steps.{limit-first, limit-later, fault-boats, fault-value, units-kept, columns-first, columns-kept, boats-first, boats-units, boats-more, end-none, end-short}
+use Rattle.fleet_reader.specs.Fleet.{ends-value, ended-value}
+use Rattle.fleet_reader.proofs.Values.{test-byte, test-other, test-names, test-units, test-name, test-value}
 
 -- where a reader stands: in the names, before a line, in the units, in a boat's line; with c columns, b boats, f fields before this one and n values
 pub data Stands (c b f : ℕ) (u : Bool) (n : ℕ) : Type 0 where

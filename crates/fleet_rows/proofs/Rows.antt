@@ -15,7 +15,7 @@ use Rattle.sheet_output.proofs.Values.{values-bytes-append}
 use Rattle.book_output.specs.Output.{rows-bytes, book-trailer, book-bytes}
 use Rattle.book_output.specs.Back.{Rows-fit, Book-of, Book-reads-back}
 use Rattle.book_output.proofs.Back.{book-reads-back}
-use Rattle.fleet_csv.specs.Fleet.{fleet-values, last-table}
+use Rattle.fleet_reader.specs.Fleet.{fleet-values, last-table}
 use Rattle.fleet_rows.specs.Rows.{rows-of, fleet-rows, Whole}
 
 pub rows-count : (n c : ℕ) (vs : List ℤ) → length (rows-of n c vs) ≡ n

@@ -6,7 +6,7 @@ use Prim.Native.Nat.{ℕ, zero, suc, _*_, _≤_}
 use lib.IntN.{ℤ}
 use lib.ListN.{length, take, drop}
 use Rattle.files.specs.Bytes.{all-in-range}
-use Rattle.fleet_csv.specs.Fleet.{fleet-values, last-table}
+use Rattle.fleet_reader.specs.Fleet.{fleet-values, last-table}
 
 -- so many rows, each of so many values
 unfoldable pub rows-of : (count columns : ℕ) → List ℤ → List (List ℤ)

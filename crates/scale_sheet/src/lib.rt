@@ -34,7 +34,7 @@ pub fn scale_sheet(book: &[u8], cells: [ScaleCell; 64], steps: u32, tolerance: u
     ensures { λ r. ⌜ r ≡ scale-sheet (now (book .entry)) cells steps tolerance ⌝ }
     ensures { λ r. ⌜ Sheet-right (now (book .entry)) cells steps tolerance r ⌝ }
 {
-    let found = conversion::sheet_values(book, cells);
+    let found = cell_conversion::sheet_values(book, cells);
     if found.refusal != 0 {
         return refused(found.refusal);
     }

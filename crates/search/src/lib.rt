@@ -24,5 +24,5 @@ pub fn search(book: &[u8], sheet: &[u8], shares: &mut [u16]) -> Searched
     if shares.len() < files::boats(book) {
         return Searched::Refused(21);
     }
-    Searched::Answered(factored::run(book, sheet, shares))
+    Searched::Answered(factored_run::run(book, sheet, shares))
 }

@@ -57,7 +57,7 @@ fn print_made(made: ScaleSheet) {
 
 // The values and the sheet of one book and its cells.
 fn run(book: &[u8], cells: [ScaleCell; 64], steps: u32, tolerance: u32) {
-    print_found(conversion::sheet_values(book, cells));
+    print_found(cell_conversion::sheet_values(book, cells));
     print_made(scale_sheet::scale_sheet(book, cells, steps, tolerance));
 }
 

@@ -15,7 +15,7 @@ use Rattle.files.proofs.boats.Reads as boats-reads
 use Rattle.files.proofs.columns.Reads as columns-reads
 use Rattle.validation.proofs.files_refusal.Reads as files-refusal-reads
 use Rattle.files.proofs.tolerance.Reads as tolerance-reads
-use Rattle.factored.proofs.run.Reads as run-reads
+use Rattle.factored_run.proofs.run.Reads as run-reads
 
 files-refusal-requires : tie.Need-files-refusal-requires
 files-refusal-requires c κs = search needs

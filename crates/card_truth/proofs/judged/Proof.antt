@@ -6,7 +6,7 @@ use Rattle.card_truth.proofs.judged.Statement.{statement}
 use Rattle.card_truth.proofs.judged.Tie as tie
 use Rattle.card_truth.proofs.judged.Reads as reads
 use Rattle.card_truth.proofs.judged.Lts as lts
-use Rattle.factored.proofs.answer_of.Reads as answer-of-reads
+use Rattle.factored_run.proofs.answer_of.Reads as answer-of-reads
 use Rattle.card_truth.proofs.numbers_agree.Reads as numbers-agree-reads
 use Rattle.card_truth.proofs.shares_total.Reads as shares-total-reads
 use Rattle.card_input.proofs.steps_used.Reads as steps-used-reads

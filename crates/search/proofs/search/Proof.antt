@@ -10,7 +10,7 @@ use Rattle.search.proofs.search.Reads as reads
 use Rattle.search.proofs.search.Lts as lts
 use Rattle.files.proofs.boats.Reads as boats-reads
 use Rattle.validation.proofs.files_refusal.Reads as files-refusal-reads
-use Rattle.factored.proofs.run.Reads as run-reads
+use Rattle.factored_run.proofs.run.Reads as run-reads
 
 files-refusal-requires : tie.Need-files-refusal-requires
 files-refusal-requires c κs = search needs
