@@ -45,7 +45,7 @@ module _ (l f n : ℕ) (t : Table) (k : ℕ) where
         unfolding is-at
         at-line z = rw (lt-ltb k 256 h, ← e, p, eq-eqb (t .field) f q, ne-eqb l 0 z)
 
-both : (b x : Bool) → cond b x false ≡ true → b ≡ true
+pub both : (b x : Bool) → cond b x false ≡ true → b ≡ true
 both true x p = refl
 both false x p = p
 
@@ -74,7 +74,7 @@ one true true m k e h = omega (arith, ltb-true m 200 e)
 one true false m k e h = omega arith
 one false b m k e h = omega arith
 
-few-one : (b : Bool) (m k : ℕ) → m ≤ 200 → m + length (byte-if b m k) ≤ 200
+pub few-one : (b : Bool) (m k : ℕ) → m ≤ 200 → m + length (byte-if b m k) ≤ 200
 unfolding byte-if
 few-one b m k h = one (ltb m 200) b m k refl h
 

@@ -1,6 +1,6 @@
 // One field of a fleet's CSV, as bytes: a boat's or a column's name, or what stands in place of a value.
 //
-// A helper for other crates, whose callers prove what it requires: put_field.
+// Helpers for other crates, whose callers prove what they require: put_field, put_byte.
 ghost use mathlib.Core.Path.{_≡_};
 ghost use mathlib.Core.Bool.{true};
 ghost use Prim.Native.Nat.{_+_, _≤_, _<_};
@@ -32,7 +32,7 @@ fn is_at(line: usize, field: usize, at: usize, table: Table, token: u32, fault: 
 }
 
 // Puts a byte after `n` others where it is there; gives back how many there are then.
-fn put_byte(output: &mut [u8], n: usize, there: bool, token: u32) -> usize
+pub fn put_byte(output: &mut [u8], n: usize, there: bool, token: u32) -> usize
     requires { ⌜ 200 ≤ length (now output) ⌝ }
     requires { ⌜ (there ≡ true → token < 256) ⌝ }
     ensures { λ r. ⌜ r ≡ n + length (byte-if there n token) ⌝ }
