@@ -1,0 +1,5 @@
+-- The laws of this crate.
+pub mod Steps
+pub mod Places
+pub mod Celling
+pub mod Widths

@@ -1,0 +1,13 @@
+-- `csv_cells::line_at` meets its contract.
+use borrow.Author.Tests.{eq-eqb, ne-eqb}
+use Rattle.csv_cells.proofs.line_at.Statement.{statement}
+use Rattle.csv_cells.proofs.line_at.Tie as tie
+
+returns : tie.Need-returns
+returns c = simp (eq-eqb _ _ (c .if1 .taken))
+
+returns-2 : tie.Need-returns-2
+returns-2 c = simp (ne-eqb _ _ (c .if1 .left))
+
+pub line-at-spec : {M : Type 1} → statement M
+line-at-spec = tie.close (tie.spec returns returns-2)
