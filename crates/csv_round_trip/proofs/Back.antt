@@ -1,72 +1,26 @@
 -- A written fleet reads back.
 use mathlib.Core.Path.{_≡_, refl, sym, ap, _∙_}
-use mathlib.Core.Bool.{Bool, true, false, cond}
-use mathlib.Core.List.{List, [], _∷_, _++_, map, append-nil, append-assoc}
-use Prim.Native.Nat.{ℕ, _+_, _≤_}
+use mathlib.Core.Bool.{false}
+use mathlib.Core.List.{List, [], _∷_, _++_, map, append-nil}
+use Prim.Native.Nat.{ℕ, _+_}
 use native.Mathlib.Nat.{zero-mul}
 use native.Mathlib.Omega.{arith}
-use lib.Dec.{ltb, eqb}
 use lib.ListN.{length}
 use lib.Seq.{take-at, drop-at}
 use Rattle.csv.specs.declared.Mode.the-variants.{Start}
 use Rattle.csv.specs.Cells.{no-bytes}
-use Rattle.csv.specs.Tokens.{tokens, look, looked, first-line-has, separator, mark-size, csv-tokens}
+use Rattle.csv.specs.Tokens.{tokens, first-line-has, separator, mark-size, csv-tokens}
 use Rattle.fleet_table.specs.declared.Table.{Table}
 use Rattle.fleet_table.specs.Table.{UNIT, start}
 use Rattle.fleet_table.proofs.Steps.{after-good, token-end, line-blank, finished-boats}
 use Rattle.fleet_reader.specs.Fleet.{values-from, table-from, fleet-values, last-table}
 use Rattle.fleet_reader.proofs.Values.{test-name}
 use Rattle.fleet_rows.specs.Rows.{rows-of, fleet-rows}
-use Rattle.csv_round_trip.specs.Writing.{Boat, Fleet, doubled, quoted, fields, line, boat-lines, fleet-csv}
+use Rattle.csv_round_trip.specs.Writing.{Boat, Fleet, quoted, line, boat-lines, fleet-csv}
 use Rattle.csv_round_trip.specs.Back.{All, Boat-fits, Fleet-fits, Fleet-reads-back, none, more}
 use Rattle.csv_round_trip.proofs.Going.{Goes, goes-on, no-value, at, cell-with, word-with, no-word, quoted-goes}
+use Rattle.csv_round_trip.proofs.Marks.{first-comma, no-mark}
 use Rattle.csv_round_trip.proofs.Lines.{named, header-fields, unit-line, all-values, boats-go}
-
--- ---- the separator is a comma, and there is no byte-order mark
-found : (bs : List ℕ) → looked 44 2 bs ≡ 2
-unfolding looked
-found [] = refl
-found (b ∷ bs) = found bs
-
-inside : (b : ℕ) → eqb b 34 ≡ false → look 44 1 b ≡ 1
-inside b e = rw e
-
-quote-byte : (b : ℕ) (rest : List ℕ) (q : Bool) → eqb b 34 ≡ q → looked 44 1 (cond q (34 ∷ 34 ∷ rest) (b ∷ rest)) ≡ looked 44 1 rest
-unfolding looked
-quote-byte b rest true e = refl
-quote-byte b rest false e = ap (λ n. looked 44 n rest) (inside b e)
-
-cond-append : (q : Bool) (xs ys zs : List ℕ) → cond q xs ys ++ zs ≡ cond q (xs ++ zs) (ys ++ zs)
-cond-append true xs ys zs = refl
-cond-append false xs ys zs = refl
-
-in-quotes : (ks rest : List ℕ) → looked 44 1 (doubled ks ++ rest) ≡ looked 44 1 rest
-unfolding doubled
-in-quotes [] rest = refl
-in-quotes (k ∷ ks) rest = rw (cond-append (eqb k 34)) (quote-byte k (doubled ks ++ rest) (eqb k 34) refl ∙ in-quotes ks rest)
-
-past-quotes : (ks rest : List ℕ) → looked 44 0 (quoted ks ++ rest) ≡ looked 44 0 rest
-unfolding quoted looked
-past-quotes ks rest = rw (append-assoc (doubled ks) (34 ∷ []) rest) (in-quotes ks (34 ∷ rest))
-
-comma-next : (f : List ℕ) (fs : List (List ℕ)) (rest : List ℕ) → looked 44 0 (fields (f ∷ fs) ++ rest) ≡ 2
-unfolding fields looked
-comma-next f fs rest = found ((f ++ fields fs) ++ rest)
-
-first-comma : (corner : List ℕ) (cs : List (List ℕ)) (rest : List ℕ) → 1 ≤ length cs → looked 44 0 (line (quoted corner) (map quoted cs) ++ rest) ≡ 2
-unfolding line
-first-comma corner [] rest h = absurd (omega arith)
-first-comma corner (c ∷ cs) rest h =
-    rw (append-assoc (quoted corner) (fields (map quoted (c ∷ cs))) rest)
-    (past-quotes corner (fields (map quoted (c ∷ cs)) ++ rest) ∙ comma-next (quoted c) (map quoted cs) rest)
-
-either : (b : Bool) → _≡_ {A = ℕ} (cond b 0 0) 0
-either true = refl
-either false = refl
-
-no-mark : (corner : List ℕ) (fs : List (List ℕ)) (rest : List ℕ) → mark-size (line (quoted corner) fs ++ rest) ≡ 0
-unfolding line quoted
-no-mark corner fs rest = either (ltb (length (line (quoted corner) fs ++ rest)) 3)
 
 module _ (f : Fleet) (i : Fleet-fits f) where
   c : ℕ

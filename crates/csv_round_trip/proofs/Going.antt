@@ -98,7 +98,7 @@ pub both-true : (a b : Bool) → (a && b) ≡ true → (a ≡ true) × (b ≡ tr
 both-true true b p = (refl, p)
 both-true false b p = let z : _≡_ {A = ℕ} 0 1 = cc in absurd (omega arith)
 
-split : (q : Bool) (ds : List ℕ) (k : ℕ) → cond q (34 ∷ 34 ∷ ds) (k ∷ ds) ≡ cond q (34 ∷ 34 ∷ []) (k ∷ []) ++ ds
+pub split : (q : Bool) (ds : List ℕ) (k : ℕ) → cond q (34 ∷ 34 ∷ ds) (k ∷ ds) ≡ cond q (34 ∷ 34 ∷ []) (k ∷ []) ++ ds
 split true ds k = refl
 split false ds k = refl
 

@@ -1,4 +1,5 @@
 -- The laws of this crate.
+pub mod Marks
 pub mod Going
 pub mod Numbers
 pub mod Lines
