@@ -1,0 +1,4 @@
+-- The laws of this crate.
+pub mod Going
+pub mod Rows
+pub mod Back
