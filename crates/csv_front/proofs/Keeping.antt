@@ -141,28 +141,3 @@ module _ {csv out : List ℕ} {sep : ℕ} {table : Table} {mode : Mode} {n i : �
 
   pub naming-end : length csv ≤ i → (n ≡ length (names-text csv)) × (now ≡ placed out 0 (names-text csv))
   naming-end h = (counting-end (d .counting) h, writing-end (d .so-far) (none-left sep table mode csv i h))
-
--- ---- bytes copied one after the other
-pub record Copying (out : List ℕ) (at : ℕ) (bytes : List ℕ) (i : ℕ) (now : List ℕ) : Type 0 where
-  pub within : i ≤ length bytes
-  pub so-far : Writing out at bytes (at + i) (drop i bytes) now
-
-pub copying-start : {out : List ℕ} {at : ℕ} {bytes : List ℕ} → Copying out at bytes 0 out
-copying-start {out} {at} {bytes} =
-    let e : at + 0 ≡ at = omega arith in
-    record { within = omega arith; so-far = rw e writing-start }
-
-module _ {out : List ℕ} {at : ℕ} {bytes : List ℕ} {i : ℕ} {now : List ℕ} (d : Copying out at bytes i now) where
-  pub copying-more : at + length bytes ≤ length out → i < length bytes → Copying out at bytes (i + 1) (set now (at + i) (getD bytes i 0))
-  copying-more l h =
-      let b = getD bytes i 0 in
-      let p : at + (i + 1) ≡ at + i + 1 = omega arith in
-      record {
-        within = omega arith;
-        so-far =
-            writing-more (d .so-far) (b ∷ []) (drop (i + 1) bytes) (drop-cons bytes i 0 h ∙ rw add-one) l p
-            (placed-set now (at + i) b (omega (arith, d .so-far .long)));
-      }
-
-  pub copying-end : length bytes ≤ i → now ≡ placed out at bytes
-  copying-end h = writing-end (d .so-far) (drop-of-length-le bytes {i = i} h)

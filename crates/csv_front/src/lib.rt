@@ -1,6 +1,6 @@
 // A file with front text that is made of a CSV: the CSV itself, or the CSV without its values, or nothing.
 //
-// Helpers for other crates, whose callers prove what they require: put_bytes, put_with_front.
+// Helper for other crates, whose callers prove what it requires: put_with_front.
 ghost use mathlib.Core.Path.{_≡_};
 ghost use Prim.Native.Nat.{_+_, _≤_};
 ghost use lib.ListN.{length};
@@ -9,6 +9,7 @@ ghost use Rattle.csv_front.specs.Front.{is-kept, kept-byte, names-text, 
 ghost use Rattle.files.specs.Limits.{file-limit};
 use csv::Mode;
 use fleet_table::Table;
+use sheet_output::put_bytes;
 
 // What of a CSV is the front text: all of it, the names and units, nothing.
 pub enum Front {
@@ -21,18 +22,6 @@ pub enum Front {
 pub struct Written {
     pub front: Front,
     pub len: usize,
-}
-
-// Bytes from `at` on.
-pub fn put_bytes(output: &mut [u8], at: usize, bytes: &[u8])
-    requires { ⌜ at + length (now bytes) ≤ length (now output) ⌝ }
-    ensures { λ _. ⌜ now (output .exit) ≡ placed (now (output .entry)) at (now (bytes .entry)) ⌝ }
-{
-    let mut i = 0;
-    while i < bytes.len() {
-        output[at + i] = bytes[i];
-        i += 1;
-    }
 }
 
 // Whether a byte is no part of a value, nor a separator before one.

@@ -12,7 +12,7 @@ use mir.Val.{Fits}
 use Rattle.frank_wolfe.specs.Vectors.{ones, sum}
 use Rattle.files.specs.Book.{boats, columns, rows, book-refusal}
 use Rattle.files.specs.Fits.{Sheet-fits}
-use Rattle.files.specs.Sheet.{sheet, target-offset, sheet-refusal, files-refusal}
+use Rattle.files.specs.Sheet.{sheet, WSH1, target-offset, sheet-refusal, files-refusal}
 use Rattle.files.proofs.Access.{target-at}
 use Rattle.files.proofs.Accepted.{book-accepted, files-accepted}
 use Rattle.card_output.specs.Output.{placed}
@@ -134,17 +134,17 @@ module _ (fs s : List ℕ) (known : Sheet-fits (length fs) s) where
         cells-are s f from (length fs) ps (places-serve fs ep refl)
         ∙ rw (ef, ← known .same-columns, ← target-at s, ep, picked-repeated fs (sheet s .target) (known .target-length))
 
-    sheet-are : values-bytes (derived fs s .target) ++ sheet-trailer (2 * count) count (sheet s .steps) (sheet s .tolerance) ≡ derived-sheet fs s
+    sheet-are : values-bytes (derived fs s .target) ++ sheet-trailer WSH1 (2 * count) count (sheet s .steps) (sheet s .tolerance) ≡ derived-sheet fs s
     unfolding derived-sheet sheet-bytes derived
     sheet-are = rw (length-values-bytes (derived fs s .target), target-long, ec)
 
     pub sheet-put : (out : List ℕ) {now new : List ℕ} → 144 ≤ length out → now ≡ placed out 0 (cells s from ps) → {steps tolerance : ℕ} → steps ≡ sheet s .steps → tolerance ≡ sheet s .tolerance →
-        new ≡ placed now (2 * count) (sheet-trailer (2 * count) count steps tolerance) → (2 * count + 16 ≡ length (derived-sheet fs s)) × (new ≡ placed out 0 (derived-sheet fs s))
+        new ≡ placed now (2 * count) (sheet-trailer WSH1 (2 * count) count steps tolerance) → (2 * count + 16 ≡ length (derived-sheet fs s)) × (new ≡ placed out 0 (derived-sheet fs s))
     sheet-put out r e es et g =
         let body = values-bytes (derived fs s .target) in
-        let foot = sheet-trailer (2 * count) count (sheet s .steps) (sheet s .tolerance) in
+        let foot = sheet-trailer WSH1 (2 * count) count (sheet s .steps) (sheet s .tolerance) in
         let long : length body ≡ 2 * count = omega (arith, length-values-bytes (derived fs s .target), target-long) in (
-          omega (arith, ap length sheet-are, length-append body foot, sheet-trailer-length (2 * count) count (sheet s .steps) (sheet s .tolerance)),
+          omega (arith, ap length sheet-are, length-append body foot, sheet-trailer-length WSH1 (2 * count) count (sheet s .steps) (sheet s .tolerance) refl),
           placed-next out 0 body foot (2 * count) (rw target-cells at e) (rw (es, et) at g) (omega arith) (omega arith) ∙ rw sheet-are,
         )
 

@@ -14,7 +14,7 @@ use Rattle.integers.proofs.Filling.{drop-replicate}
 use Rattle.frank_wolfe.specs.Vectors.{ones}
 use Rattle.files.specs.Bytes.{between, all-in-range}
 use Rattle.files.specs.Book.{columns, book-refusal}
-use Rattle.files.specs.Sheet.{Sheet}
+use Rattle.files.specs.Sheet.{Sheet, WSH1}
 use Rattle.files.specs.Fits.{Book-fits}
 use Rattle.files.proofs.Accepted.{book-accepted}
 use Rattle.files.proofs.Refusal.{between-true, book-passed}
@@ -159,13 +159,13 @@ module _ {b : List ℕ} {cs : List ScaleCell} {k t : ℕ} (p : Passed b cs k t) 
       pub trailer-room : 2 * c + 16 ≤ length o₁
       trailer-room = rw (e₁, front) (omega (arith, room, placed-length empty 0 (values-bytes target) (omega (arith, body-length, room))))
 
-      module _ {o₂ : List ℕ} (e₂ : o₂ ≡ placed o₁ (2 * c) (sheet-trailer (2 * c) c k t)) where
+      module _ {o₂ : List ℕ} (e₂ : o₂ ≡ placed o₁ (2 * c) (sheet-trailer WSH1 (2 * c) c k t)) where
         bytes-are : o₂ ≡ placed empty 0 bs
         unfolding sheet-bytes
         bytes-are =
             let l : length target ≡ c = target-length ∙ sym ec in
             rw (body-length, l)
-            (placed-next empty 0 (values-bytes target) (sheet-trailer (2 * c) c k t) (2 * c) (rw front at e₁) e₂ (omega (arith, body-length)) (omega (arith, body-length, room)))
+            (placed-next empty 0 (values-bytes target) (sheet-trailer WSH1 (2 * c) c k t) (2 * c) (rw front at e₁) e₂ (omega (arith, body-length)) (omega (arith, body-length, room)))
 
         plain : placed empty 0 bs ≡ bs ++ replicate (144 - length bs) 0
         unfolding placed

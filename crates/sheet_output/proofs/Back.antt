@@ -1,22 +1,23 @@
--- A sheet that is written reads back.
+-- A sheet of either edition that is written reads back.
 use mathlib.Core.Path.{_≡_, refl, sym, ap, _∙_}
-use mathlib.Core.Bool.{true, false}
+use mathlib.Core.Bool.{true, _||_, cond}
 use mathlib.Core.List.{List, [], _++_, append-nil}
 use Prim.Native.Nat.{ℕ, _+_, _*_, _-_, _≤_}
 use native.Mathlib.Omega.{arith}
 use borrow.Author.Tests.{le-leb, eq-eqb, le-ltb}
-use lib.ListN.{length, drop, length-append}
+use lib.ListN.{length, drop, length-append, length-replicate}
 use lib.Seq.{drop-at, take-at}
 use Rattle.frank_wolfe.specs.Vectors.{ones, sum}
 use Rattle.frank_wolfe.proofs.Vectors.{sum-ones}
-use Rattle.files.specs.Bytes.{number-bytes, little-endian, number, values, same, all-in-range, length-in-range, trailer, body, reaches, body-refusal}
+use Rattle.files.specs.Bytes.{number-bytes, little-endian, number, values, same, all-bytes, all-in-range, length-in-range, trailer, body, reaches, body-refusal}
 use Rattle.files.specs.Sheet.{Sheet, sheet, sheet-columns, WSH1, WSH2, sheet-lettered, factor-bytes, sheet-refusal-in, sheet-refusal}
 use Rattle.files.proofs.Bytes.{read-bytes}
 use Rattle.files.specs.Limits.{file-limit, step-limit}
 use Rattle.card_format.proofs.Accepted.{between-said}
-use Rattle.sheet_output.specs.Output.{values-bytes, sheet-trailer, sheet-bytes}
-use Rattle.sheet_output.specs.Back.{Sheet-fit, Sheet-reads-back}
+use Rattle.sheet_output.specs.Output.{values-bytes, sheet-trailer, sheet-bytes, factored-body, factored-bytes}
+use Rattle.sheet_output.specs.Back.{Sheet-fit, Sheet-reads-back, Factored-fit, Factored-reads-back}
 use Rattle.sheet_output.proofs.Values.{length-values-bytes, values-back}
+use Rattle.sheet_output.proofs.EachByte.{append-bytes, values-all-bytes, small-bytes, trailer-all-bytes}
 
 -- ---- a body and a trailer of `size` bytes
 module _ (bs t : List ℕ) (size : ℕ) (l : length t ≡ size) where
@@ -39,146 +40,190 @@ module _ (bs t : List ℕ) (size : ℕ) (l : length t ≡ size) where
       let k : back ≤ length (bs ++ t) - size = omega (arith, file-length) in
       simp (file-trailer, b, eq-eqb back back refl, le-leb _ _ k, file-body back e, h)
 
--- ---- a sheet
-module _ (back c k t : ℕ) where
-  pub sheet-trailer-length : length (sheet-trailer back c k t) ≡ 16
+-- ---- a sheet's trailer
+module _ (letters : List ℕ) (back c k t : ℕ) where
+  pub sheet-trailer-length : length letters ≡ 4 → length (sheet-trailer letters back c k t) ≡ 16
   unfolding sheet-trailer number-bytes
-  sheet-trailer-length = refl
+  sheet-trailer-length four = omega arith
 
-  sheet-back-at : number 0 4 (sheet-trailer back c k t) ≡ little-endian (number-bytes 4 back)
+  sheet-back-at : number 0 4 (sheet-trailer letters back c k t) ≡ little-endian (number-bytes 4 back)
   unfolding number sheet-trailer number-bytes
   sheet-back-at = refl
 
-  sheet-columns-at : number 4 2 (sheet-trailer back c k t) ≡ little-endian (number-bytes 2 c)
+  sheet-columns-at : number 4 2 (sheet-trailer letters back c k t) ≡ little-endian (number-bytes 2 c)
   unfolding number sheet-trailer number-bytes
   sheet-columns-at = refl
 
-  steps-at : number 6 2 (sheet-trailer back c k t) ≡ little-endian (number-bytes 2 k)
+  steps-at : number 6 2 (sheet-trailer letters back c k t) ≡ little-endian (number-bytes 2 k)
   unfolding number sheet-trailer number-bytes
   steps-at = refl
 
-  tolerance-at : number 8 4 (sheet-trailer back c k t) ≡ little-endian (number-bytes 4 t)
+  tolerance-at : number 8 4 (sheet-trailer letters back c k t) ≡ little-endian (number-bytes 4 t)
   unfolding number sheet-trailer number-bytes
   tolerance-at = refl
 
-  sheet-letters : same (drop 12 (sheet-trailer back c k t)) WSH1 ≡ true
-  unfolding sheet-trailer number-bytes same
-  sheet-letters = refl
+  letters-at : drop 12 (sheet-trailer letters back c k t) ≡ letters
+  unfolding sheet-trailer number-bytes
+  letters-at = refl
 
-  no-second-letters : same (drop 12 (sheet-trailer back c k t)) WSH2 ≡ false
-  unfolding sheet-trailer number-bytes same
-  no-second-letters = refl
+-- ---- a sheet
+-- a body bs and letters with which a sheet asks for s
+record Asks (s : Sheet) (letters bs : List ℕ) : Type 0 where
+  four : length letters ≡ 4
+  known : same letters WSH1 || same letters WSH2 ≡ true
+  few : length bs ≤ 192
+  long : 2 * length (s .target) + cond (same letters WSH2) (length (s .target)) 0 ≡ length bs
+  target-there : values (length (s .target)) bs ≡ s .target
+  factors-there : cond (same letters WSH2) (drop (2 * length (s .target)) bs) (ones (length (s .target))) ≡ s .factors
 
-module _ (s : Sheet) (f : Sheet-fit s) where
-  c : ℕ
+module _ (s : Sheet) (letters bs : List ℕ) (f : Factored-fit s) (a : Asks s letters bs) where
+  abbrev c : ℕ
   c = length (s .target)
 
-  sheet-foot : List ℕ
-  sheet-foot = sheet-trailer (length (values-bytes (s .target))) c (s .steps) (s .tolerance)
+  abbrev foot : List ℕ
+  foot = sheet-trailer letters (length bs) c (s .steps) (s .tolerance)
 
-  sheet-foot-length : length sheet-foot ≡ 16
-  unfolding sheet-foot
-  sheet-foot-length = sheet-trailer-length _ c (s .steps) (s .tolerance)
+  foot-length : length foot ≡ 16
+  foot-length = sheet-trailer-length letters (length bs) c (s .steps) (s .tolerance) (a .four)
 
-  target-long : length (values-bytes (s .target)) ≡ 2 * c
-  unfolding c
-  target-long = length-values-bytes (s .target)
+  foot-at : trailer 16 (bs ++ foot) ≡ foot
+  foot-at = file-trailer bs foot 16 foot-length
 
-  sheet-trailer-back : trailer 16 (sheet-bytes s) ≡ sheet-foot
-  unfolding sheet-bytes sheet-foot c
-  sheet-trailer-back = file-trailer (values-bytes (s .target)) sheet-foot 16 sheet-foot-length
+  own-length : length (bs ++ foot) ≡ length bs + 16
+  own-length = file-length bs foot 16 foot-length
 
-  sheet-length : length (sheet-bytes s) ≡ 2 * c + 16
-  unfolding sheet-bytes sheet-foot c
-  sheet-length = file-length (values-bytes (s .target)) sheet-foot 16 sheet-foot-length ∙ ap (λ k. k + 16) target-long
+  own-columns : sheet-columns (bs ++ foot) ≡ c
+  unfolding sheet-columns
+  own-columns = rw foot-at (sheet-columns-at letters (length bs) c (s .steps) (s .tolerance) ∙ read-bytes 2 c (omega (arith, f .most-columns)))
 
-  few-columns : c ≤ 64
-  unfolding c
-  few-columns = f .most-columns
+  own-steps : number 6 2 foot ≡ s .steps
+  own-steps = steps-at letters (length bs) c (s .steps) (s .tolerance) ∙ read-bytes 2 (s .steps) (omega (arith, f .most-steps))
 
-  sheet-columns-back : sheet-columns (sheet-bytes s) ≡ c
-  unfolding sheet-columns sheet-foot
-  sheet-columns-back = rw sheet-trailer-back (sheet-columns-at _ c (s .steps) (s .tolerance) ∙ read-bytes 2 c (omega (arith, few-columns)))
+  own-tolerance : number 8 4 foot ≡ s .tolerance
+  own-tolerance = tolerance-at letters (length bs) c (s .steps) (s .tolerance) ∙ read-bytes 4 (s .tolerance) (omega (arith, f .most-tolerance))
 
-  steps-back : number 6 2 sheet-foot ≡ s .steps
-  unfolding sheet-foot
-  steps-back = steps-at _ c (s .steps) (s .tolerance) ∙ read-bytes 2 (s .steps) (omega (arith, f .most-steps))
+  own-letters : (ls : List ℕ) → sheet-lettered ls (bs ++ foot) ≡ same letters ls
+  unfolding sheet-lettered
+  own-letters ls = rw (foot-at, letters-at)
 
-  tolerance-back : number 8 4 sheet-foot ≡ s .tolerance
-  unfolding sheet-foot
-  tolerance-back = tolerance-at _ c (s .steps) (s .tolerance) ∙ read-bytes 4 (s .tolerance) (omega (arith, f .most-tolerance))
-
-  target-back : values c (values-bytes (s .target)) ≡ s .target
-  unfolding c
-  target-back = rw append-nil at (values-back (s .target) [] (f .in-range))
-
-  first-edition : sheet-lettered WSH1 (sheet-bytes s) ≡ true
-  unfolding sheet-lettered sheet-foot
-  first-edition = rw sheet-trailer-back (sheet-letters _ c (s .steps) (s .tolerance))
-
-  not-second : sheet-lettered WSH2 (sheet-bytes s) ≡ false
-  unfolding sheet-lettered sheet-foot
-  not-second = rw sheet-trailer-back (no-second-letters _ c (s .steps) (s .tolerance))
-
-  no-factor-bytes : factor-bytes (sheet-bytes s) ≡ 0
+  own-factor-bytes : factor-bytes (bs ++ foot) ≡ cond (same letters WSH2) c 0
   unfolding factor-bytes
-  no-factor-bytes = rw not-second
+  own-factor-bytes = rw (own-letters WSH2, own-columns)
 
-  own-back : 2 * c + 0 ≡ 2 * c
-  own-back = omega arith
+  own-body : body 16 (length bs) (bs ++ foot) ≡ bs
+  own-body = file-body bs foot 16 foot-length (length bs) refl
 
-  own-factors : ones c ≡ s .factors
-  unfolding c
-  own-factors = sym (f .plain)
-
-  own-body : body 16 (2 * c) (sheet-bytes s) ≡ values-bytes (s .target)
-  unfolding sheet-bytes sheet-foot c
-  own-body = file-body (values-bytes (s .target)) sheet-foot 16 sheet-foot-length (2 * c) target-long
-
-  own-sheet : sheet (sheet-bytes s) ≡ s
+  own-sheet : sheet (bs ++ foot) ≡ s
   unfolding sheet
-  own-sheet = rw (not-second, sheet-columns-back, no-factor-bytes, own-back, own-body, target-back, own-factors, sheet-trailer-back, steps-back, tolerance-back)
+  own-sheet = rw (own-letters WSH2, own-columns, own-factor-bytes, a .long, own-body, foot-at, a .target-there, a .factors-there, own-steps, own-tolerance)
 
-  own-sheet-body : body-refusal 16 (2 * c) c 16 17 (sheet-bytes s) ≡ 0
-  unfolding sheet-bytes sheet-foot c
-  own-sheet-body =
-      body-passed (values-bytes (s .target)) sheet-foot 16 sheet-foot-length (2 * c) c 16 17 target-long
-      (sheet-back-at _ c (s .steps) (s .tolerance) ∙ read-bytes 4 _ (omega (arith, few-columns, target-long)) ∙ target-long)
-      (rw target-back (f .in-range))
+  own-body-passes : body-refusal 16 (length bs) c 16 17 (bs ++ foot) ≡ 0
+  own-body-passes =
+      body-passed bs foot 16 foot-length (length bs) c 16 17 refl
+      (sheet-back-at letters (length bs) c (s .steps) (s .tolerance) ∙ read-bytes 4 (length bs) (omega (arith, a .few)))
+      (rw (a .target-there) (f .in-range))
 
-  own-total : sum (s .factors) ≡ c
-  own-total = sym (ap sum own-factors) ∙ sum-ones c
-
-  some-columns : 1 ≤ c
-  unfolding c
-  some-columns = f .some-columns
-
-  sheet-accepted : sheet-refusal c (sheet-bytes s) ≡ 0
+  own-accepted : sheet-refusal c (bs ++ foot) ≡ 0
   unfolding sheet-refusal-in length-in-range
-  sheet-accepted =
+  own-accepted =
       simp (
-        sheet-length,
-        first-edition,
-        sheet-columns-back,
-        no-factor-bytes,
-        own-back,
+        own-length,
+        own-letters WSH1,
+        own-letters WSH2,
+        a .known,
+        own-columns,
+        own-factor-bytes,
+        a .long,
         own-sheet,
-        own-total,
-        between-said {least = 16} {most = file-limit} {n = 2 * c + 16} (omega arith) (omega (arith, few-columns)),
+        between-said {least = 16} {most = file-limit} {n = length bs + 16} (omega arith) (omega (arith, a .few)),
         between-said {least = c} {most = c} {n = c} (omega arith) (omega arith),
         between-said {least = 1} {most = step-limit} {n = s .steps} (f .some-steps) (f .most-steps),
-        between-said {least = 1} {most = 64} {n = c} some-columns few-columns,
+        between-said {least = 1} {most = 64} {n = sum (s .factors)} (f .some-factor) (f .few-factors),
         le-ltb 1024000000 (s .tolerance) (f .most-tolerance),
-        own-sheet-body,
+        own-body-passes,
       )
 
-pub sheet-reads-back : Sheet-reads-back
-unfolding Sheet-reads-back c
-sheet-reads-back s f =
+-- ---- WSH1
+-- factors of 1 are factors
+plain-fit : (s : Sheet) → Sheet-fit s → Factored-fit s
+plain-fit s f =
+    let total : sum (s .factors) ≡ length (s .target) = ap sum (f .plain) ∙ sum-ones (length (s .target)) in
     record {
-      size = sheet-length s f;
-      most-bytes = omega (arith, sheet-length s f, few-columns s f);
-      columns-back = sheet-columns-back s f;
-      sheet-back = own-sheet s f;
-      accepted = sheet-accepted s f;
+      each-column = ap length (f .plain) ∙ length-replicate (length (s .target)) 1;
+      some-columns = f .some-columns;
+      most-columns = f .most-columns;
+      in-range = f .in-range;
+      some-factor = omega (arith, f .some-columns);
+      few-factors = omega (arith, f .most-columns);
+      some-steps = f .some-steps;
+      most-steps = f .most-steps;
+      most-tolerance = f .most-tolerance;
+    }
+
+plain-asks : (s : Sheet) → Sheet-fit s → Asks s WSH1 (values-bytes (s .target))
+unfolding same
+plain-asks s f =
+    let long : length (values-bytes (s .target)) ≡ 2 * length (s .target) = length-values-bytes (s .target) in
+    record {
+      four = refl;
+      known = refl;
+      few = omega (arith, f .most-columns);
+      long = omega arith;
+      target-there = rw append-nil at (values-back (s .target) [] (f .in-range));
+      factors-there = sym (f .plain);
+    }
+
+pub sheet-reads-back : Sheet-reads-back
+unfolding Sheet-reads-back sheet-bytes
+sheet-reads-back s f =
+    let bs = values-bytes (s .target) in
+    let g = plain-fit s f in
+    let a = plain-asks s f in
+    let size : length (sheet-bytes s) ≡ 2 * length (s .target) + 16 = own-length s WSH1 bs g a ∙ ap (λ n. n + 16) (length-values-bytes (s .target)) in
+    record {
+      size = size;
+      most-bytes = omega (arith, size, f .most-columns);
+      columns-back = own-columns s WSH1 bs g a;
+      sheet-back = own-sheet s WSH1 bs g a;
+      accepted = own-accepted s WSH1 bs g a;
+    }
+
+-- ---- WSH2
+factored-long : (s : Sheet) → Factored-fit s → length (factored-body s) ≡ 3 * length (s .target)
+unfolding factored-body
+factored-long s f = rw length-append (omega (arith, length-values-bytes (s .target), f .each-column))
+
+factored-asks : (s : Sheet) → Factored-fit s → Asks s WSH2 (factored-body s)
+unfolding same factored-body
+factored-asks s f =
+    record {
+      four = refl;
+      known = refl;
+      few = omega (arith, factored-long s f, f .most-columns);
+      long = omega (arith, factored-long s f);
+      target-there = values-back (s .target) (s .factors) (f .in-range);
+      factors-there = drop-at (values-bytes (s .target)) (s .factors) (2 * length (s .target)) (length-values-bytes (s .target));
+    }
+
+-- each factor is a byte, as their total is at most 64
+factored-each-byte : (s : Sheet) → Factored-fit s → all-bytes (factored-bytes s) ≡ true
+unfolding factored-bytes factored-body
+factored-each-byte s f =
+    append-bytes (values-bytes (s .target) ++ s .factors) _
+    (append-bytes (values-bytes (s .target)) (s .factors) (values-all-bytes (s .target)) (small-bytes (s .factors) (omega (arith, f .few-factors))))
+    (trailer-all-bytes _ (length (s .target)) (s .steps) (s .tolerance))
+
+pub factored-reads-back : Factored-reads-back
+unfolding Factored-reads-back factored-bytes
+factored-reads-back s f =
+    let bs = factored-body s in
+    let a = factored-asks s f in
+    let size : length (factored-bytes s) ≡ 3 * length (s .target) + 16 = own-length s WSH2 bs f a ∙ ap (λ n. n + 16) (factored-long s f) in
+    record {
+      each-byte = factored-each-byte s f;
+      size = size;
+      most-bytes = omega (arith, size, f .most-columns);
+      columns-back = own-columns s WSH2 bs f a;
+      sheet-back = own-sheet s WSH2 bs f a;
+      accepted = own-accepted s WSH2 bs f a;
     }

@@ -6,7 +6,7 @@ use Prim.Native.Nat.{ℕ, suc, _+_, _*_, _≤_, _<_}
 use native.Mathlib.Omega.{arith}
 use native.Mathlib.Numerals.{add-one}
 use lib.IntN.{ℤ, pos}
-use lib.ListN.{length, getD, take, drop, length-append, drop-of-length-le}
+use lib.ListN.{length, getD, take, drop, set, length-append, drop-of-length-le}
 use lib.Seq.{take-at, drop-cons, getD-take, length-take-le}
 use mir.Syntax.{w16}
 use mir.Val.{toZ, ofZ}
@@ -15,7 +15,7 @@ use Rattle.files.specs.Bytes.{number-bytes, all-in-range}
 use Rattle.files.proofs.Accepted.{value-bounds}
 use Rattle.files.proofs.Bytes.{length-bytes}
 use Rattle.card_output.specs.Output.{placed}
-use Rattle.card_output.proofs.Placing.{placed-nil, placed-length, placed-then}
+use Rattle.card_output.proofs.Placing.{placed-nil, placed-length, placed-then, placed-set}
 use Rattle.sheet_output.specs.Output.{bits, values-bytes}
 use Rattle.sheet_output.proofs.Values.{length-values-bytes}
 
@@ -97,3 +97,28 @@ module _ {out : List ℕ} {count : ℕ} {vs : List ℤ} {i : ℕ} {now : List �
 
   pub values-long : length now ≡ length out
   values-long = w .so-far .long
+
+-- ---- bytes copied one after the other
+pub record Copying (out : List ℕ) (at : ℕ) (bytes : List ℕ) (i : ℕ) (now : List ℕ) : Type 0 where
+  pub within : i ≤ length bytes
+  pub so-far : Writing out at bytes (at + i) (drop i bytes) now
+
+pub copying-start : {out : List ℕ} {at : ℕ} {bytes : List ℕ} → Copying out at bytes 0 out
+copying-start {out} {at} {bytes} =
+    let e : at + 0 ≡ at = omega arith in
+    record { within = omega arith; so-far = rw e writing-start }
+
+module _ {out : List ℕ} {at : ℕ} {bytes : List ℕ} {i : ℕ} {now : List ℕ} (d : Copying out at bytes i now) where
+  pub copying-more : at + length bytes ≤ length out → i < length bytes → Copying out at bytes (i + 1) (set now (at + i) (getD bytes i 0))
+  copying-more l h =
+      let b = getD bytes i 0 in
+      let p : at + (i + 1) ≡ at + i + 1 = omega arith in
+      record {
+        within = omega arith;
+        so-far =
+            writing-more (d .so-far) (b ∷ []) (drop (i + 1) bytes) (drop-cons bytes i 0 h ∙ rw add-one) l p
+            (placed-set now (at + i) b (omega (arith, d .so-far .long)));
+      }
+
+  pub copying-end : length bytes ≤ i → now ≡ placed out at bytes
+  copying-end h = writing-end (d .so-far) (drop-of-length-le bytes {i = i} h)

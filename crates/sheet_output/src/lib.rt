@@ -1,17 +1,20 @@
-// A sheet's bytes put into a buffer: its values from the first byte on, then its trailer.
+// A sheet's bytes put into a buffer: its values from the first byte on, in the edition WSH2 its factors, then its trailer.
 //
-// Helpers for other crates, whose callers prove what they require: put_values, put_sheet_trailer; bits_of asks nothing.
+// Helpers for other crates, whose callers prove what they require: put_values, put_bytes, put_sheet_trailer, put_factored_trailer; bits_of asks nothing.
 ghost use mathlib.Core.Path.{_≡_};
 ghost use mathlib.Core.Bool.{true};
 ghost use Prim.Native.Nat.{_+_, _*_, _≤_};
 ghost use lib.ListN.{length, take};
-ghost use Rattle.files.specs.Bytes.{all-in-range};
+ghost use Rattle.files.specs.Bytes.{number-bytes, all-in-range};
+ghost use Rattle.files.specs.Sheet.{WSH1, WSH2};
 ghost use Rattle.card_output.specs.Output.{placed};
 ghost use Rattle.sheet_output.specs.Output.{bits, values-bytes, sheet-trailer};
 use card_output::put;
 
 // The letters WSH1 as a number.
-const WSH1: u64 = 826823511;
+const LETTERS_1: u64 = 826823511;
+// The letters WSH2 as a number.
+const LETTERS_2: u64 = 843600727;
 
 // The 16 bits of a value.
 pub fn bits_of(value: i16) -> u64
@@ -34,14 +37,55 @@ pub fn put_values(output: &mut [u8], values: [i16; 64], count: usize)
     }
 }
 
-// A sheet's trailer from `at` on, which is also its back count.
-pub fn put_sheet_trailer(output: &mut [u8], at: usize, columns: usize, steps: u32, tolerance: u32)
+// Bytes from `at` on: a sheet's factors, say, are 1 byte each.
+pub fn put_bytes(output: &mut [u8], at: usize, bytes: &[u8])
+    requires { ⌜ at + length (now bytes) ≤ length (now output) ⌝ }
+    ensures { λ _. ⌜ now (output .exit) ≡ placed (now (output .entry)) at (now (bytes .entry)) ⌝ }
+{
+    let mut i = 0;
+    while i < bytes.len() {
+        output[at + i] = bytes[i];
+        i += 1;
+    }
+}
+
+// A trailer with these letters, as a number, from `at` on.
+fn put_trailer(
+    output: &mut [u8],
+    at: usize,
+    columns: usize,
+    steps: u32,
+    tolerance: u32,
+    letters: u64,
+)
     requires { ⌜ at + 16 ≤ length (now output) ⌝ }
-    ensures { λ _. ⌜ now (output .exit) ≡ placed (now (output .entry)) at (sheet-trailer at columns steps tolerance) ⌝ }
+    ensures { λ _. ⌜ now (output .exit) ≡ placed (now (output .entry)) at (sheet-trailer (number-bytes 4 letters) at columns steps tolerance) ⌝ }
 {
     put(output, at, 4, at as u64);
     put(output, at + 4, 2, columns as u64);
     put(output, at + 6, 2, steps as u64);
     put(output, at + 8, 4, tolerance as u64);
-    put(output, at + 12, 4, WSH1);
+    put(output, at + 12, 4, letters);
+}
+
+// The trailer of a sheet WSH1 from `at` on, which is also its back count.
+pub fn put_sheet_trailer(output: &mut [u8], at: usize, columns: usize, steps: u32, tolerance: u32)
+    requires { ⌜ at + 16 ≤ length (now output) ⌝ }
+    ensures { λ _. ⌜ now (output .exit) ≡ placed (now (output .entry)) at (sheet-trailer WSH1 at columns steps tolerance) ⌝ }
+{
+    put_trailer(output, at, columns, steps, tolerance, LETTERS_1);
+}
+
+// The trailer of a sheet WSH2 from `at` on, which is also its back count.
+pub fn put_factored_trailer(
+    output: &mut [u8],
+    at: usize,
+    columns: usize,
+    steps: u32,
+    tolerance: u32,
+)
+    requires { ⌜ at + 16 ≤ length (now output) ⌝ }
+    ensures { λ _. ⌜ now (output .exit) ≡ placed (now (output .entry)) at (sheet-trailer WSH2 at columns steps tolerance) ⌝ }
+{
+    put_trailer(output, at, columns, steps, tolerance, LETTERS_2);
 }
