@@ -1,6 +1,6 @@
 -- A sheet of either edition that is written reads back.
 use mathlib.Core.Path.{_≡_, refl, sym, ap, _∙_}
-use mathlib.Core.Bool.{true, _||_, cond}
+use mathlib.Core.Bool.{true, false, _||_, cond}
 use mathlib.Core.List.{List, [], _++_, append-nil}
 use Prim.Native.Nat.{ℕ, _+_, _*_, _-_, _≤_}
 use native.Mathlib.Omega.{arith}
@@ -14,8 +14,8 @@ use Rattle.files.specs.Sheet.{Sheet, sheet, sheet-columns, WSH1, WSH2, sheet-le
 use Rattle.files.proofs.Bytes.{read-bytes}
 use Rattle.files.specs.Limits.{file-limit, step-limit}
 use Rattle.card_format.proofs.Accepted.{between-said}
-use Rattle.sheet_output.specs.Output.{values-bytes, sheet-trailer, sheet-bytes, factored-body, factored-bytes}
-use Rattle.sheet_output.specs.Back.{Sheet-fit, Sheet-reads-back, Factored-fit, Factored-reads-back}
+use Rattle.sheet_output.specs.Output.{values-bytes, sheet-trailer, sheet-bytes, factored-body, factored-bytes, edition-bytes}
+use Rattle.sheet_output.specs.Back.{Sheet-fit, Sheet-reads-back, Factored-fit, Factored-reads-back, Edition-reads-back}
 use Rattle.sheet_output.proofs.Values.{length-values-bytes, values-back}
 use Rattle.sheet_output.proofs.EachByte.{append-bytes, values-all-bytes, small-bytes, trailer-all-bytes}
 
@@ -160,9 +160,9 @@ plain-fit s f =
       most-tolerance = f .most-tolerance;
     }
 
-plain-asks : (s : Sheet) → Sheet-fit s → Asks s WSH1 (values-bytes (s .target))
+plain-asks : (s : Sheet) → s .factors ≡ ones (length (s .target)) → Factored-fit s → Asks s WSH1 (values-bytes (s .target))
 unfolding same
-plain-asks s f =
+plain-asks s plain f =
     let long : length (values-bytes (s .target)) ≡ 2 * length (s .target) = length-values-bytes (s .target) in
     record {
       four = refl;
@@ -170,7 +170,7 @@ plain-asks s f =
       few = omega (arith, f .most-columns);
       long = omega arith;
       target-there = rw append-nil at (values-back (s .target) [] (f .in-range));
-      factors-there = sym (f .plain);
+      factors-there = sym plain;
     }
 
 pub sheet-reads-back : Sheet-reads-back
@@ -178,7 +178,7 @@ unfolding Sheet-reads-back sheet-bytes
 sheet-reads-back s f =
     let bs = values-bytes (s .target) in
     let g = plain-fit s f in
-    let a = plain-asks s f in
+    let a = plain-asks s (f .plain) g in
     let size : length (sheet-bytes s) ≡ 2 * length (s .target) + 16 = own-length s WSH1 bs g a ∙ ap (λ n. n + 16) (length-values-bytes (s .target)) in
     record {
       size = size;
@@ -226,4 +226,28 @@ factored-reads-back s f =
       columns-back = own-columns s WSH2 bs f a;
       sheet-back = own-sheet s WSH2 bs f a;
       accepted = own-accepted s WSH2 bs f a;
+    }
+
+-- ---- either
+pub edition-reads-back : Edition-reads-back
+unfolding Edition-reads-back edition-bytes factored-bytes sheet-bytes same
+edition-reads-back true s f plain =
+    let bs = factored-body s in
+    let a = factored-asks s f in
+    record {
+      edition = own-letters s WSH2 bs f a WSH2;
+      most-bytes = omega (arith, own-length s WSH2 bs f a, factored-long s f, f .most-columns);
+      columns-back = own-columns s WSH2 bs f a;
+      sheet-back = own-sheet s WSH2 bs f a;
+      accepted = own-accepted s WSH2 bs f a;
+    }
+edition-reads-back false s f plain =
+    let bs = values-bytes (s .target) in
+    let a = plain-asks s (plain refl) f in
+    record {
+      edition = own-letters s WSH1 bs f a WSH2;
+      most-bytes = omega (arith, own-length s WSH1 bs f a, length-values-bytes (s .target), f .most-columns);
+      columns-back = own-columns s WSH1 bs f a;
+      sheet-back = own-sheet s WSH1 bs f a;
+      accepted = own-accepted s WSH1 bs f a;
     }

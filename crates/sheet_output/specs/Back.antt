@@ -1,14 +1,14 @@
 -- What is written reads back: a sheet, of either edition, of what it can ask for is accepted and asks for it.
 use mathlib.Core.Path.{_≡_}
-use mathlib.Core.Bool.{true}
+use mathlib.Core.Bool.{Bool, true, false}
 use mathlib.Core.List.{List}
 use Prim.Native.Nat.{ℕ, _+_, _*_, _≤_}
 use lib.ListN.{length}
 use Rattle.frank_wolfe.specs.Vectors.{ones, sum}
 use Rattle.files.specs.Bytes.{all-bytes, all-in-range}
-use Rattle.files.specs.Sheet.{Sheet, sheet, sheet-columns, sheet-refusal}
+use Rattle.files.specs.Sheet.{Sheet, WSH2, sheet, sheet-columns, sheet-lettered, sheet-refusal}
 use Rattle.files.specs.Limits.{step-limit}
-use Rattle.sheet_output.specs.Output.{sheet-bytes, factored-bytes}
+use Rattle.sheet_output.specs.Output.{sheet-bytes, factored-bytes, edition-bytes}
 
 -- what a sheet of the edition WSH1 can ask for: every factor is 1
 pub record Sheet-fit (s : Sheet) : Type 0 where
@@ -54,3 +54,15 @@ pub record Factored-of (s : Sheet) (t : List ℕ) : Type 0 where
 
 unfoldable pub Factored-reads-back : Type 0
 Factored-reads-back = (s : Sheet) → Factored-fit s → Factored-of s (factored-bytes s)
+
+-- t is a sheet, with factors or without as is asked, that is not refused and asks for s
+pub record Edition-of (factored : Bool) (s : Sheet) (t : List ℕ) : Type 0 where
+  pub edition : sheet-lettered WSH2 t ≡ factored
+  pub most-bytes : length t ≤ 208
+  pub columns-back : sheet-columns t ≡ length (s .target)
+  pub sheet-back : sheet t ≡ s
+  pub accepted : sheet-refusal (length (s .target)) t ≡ 0
+
+-- without factors every factor must be 1
+unfoldable pub Edition-reads-back : Type 0
+Edition-reads-back = (factored : Bool) (s : Sheet) → Factored-fit s → (factored ≡ false → s .factors ≡ ones (length (s .target))) → Edition-of factored s (edition-bytes factored s)
