@@ -381,6 +381,9 @@ fn first_line_has(csv: &[u8], mark: u8) -> bool
     let mut i = 0;
     while i < csv.len() {
         known = look(mark, known, csv[i]);
+        if 1 < known {
+            return known == 2;
+        }
         i += 1;
     }
     known == 2
