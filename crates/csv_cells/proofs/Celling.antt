@@ -18,7 +18,8 @@ use Rattle.fleet_reader.proofs.Reading.{next-tokens, last-token}
 use Rattle.csv_fields.specs.Fields.{byte-if}
 use Rattle.csv_fields.proofs.Fielding.{both, few-one}
 use Rattle.csv_cells.specs.declared.Place.{Place}
-use Rattle.csv_cells.specs.Cells.{start, moved, is-in, cell-byte, cell-from, cell-text}
+use Rattle.csv_cells.specs.Cells.{start, moved, is-in, is-past, cell-byte, cell-from, cell-text}
+use Rattle.csv_cells.proofs.Past.{past-no-bytes}
 use Rattle.csv_cells.proofs.Places.{Within, within-start, within-more}
 
 -- ---- whether a token is a byte of the field
@@ -134,7 +135,14 @@ module _ {r f : ℕ} {csv out : List ℕ} {sep : ℕ} {place : Place} {mode : Mo
   none-left : length csv ≤ i → cell-from r f n place (tokens sep mode (drop i csv)) ≡ []
   none-left h = ap (cell-from r f n place) (last-token sep mode csv i h) ∙ last-none mode
 
+  module _ (none : cell-from r f n place (tokens sep mode (drop i csv)) ≡ []) where
+    celling-all : (n ≡ length (cell-text r f csv)) × ((n ≤ 200) × (now ≡ placed out 0 (cell-text r f csv)))
+    celling-all =
+        let e : n ≡ length (cell-text r f csv) = omega (arith, d .counts, ap length none) in
+        (e, (omega (arith, few-bytes r f csv), writing-end (d .so-far) none))
+
+  pub celling-past : {b : Bool} → b ≡ is-past r f place → b ≡ true → (n ≡ length (cell-text r f csv)) × ((n ≤ 200) × (now ≡ placed out 0 (cell-text r f csv)))
+  celling-past e h = celling-all (past-no-bytes r f n place (tokens sep mode (drop i csv)) (sym e ∙ h))
+
   pub celling-end : length csv ≤ i → (n ≡ length (cell-text r f csv)) × ((n ≤ 200) × (now ≡ placed out 0 (cell-text r f csv)))
-  celling-end h =
-      let e : n ≡ length (cell-text r f csv) = omega (arith, d .counts, ap length (none-left h)) in
-      (e, (omega (arith, few-bytes r f csv), writing-end (d .so-far) (none-left h)))
+  celling-end h = celling-all (none-left h)

@@ -1,5 +1,6 @@
 -- The laws of this crate.
 pub mod Steps
+pub mod Past
 pub mod Places
 pub mod Celling
 pub mod Widths

@@ -1,5 +1,5 @@
 -- The place of each token, one after the other: what is left of the text decides as the whole does.
-use mathlib.Core.Path.{_≡_, refl}
+use mathlib.Core.Path.{_≡_, refl, sym, _∙_}
 use mathlib.Core.List.{List}
 use Prim.Native.Nat.{ℕ, _+_, _≤_, _<_}
 use native.Mathlib.Omega.{arith}
@@ -12,6 +12,7 @@ use Rattle.fleet_reader.proofs.Reading.{mark-inside, next-tokens, last-token}
 use Rattle.csv_cells.specs.declared.Place.{Place}
 use Rattle.csv_cells.specs.Cells.{start, moved, place-from, last-place, line-at, line-from, line-of}
 use Rattle.csv_cells.proofs.Steps.{moved-near}
+use Rattle.csv_cells.proofs.Past.{past-line}
 
 -- after i bytes a place is not far
 pub record Within (csv : List ℕ) (p : Place) (i : ℕ) : Type 0 where
@@ -61,6 +62,9 @@ module _ {r : ℕ} {csv : List ℕ} {sep : ℕ} {p : Place} {m : Mode} {n i : �
   pub lining-more : i < length csv → {s : Step} → s ≡ step sep m (getD csv i 0) → {l : ℕ} → l ≡ line-at r n p → {q : Place} → q ≡ moved p (s .token) → Lining r csv sep q (s .mode) l (i + 1)
   unfolding line-from
   lining-more h {s} es el eq = rw (el, eq) (record { near = within-more (d .near) h (s .token); later = rw (next-tokens sep m csv i h es) at (d .later) })
+
+  pub lining-past : r < p .row → n ≡ line-of r csv
+  lining-past h = sym (past-line r n p (tokens sep m (drop i csv)) h) ∙ d .later
 
   pub lining-end : length csv ≤ i → {l : ℕ} → l ≡ line-at r n p → l ≡ line-of r csv
   unfolding line-from

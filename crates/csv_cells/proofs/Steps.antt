@@ -1,9 +1,9 @@
 -- One step of a place: a law for each way that a function of it can go, and how far it goes.
-use mathlib.Core.Path.{_≡_, _∙_}
+use mathlib.Core.Path.{_≡_, refl, _∙_}
 use mathlib.Core.Bool.{Bool, true, false, cond}
 use Prim.Native.Nat.{ℕ, _+_, _≤_, _<_}
 use native.Mathlib.Omega.{arith}
-use borrow.Author.Tests.{eq-eqb, ne-eqb, lt-ltb, le-ltb}
+use borrow.Author.Tests.{eqb-true, eq-eqb, ne-eqb, lt-ltb, le-ltb}
 use lib.Dec.{ltb, eqb}
 use Rattle.csv_cells.specs.declared.Place.{Place}
 use Rattle.csv_cells.specs.Cells.{faulty, with-text, next-field, row-after, next-line, ended, consumed, moved}
@@ -79,43 +79,56 @@ module _ (p : Place) (k : ℕ) where
   unfolding consumed
   token-wrong h a b c d e = e ∙ rw (le-ltb k 256 h, ne-eqb k 256 a, ne-eqb k 257 b, ne-eqb k 258 c, ne-eqb k 259 d)
 
--- ---- a token goes on by at most one line and one row
+-- ---- a token goes on by at most one line and one row, and neither back by a row nor by a field in its row
 pub record Near (p q : Place) : Type 0 where
   pub lines : q .line ≤ p .line + 1
   pub rows : q .row ≤ p .row + 1
+  pub onward : p .row ≤ q .row
+  pub fields : q .row ≡ p .row → p .field ≤ q .field
 
 either : (p : Place) (b : Bool) (x y : Place) → Near p x → Near p y → Near p (cond b x y)
 either p true x y i j = i
 either p false x y i j = j
 
-one-row : (n : ℕ) (a b : Bool) → cond a (cond b n (n + 1)) (n + 1) ≤ n + 1
-one-row n true true = omega arith
-one-row n true false = omega arith
-one-row n false b = omega arith
+one-row : (n : ℕ) (a b : Bool) → (n ≤ cond a (cond b n (n + 1)) (n + 1)) × (cond a (cond b n (n + 1)) (n + 1) ≤ n + 1)
+one-row n true true = (omega arith, omega arith)
+one-row n true false = (omega arith, omega arith)
+one-row n false b = (omega arith, omega arith)
+
+no-fields : (n f : ℕ) (a b : Bool) → eqb f 0 ≡ a → cond a (cond b n (n + 1)) (n + 1) ≡ n → f ≤ 0
+no-fields n f true b e h = omega (arith, eqb-true f 0 e)
+no-fields n f false b e h = absurd (omega arith)
 
 module _ (p : Place) where
-  beside : (f s k : ℕ) → Near p (record { line = p .line; row = p .row; field = f; size = s; fault = k })
-  beside f s k = record { lines = omega arith; rows = omega arith }
+  beside : (f s k : ℕ) → p .field ≤ f → Near p (record { line = p .line; row = p .row; field = f; size = s; fault = k })
+  beside f s k h = record { lines = omega arith; rows = omega arith; onward = omega arith; fields = λ _. h }
 
-  row-near : row-after p ≤ p .row + 1
+  same : (s k : ℕ) → Near p (record { line = p .line; row = p .row; field = p .field; size = s; fault = k })
+  same s k = beside (p .field) s k (omega arith)
+
+  row-near : (p .row ≤ row-after p) × (row-after p ≤ p .row + 1)
   unfolding row-after
   row-near = one-row (p .row) (eqb (p .field) 0) (eqb (p .size) 0)
 
+  row-kept : row-after p ≡ p .row → p .field ≤ 0
+  unfolding row-after
+  row-kept = no-fields (p .row) (p .field) (eqb (p .field) 0) (eqb (p .size) 0) refl
+
   text-near : Near p (with-text p)
   unfolding with-text
-  text-near = either p (ltb (p .size) 200) _ _ (beside (p .field) (p .size + 1) 0) (beside (p .field) (p .size) 1)
+  text-near = either p (ltb (p .size) 200) _ _ (same (p .size + 1) 0) (same (p .size) 1)
 
   field-near : Near p (next-field p)
   unfolding next-field
-  field-near = either p (ltb (p .field) 64) _ _ (beside (p .field + 1) 0 0) (beside (p .field) (p .size) 4)
+  field-near = either p (ltb (p .field) 64) _ _ (beside (p .field + 1) 0 0 (omega arith)) (same (p .size) 4)
 
   line-near : Near p (next-line p)
   unfolding next-line
-  line-near = record { lines = omega arith; rows = row-near }
+  line-near = record { lines = omega arith; rows = row-near .1; onward = row-near .0; fields = row-kept }
 
   end-near : Near p (ended p)
   unfolding ended
-  end-near = record { lines = omega arith; rows = row-near }
+  end-near = record { lines = omega arith; rows = row-near .1; onward = row-near .0; fields = row-kept }
 
   consumed-near : (k : ℕ) → Near p (consumed p k)
   unfolding consumed
@@ -123,8 +136,8 @@ module _ (p : Place) where
       either p (ltb k 256) _ _ text-near
       (either p (eqb k 256) _ _ field-near
       (either p (eqb k 257) _ _ line-near
-      (either p (eqb k 258) _ _ end-near (either p (eqb k 259) _ _ (beside (p .field) (p .size) (p .fault)) (beside (p .field) (p .size) k)))))
+      (either p (eqb k 258) _ _ end-near (either p (eqb k 259) _ _ (same (p .size) (p .fault)) (same (p .size) k)))))
 
   pub moved-near : (k : ℕ) → Near p (moved p k)
   unfolding moved
-  moved-near k = either p (eqb (p .fault) 0) _ _ (consumed-near k) (beside (p .field) (p .size) (p .fault))
+  moved-near k = either p (eqb (p .fault) 0) _ _ (consumed-near k) (same (p .size) (p .fault))

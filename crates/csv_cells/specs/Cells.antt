@@ -1,6 +1,6 @@
 -- The fields of a CSV by place. A row is a line with bytes, counted from 0, and a field of a row is counted from 0 too. A line without bytes is
 -- passed over. Definitions only.
-use mathlib.Core.Bool.{Bool, false, cond}
+use mathlib.Core.Bool.{Bool, true, false, cond}
 use mathlib.Core.List.{List, [], _∷_, _++_}
 use Prim.Native.Nat.{ℕ, zero, suc, _+_}
 use lib.Dec.{ltb, eqb}
@@ -62,6 +62,10 @@ last-place csv = place-from start (csv-tokens csv)
 
 unfoldable pub is-in : (r f : ℕ) → Place → (k : ℕ) → Bool
 is-in r f p k = cond (ltb k 256) (cond (eqb (moved p k .fault) 0) (cond (eqb (p .row) r) (eqb (p .field) f) false) false) false
+
+-- whether the field is before a place, or there is a fault: none of its bytes is there or after it
+unfoldable pub is-past : (r f : ℕ) → Place → Bool
+is-past r f p = cond (eqb (p .fault) 0) (cond (eqb (p .row) r) (ltb f (p .field)) (ltb r (p .row))) true
 
 abbrev pub cell-byte : (r f m : ℕ) → Place → (k : ℕ) → List ℕ
 cell-byte r f m p k = byte-if (is-in r f p k) m k

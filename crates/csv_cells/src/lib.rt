@@ -6,7 +6,7 @@ ghost use mathlib.Core.Path.{_≡_};
 ghost use Prim.Native.Nat.{_≤_, _<_};
 ghost use lib.ListN.{length};
 ghost use Rattle.card_output.specs.Output.{placed};
-ghost use Rattle.csv_cells.specs.Cells.{start, faulty, with-text, next-field, row-after, next-line, ended, consumed, moved, last-place, is-in, cell-text, line-at, line-of, width};
+ghost use Rattle.csv_cells.specs.Cells.{start, faulty, with-text, next-field, row-after, next-line, ended, consumed, moved, last-place, is-in, is-past, cell-text, line-at, line-of, width};
 use csv::Mode;
 
 // What is wrong, besides the tokens csv::STRAY and csv::OPEN: a field of more than 200 bytes, more than 65 fields in a line.
@@ -189,6 +189,19 @@ fn is_in(row: usize, field: usize, place: Place, token: u32, fault: u32) -> bool
     place.field == field
 }
 
+// Whether no byte of a field is at a place or after it: the field is before the place, or there is a fault.
+fn is_past(row: usize, field: usize, place: Place) -> bool
+    ensures { λ r. ⌜ r ≡ is-past row field place ⌝ }
+{
+    if place.fault != 0 {
+        return true;
+    }
+    if place.row == row {
+        return field < place.field;
+    }
+    row < place.row
+}
+
 // Puts the bytes of a field of a row from the first byte on, at most 200; gives back how many.
 pub fn put_cell(csv: &[u8], row: usize, field: usize, output: &mut [u8]) -> usize
     requires { ⌜ length (now csv) ≤ 200000 ⌝ }
@@ -203,6 +216,9 @@ pub fn put_cell(csv: &[u8], row: usize, field: usize, output: &mut [u8]) -> usiz
     let mut n = 0;
     let mut i = csv::mark_size(csv);
     while i < csv.len() {
+        if is_past(row, field, place) {
+            return n;
+        }
         let step = csv::read_byte(separator, mode, csv[i]);
         let token = step.token;
         let next = place.moved(token);
@@ -236,6 +252,9 @@ pub fn line_of(csv: &[u8], row: usize) -> usize
     let mut line = 0;
     let mut i = csv::mark_size(csv);
     while i < csv.len() {
+        if row < place.row {
+            return line;
+        }
         let step = csv::read_byte(separator, mode, csv[i]);
         line = line_at(row, line, place);
         place = place.moved(step.token);
