@@ -89,6 +89,25 @@ pub cell-bytes : (r f : ℕ) (csv : List ℕ) → all-bytes (cell-text r f csv) 
 unfolding cell-text
 cell-bytes r f csv = bytes-from r f 0 start (csv-tokens csv)
 
+-- ---- no bytes come at the end
+last-none : (r f n : ℕ) (p : Place) (m : Mode) → cell-from r f n p (ending m ∷ []) ≡ []
+unfolding cell-from byte-if
+last-none r f n p m = rw (← in-no-byte r f p (ending m) (large m)) (by (ltb n 200))
+  where
+    large : (m : Mode) → 256 ≤ ending m
+    large Start = omega arith
+    large Plain = omega arith
+    large Quoted = omega arith
+    large Closing = omega arith
+    large Return = omega arith
+
+    by : (b : Bool) → (_++_ {A = ℕ} (cond b [] []) []) ≡ []
+    by true = refl
+    by false = refl
+
+pub no-bytes-left : (r f n sep : ℕ) (p : Place) (m : Mode) (csv : List ℕ) (i : ℕ) → length csv ≤ i → cell-from r f n p (tokens sep m (drop i csv)) ≡ []
+no-bytes-left r f n sep p m csv i h = ap (cell-from r f n p) (last-token sep m csv i h) ∙ last-none r f n p m
+
 -- ---- the text
 pub record Celling (r f : ℕ) (csv out : List ℕ) (sep : ℕ) (place : Place) (mode : Mode) (n i : ℕ) (now : List ℕ) : Type 0 where
   pub near : Within csv place i
@@ -117,24 +136,6 @@ module _ {r f : ℕ} {csv out : List ℕ} {sep : ℕ} {place : Place} {mode : Mo
         so-far = rw (ep, em) (writing-more (d .so-far) x rest q (omega (arith, few-bytes r f csv)) refl en);
       }
 
-  last-none : (m : Mode) → cell-from r f n place (ending m ∷ []) ≡ []
-  unfolding cell-from byte-if
-  last-none m = rw (← in-no-byte r f place (ending m) (large m)) (by (ltb n 200))
-    where
-      large : (m : Mode) → 256 ≤ ending m
-      large Start = omega arith
-      large Plain = omega arith
-      large Quoted = omega arith
-      large Closing = omega arith
-      large Return = omega arith
-
-      by : (b : Bool) → (_++_ {A = ℕ} (cond b [] []) []) ≡ []
-      by true = refl
-      by false = refl
-
-  none-left : length csv ≤ i → cell-from r f n place (tokens sep mode (drop i csv)) ≡ []
-  none-left h = ap (cell-from r f n place) (last-token sep mode csv i h) ∙ last-none mode
-
   module _ (none : cell-from r f n place (tokens sep mode (drop i csv)) ≡ []) where
     celling-all : (n ≡ length (cell-text r f csv)) × ((n ≤ 200) × (now ≡ placed out 0 (cell-text r f csv)))
     celling-all =
@@ -142,7 +143,7 @@ module _ {r f : ℕ} {csv out : List ℕ} {sep : ℕ} {place : Place} {mode : Mo
         (e, (omega (arith, few-bytes r f csv), writing-end (d .so-far) none))
 
   pub celling-past : {b : Bool} → b ≡ is-past r f place → b ≡ true → (n ≡ length (cell-text r f csv)) × ((n ≤ 200) × (now ≡ placed out 0 (cell-text r f csv)))
-  celling-past e h = celling-all (past-no-bytes r f n place (tokens sep mode (drop i csv)) (sym e ∙ h))
+  celling-past e h = celling-all (past-no-bytes r f f n place (tokens sep mode (drop i csv)) (sym e ∙ h) (omega arith))
 
   pub celling-end : length csv ≤ i → (n ≡ length (cell-text r f csv)) × ((n ≤ 200) × (now ≡ placed out 0 (cell-text r f csv)))
-  celling-end h = celling-all (none-left h)
+  celling-end h = celling-all (no-bytes-left r f n sep place mode csv i h)

@@ -76,8 +76,13 @@ unfolding cell-from
 none-from m h [] = refl
 none-from {r} {f} m {p} h (k ∷ ks) = rw (past-none h k, no-byte m k) (none-from (m + 0) (past-moved h k) ks)
 
-pub past-no-bytes : (r f m : ℕ) (p : Place) (ks : List ℕ) → is-past r f p ≡ true → cell-from r f m p ks ≡ []
-past-no-bytes r f m p ks h = none-from m (past r f p h) ks
+-- of the field that is tested, and of those before it
+pub past-no-bytes : (r f g m : ℕ) (p : Place) (ks : List ℕ) → is-past r g p ≡ true → f ≤ g → cell-from r f m p ks ≡ []
+past-no-bytes r f g m p ks h l = none-from m (before (past r g p h)) ks
+  where
+    before : Past r g p → Past r f p
+    before (wrong i) = wrong i
+    before (beyond i j) = beyond i (λ q. omega (arith, j q))
 
 -- ---- a row that is before a place has its line
 pub past-line : (r n : ℕ) (p : Place) (ks : List ℕ) → r < p .row → line-from r n p ks ≡ n

@@ -3,7 +3,7 @@ use mathlib.Core.Path.{_≡_, refl, _∙_}
 use mathlib.Core.Bool.{Bool, true, false, cond}
 use Prim.Native.Nat.{ℕ, _+_, _≤_, _<_}
 use native.Mathlib.Omega.{arith}
-use borrow.Author.Tests.{eqb-true, eq-eqb, ne-eqb, lt-ltb, le-ltb}
+use borrow.Author.Tests.{ltb-true, eqb-true, eq-eqb, ne-eqb, lt-ltb, le-ltb}
 use lib.Dec.{ltb, eqb}
 use Rattle.csv_cells.specs.declared.Place.{Place}
 use Rattle.csv_cells.specs.Cells.{faulty, with-text, next-field, row-after, next-line, ended, consumed, moved}
@@ -141,3 +141,40 @@ module _ (p : Place) where
   pub moved-near : (k : ℕ) → Near p (moved p k)
   unfolding moved
   moved-near k = either p (eqb (p .fault) 0) _ _ (consumed-near k) (same (p .size) (p .fault))
+
+-- ---- at most 64 fields are before a field
+few-either : (b : Bool) (x y : Place) → x .field ≤ 64 → y .field ≤ 64 → cond b x y .field ≤ 64
+few-either true x y i j = i
+few-either false x y i j = j
+
+module _ (p : Place) (h : p .field ≤ 64) where
+  few-text : with-text p .field ≤ 64
+  unfolding with-text
+  few-text = few-either (ltb (p .size) 200) _ _ h h
+
+  few-next : next-field p .field ≤ 64
+  unfolding next-field
+  few-next = by (ltb (p .field) 64) refl
+    where
+      by : (b : Bool) → ltb (p .field) 64 ≡ b → cond b (record { line = p .line; row = p .row; field = p .field + 1; size = 0; fault = 0 }) (faulty p 4) .field ≤ 64
+      by true e = omega (arith, ltb-true (p .field) 64 e)
+      by false e = h
+
+  few-line : next-line p .field ≤ 64
+  unfolding next-line
+  few-line = omega arith
+
+  few-end : ended p .field ≤ 64
+  unfolding ended
+  few-end = omega arith
+
+  few-consumed : (k : ℕ) → consumed p k .field ≤ 64
+  unfolding consumed
+  few-consumed k =
+      few-either (ltb k 256) _ _ few-text
+      (few-either (eqb k 256) _ _ few-next
+      (few-either (eqb k 257) _ _ few-line (few-either (eqb k 258) _ _ few-end (few-either (eqb k 259) _ _ h h))))
+
+  pub few-fields : (k : ℕ) → moved p k .field ≤ 64
+  unfolding moved
+  few-fields k = few-either (eqb (p .fault) 0) _ _ (few-consumed k) h

@@ -99,3 +99,7 @@ width-to (suc n) r csv = cond (eqb (length (cell-text r n csv)) 0) (width-to n r
 
 unfoldable pub width : (r : ℕ) → List ℕ → ℕ
 width r csv = width-to 65 r csv
+
+-- as far as it is known: up to the field of a token that is a byte of the row, else what it was
+abbrev pub width-at : (r n : ℕ) → Place → (k : ℕ) → ℕ
+width-at r n p k = cond (is-in r (p .field) p k) (p .field + 1) n

@@ -6,7 +6,7 @@ ghost use mathlib.Core.Path.{_≡_};
 ghost use Prim.Native.Nat.{_≤_, _<_};
 ghost use lib.ListN.{length};
 ghost use Rattle.card_output.specs.Output.{placed};
-ghost use Rattle.csv_cells.specs.Cells.{start, faulty, with-text, next-field, row-after, next-line, ended, consumed, moved, last-place, is-in, is-past, cell-text, line-at, line-of, width};
+ghost use Rattle.csv_cells.specs.Cells.{start, faulty, with-text, next-field, row-after, next-line, ended, consumed, moved, last-place, is-in, is-past, cell-text, line-at, line-of, width-at, width};
 use csv::Mode;
 
 // What is wrong, besides the tokens csv::STRAY and csv::OPEN: a field of more than 200 bytes, more than 65 fields in a line.
@@ -264,19 +264,41 @@ pub fn line_of(csv: &[u8], row: usize) -> usize
     line_at(row, line, place)
 }
 
+// How many fields a row has as far as it is known: up to the field of a token that is a byte of the row, else what it was. `fault` is that of the
+// place after the token.
+fn width_at(row: usize, n: usize, place: Place, token: u32, fault: u32) -> usize
+    requires { ⌜ fault ≡ moved place token .fault ⌝ }
+    requires { ⌜ place .field ≤ 64 ⌝ }
+    ensures { λ r. ⌜ r ≡ width-at row n place token ⌝ }
+{
+    if is_in(row, place.field, place, token, fault) {
+        return place.field + 1;
+    }
+    n
+}
+
 // How many fields a row has up to the last with bytes.
 pub fn width(csv: &[u8], row: usize) -> usize
     requires { ⌜ length (now csv) ≤ 200000 ⌝ }
     ensures { λ r. ⌜ r ≡ width row (now (csv .entry)) ⌝ }
     ensures { λ r. ⌜ r ≤ 65 ⌝ }
 {
-    let mut bytes = [0u8; 200];
-    let mut n = 65;
-    while 0 < n {
-        if put_cell(csv, row, n - 1, &mut bytes) != 0 {
+    let separator = csv::separator(csv);
+    let mut place = Place::start();
+    let mut mode = Mode::Start;
+    let mut n = 0;
+    let mut i = csv::mark_size(csv);
+    while i < csv.len() {
+        if is_past(row, 64, place) {
             return n;
         }
-        n -= 1;
+        let step = csv::read_byte(separator, mode, csv[i]);
+        let token = step.token;
+        let next = place.moved(token);
+        n = width_at(row, n, place, token, next.fault);
+        place = next;
+        mode = step.mode;
+        i += 1;
     }
-    0
+    n
 }
