@@ -5,6 +5,7 @@ ghost use Prim.Native.Nat.{_≤_};
 ghost use lib.ListN.{take};
 ghost use Rattle.io.specs.Counts.{Counts};
 ghost use Rattle.text.specs.Texts.{text-limit};
+use libc::ENOENT;
 use libc::STDERR_FILENO;
 use libc::STDOUT_FILENO;
 use text::Text;
@@ -32,36 +33,73 @@ fn at_end(fd: i32) -> bool {
     libc::read(fd, &mut more) == 0
 }
 
-// Reads a file into a buffer, and answers how many of its bytes are there. A file that cannot be opened counts as empty.
-// So does one whose reading fails on the way, and standard error then says so.
-// One with more bytes than the buffer fills it.
-pub fn read_file(path: &[u8], buffer: &mut [u8]) -> usize
-    ensures { λ r. ⌜ Counts r (now (buffer .exit)) ⌝ }
+// What was read of a file: whether it was there to be read, and how many of its bytes are in the buffer.
+pub struct Content {
+    pub there: bool,
+    pub len: usize,
+}
+
+// Says on standard error that a file was not opened, by the number that the system then gives.
+fn tell_unopened(path: &[u8]) {
+    if os::errno() == ENOENT {
+        tell(path, b": not found in this folder\n");
+    } else {
+        tell(path, b": could not be opened\n");
+    }
+}
+
+// Reads a file into a buffer. One with more bytes than the buffer fills it. A file that cannot be opened, or whose reading fails on
+// the way, is not there and counts as empty, and standard error says so.
+pub fn content_of(path: &[u8], buffer: &mut [u8]) -> Content
+    ensures { λ r. ⌜ Counts (r .len) (now (buffer .exit)) ⌝ }
 {
     let fd = os::open_read(path);
     if fd < 0 {
-        return 0;
+        tell_unopened(path);
+        return Content {
+            there: false,
+            len: 0,
+        };
     }
     let n = io::read_full(fd, buffer);
     if n < buffer.len() {
         if !at_end(fd) {
             libc::close(fd);
             tell(path, b": could not be read whole\n");
-            return 0;
+            return Content {
+                there: false,
+                len: 0,
+            };
         }
     }
     libc::close(fd);
-    n
+    Content {
+        there: true,
+        len: n,
+    }
 }
 
-// The same of a file in a folder. The current folder has no name.
-pub fn read_in(folder: &[u8], name: &[u8], buffer: &mut [u8]) -> usize
+// The same, for a caller to whom a file that is not there is an empty one: how many of its bytes are in the buffer.
+pub fn read_file(path: &[u8], buffer: &mut [u8]) -> usize
     ensures { λ r. ⌜ Counts r (now (buffer .exit)) ⌝ }
+{
+    content_of(path, buffer).len
+}
+
+// Both of a file in a folder. The current folder has no name.
+pub fn content_in(folder: &[u8], name: &[u8], buffer: &mut [u8]) -> Content
+    ensures { λ r. ⌜ Counts (r .len) (now (buffer .exit)) ⌝ }
 {
     let path = paths::path_in(folder, name);
     let bytes = path.bytes;
     let len = path.len;
-    read_file(first_bytes(&bytes, len), buffer)
+    content_of(first_bytes(&bytes, len), buffer)
+}
+
+pub fn read_in(folder: &[u8], name: &[u8], buffer: &mut [u8]) -> usize
+    ensures { λ r. ⌜ Counts r (now (buffer .exit)) ⌝ }
+{
+    content_in(folder, name, buffer).len
 }
 
 // Writes a new file whole, lets everybody read it, and closes it. Whether all of that was done.
@@ -115,4 +153,10 @@ pub fn print(t: Text)
     if !io::write_all(STDOUT_FILENO, &bytes[..len]) {
         tell(b"standard output", b": could not be written whole\n");
     }
+}
+
+// Writes a text on standard error.
+pub fn tell_text(t: Text) {
+    let bytes = t.bytes;
+    tell(first_bytes(&bytes, t.len), b"");
 }
