@@ -1,59 +1,29 @@
 -- Texts with the parts of a fault's line added.
-use mathlib.Core.Path.{_≡_, refl, sym, _∙_}
+use mathlib.Core.Path.{_≡_, refl, sym}
 use mathlib.Core.Bool.{Bool, true, false, cond}
-use mathlib.Core.List.{List, [], _∷_, map, append-nil}
-use Prim.Native.Nat.{ℕ, zero, suc, _+_, _≤_, _<_}
+use mathlib.Core.List.{List, [], _∷_, map}
+use Prim.Native.Nat.{ℕ, _+_, _≤_, _<_}
 use native.Mathlib.Omega.{arith}
 use borrow.Author.Tests.{eq-eqb, ne-eqb, lt-ltb, le-ltb}
 use lib.Dec.{ltb}
-use lib.ListN.{length, getD, set, take, length-map}
+use lib.ListN.{length, length-map}
 use Rattle.card_output.specs.Output.{placed}
 use Rattle.card_output.proofs.Placing.{placed-nil}
 use Rattle.text.specs.Decimal.{decimal}
 use Rattle.text.specs.Lines.{pair-line}
 use Rattle.text.specs.Texts.{text-limit, Holds, Adds}
 use Rattle.text.specs.declared.Text.{Text}
-use Rattle.text.proofs.Texts.{Copied, copied-start, copied-more, copied-end, adds-both, adds-to-empty}
+use Rattle.text.proofs.Texts.{adds-both, adds-to-empty}
+use Rattle.line_parts.specs.Parts.{COLON, COLUMN, RANGE-WORDS, shown, part}
+use Rattle.line_parts.proofs.Parts.{nothing-added}
 use Rattle.csv_fields.specs.Fields.{field-text}
 use Rattle.csv_fields.proofs.Fielding.{few-bytes}
 use Rattle.csv_front.specs.declared.Front.{Front}
 use Rattle.csv_front.specs.declared.Front.the-variants.{Whole, Names, Nothing}
 use Rattle.csv_book.specs.declared.Made.{Made}
-use Rattle.fault_text.specs.Faults.{FILE, COLON, COLUMN, UNNAMED, MORE-THAN, VALUES, OF, NOT-WHOLE-WORDS, RANGE-WORDS, LONG-WORDS, NO-COLUMN, NO-BOAT, BOAT-UNNAMED, COLUMNS-WORDS, BOATS-WORDS, BIG-WORDS, ROOM-WORDS, STRAY-WORDS, OPEN-WORDS, NONE-WORDS, shown, part, place, other-words, plain-words, few-words, unnamed-words, many-words, words, looked, wants-boat, wants-column, wants-value, fault-line, fleet-fault, FLEET, front-line, book-lines}
-
--- ---- a name as one line shows it
-getD-shown : (s : List ℕ) (i : ℕ) → i < length s → getD (map shown s) i 0 ≡ shown (getD s i 0)
-getD-shown [] i h = absurd (omega arith)
-getD-shown (x ∷ s) zero h = refl
-getD-shown (x ∷ s) (suc i) h = getD-shown s i (omega arith)
-
-pub shown-start : (s : List ℕ) {old : List ℕ} {at : ℕ} → at + length s ≤ text-limit → length old ≡ text-limit → Copied (map shown s) at old old 0
-shown-start s r l = copied-start (rw (length-map s shown) r) l
-
-module _ (s : List ℕ) {old new : List ℕ} {at i : ℕ} (d : Copied (map shown s) at old new i) where
-  pub shown-inside : i < length s → at + i < text-limit
-  shown-inside h = omega (arith, d .room, length-map s shown)
-
-  pub shown-more : i < length s → {x : ℕ} → x ≡ shown (getD s i 0) → Copied (map shown s) at old (set new (at + i) x) (i + 1)
-  shown-more h e = rw (e ∙ sym (getD-shown s i h)) (copied-more d (rw (length-map s shown) h))
-
-pub shown-end : {t : Text} (s : List ℕ) {new : List ℕ} {i : ℕ} → Copied (map shown s) (t .len) (t .bytes) new i → length s ≤ i → Adds t (map shown s) (record { bytes = new; len = t .len + i })
-shown-end {t} s d h = copied-end d (rw (length-map s shown) h)
-
--- ---- nothing added
-nothing-added : (t : Text) → t .len ≤ text-limit → Adds t [] t
-nothing-added t h = record { fits = h; length-is = omega arith; bytes-are = sym (append-nil (take (t .len) (t .bytes))); rest = refl }
+use Rattle.fault_text.specs.Faults.{FILE, UNNAMED, MORE-THAN, VALUES, OF, NOT-WHOLE-WORDS, LONG-WORDS, NO-COLUMN, NO-BOAT, BOAT-UNNAMED, COLUMNS-WORDS, BOATS-WORDS, BIG-WORDS, ROOM-WORDS, STRAY-WORDS, OPEN-WORDS, NONE-WORDS, place, other-words, plain-words, few-words, unnamed-words, many-words, words, looked, wants-boat, wants-column, wants-value, fault-line, fleet-fault, FLEET, front-line, book-lines}
 
 -- ---- the place
-module _ {t : Text} (s : List ℕ) where
-  pub part-none : length s ≡ 0 → t .len + length s + 2 ≤ text-limit → (Adds t (part s) t) × (t .len ≤ t .len + length s + 2)
-  unfolding part
-  part-none e h = rw (eq-eqb (length s) 0 e) (nothing-added t (omega arith), omega arith)
-
-  pub part-some : (length s ≡ 0 → ⊥) → {a r : Text} → Adds t (44 ∷ 32 ∷ []) a → Adds a (map shown s) r → (Adds t (part s) r) × (r .len ≤ t .len + length s + 2)
-  unfolding part
-  part-some n p q = rw (ne-eqb (length s) 0 n) (adds-both p q, omega (arith, p .length-is, q .length-is, length-map s shown))
-
 module _ {t : Text} (l : ℕ) where
   pub place-none : l ≡ 0 → t .len + 26 ≤ text-limit → (Adds t (place l) t) × (t .len ≤ t .len + 26)
   unfolding place

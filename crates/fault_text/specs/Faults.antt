@@ -6,6 +6,7 @@ use lib.Dec.{ltb, eqb}
 use lib.ListN.{length}
 use Rattle.text.specs.Decimal.{decimal}
 use Rattle.text.specs.Lines.{pair-line}
+use Rattle.line_parts.specs.Parts.{COLON, COLUMN, RANGE-WORDS, shown, part}
 use Rattle.csv_fields.specs.Fields.{field-text}
 use Rattle.csv_front.specs.declared.Front.{Front}
 use Rattle.csv_front.specs.declared.Front.the-variants.{Whole, Names, Nothing}
@@ -20,18 +21,6 @@ FILE = 102 ∷ 108 ∷ 101 ∷ 101 ∷ 116 ∷ 46 ∷ 99 ∷ 115 ∷ 118 ∷ []
 -- " line "
 abbrev pub AT-LINE : List ℕ
 AT-LINE = 32 ∷ 108 ∷ 105 ∷ 110 ∷ 101 ∷ 32 ∷ []
-
--- ", "
-abbrev pub THEN : List ℕ
-THEN = 44 ∷ 32 ∷ []
-
--- ": "
-abbrev pub COLON : List ℕ
-COLON = 58 ∷ 32 ∷ []
-
--- "column "
-abbrev pub COLUMN : List ℕ
-COLUMN = 99 ∷ 111 ∷ 108 ∷ 117 ∷ 109 ∷ 110 ∷ 32 ∷ []
 
 -- " has no name"
 abbrev pub UNNAMED : List ℕ
@@ -52,10 +41,6 @@ OF = 32 ∷ 111 ∷ 102 ∷ 32 ∷ []
 -- " is not a whole number"
 abbrev pub NOT-WHOLE-WORDS : List ℕ
 NOT-WHOLE-WORDS = 32 ∷ 105 ∷ 115 ∷ 32 ∷ 110 ∷ 111 ∷ 116 ∷ 32 ∷ 97 ∷ 32 ∷ 119 ∷ 104 ∷ 111 ∷ 108 ∷ 101 ∷ 32 ∷ 110 ∷ 117 ∷ 109 ∷ 98 ∷ 101 ∷ 114 ∷ []
-
--- " is not from -2000 to 2000"
-abbrev pub RANGE-WORDS : List ℕ
-RANGE-WORDS = 32 ∷ 105 ∷ 115 ∷ 32 ∷ 110 ∷ 111 ∷ 116 ∷ 32 ∷ 102 ∷ 114 ∷ 111 ∷ 109 ∷ 32 ∷ 45 ∷ 50 ∷ 48 ∷ 48 ∷ 48 ∷ 32 ∷ 116 ∷ 111 ∷ 32 ∷ 50 ∷ 48 ∷ 48 ∷ 48 ∷ []
 
 -- "a field of more than 200 bytes"
 abbrev pub LONG-WORDS : List ℕ
@@ -102,13 +87,6 @@ abbrev pub NONE-WORDS : List ℕ
 NONE-WORDS = 110 ∷ 111 ∷ 32 ∷ 102 ∷ 97 ∷ 117 ∷ 108 ∷ 116 ∷ []
 
 -- ---- the place
-
--- a name as one line shows it: a space for each byte below 32
-abbrev pub shown : ℕ → ℕ
-shown b = cond (ltb b 32) 32 b
-
-unfoldable pub part : List ℕ → List ℕ
-part name = cond (eqb (length name) 0) [] (THEN ++ map shown name)
 
 unfoldable pub place : (line : ℕ) → List ℕ
 place l = cond (eqb l 0) [] (AT-LINE ++ decimal l)

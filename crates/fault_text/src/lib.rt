@@ -2,53 +2,14 @@
 //
 // Entries, which ask nothing of their caller: fleet_fault, book_lines.
 ghost use mathlib.Core.Path.{_≡_};
-ghost use mathlib.Core.List.{map};
 ghost use Prim.Native.Nat.{_+_, _≤_};
 ghost use lib.ListN.{length};
 ghost use Rattle.card_output.specs.Output.{placed};
 ghost use Rattle.text.specs.Texts.{text-limit, Holds, Adds};
-ghost use Rattle.fault_text.specs.Faults.{shown, part, place, other-words, plain-words, few-words, unnamed-words, many-words, words, looked, wants-boat, wants-column, wants-value, fault-line, fleet-fault, front-line, book-lines};
+ghost use Rattle.fault_text.specs.Faults.{place, other-words, plain-words, few-words, unnamed-words, many-words, words, looked, wants-boat, wants-column, wants-value, fault-line, fleet-fault, front-line, book-lines};
 use csv_book::Made;
 use csv_front::Front;
 use text::Text;
-
-// A byte as one line shows it: a space for one below 32.
-fn shown(b: u8) -> u8
-    ensures { λ r. ⌜ r ≡ shown b ⌝ }
-{
-    if b < 32 { 32 } else { b }
-}
-
-// The text followed by a name, as one line shows it.
-fn with_shown(text: Text, name: &[u8]) -> Text
-    requires { ⌜ text .len + length (now name) ≤ text-limit ⌝ }
-    ensures { λ r. ⌜ Adds text (map shown (now (name .entry))) r ⌝ }
-{
-    let start = text.len;
-    let mut bytes = text.bytes;
-    let mut i = 0;
-    while i < name.len() {
-        bytes[start + i] = shown(name[i]);
-        i += 1;
-    }
-    Text {
-        bytes,
-        len: start + i,
-    }
-}
-
-// The text followed by a comma and a name, where there is one.
-fn with_part(text: Text, name: &[u8]) -> Text
-    requires { ⌜ text .len + length (now name) + 2 ≤ text-limit ⌝ }
-    ensures { λ r. ⌜ Adds text (part (now (name .entry))) r ⌝ }
-    ensures { λ r. ⌜ r .len ≤ text .len + length (now (name .entry)) + 2 ⌝ }
-{
-    if name.len() == 0 {
-        return text;
-    }
-    let begun = text.with_bytes(b", ");
-    with_shown(begun, name)
-}
 
 // The text followed by the number of a line, where there is one.
 fn with_place(text: Text, line: usize) -> Text
@@ -152,10 +113,10 @@ fn with_words(text: Text, fault: u32, field: usize, columns: usize, value: &[u8]
     ensures { λ r. ⌜ r .len ≤ text .len + length (now (value .entry)) + 60 ⌝ }
 {
     if fault == 6 {
-        return with_shown(text, value).with_bytes(b" is not a whole number");
+        return line_parts::with_shown(text, value).with_bytes(b" is not a whole number");
     }
     if fault == 7 {
-        return with_shown(text, value).with_bytes(b" is not from -2000 to 2000");
+        return line_parts::with_shown(text, value).with_bytes(b" is not from -2000 to 2000");
     }
     if fault == 5 {
         return with_few(text, field, columns);
@@ -236,8 +197,8 @@ fn line_of(made: Made, boat: &[u8], column: &[u8], value: &[u8]) -> Text
     let empty = Text::empty();
     let begun = empty.with_bytes(b"fleet.csv");
     let placed = with_place(begun, made.line);
-    let named = with_part(placed, boat);
-    let whole = with_part(named, column);
+    let named = line_parts::with_part(placed, boat);
+    let whole = line_parts::with_part(named, column);
     let told = whole.with_bytes(b": ");
     let said = with_words(told, made.fault, made.field, made.columns, value);
     said.with_bytes(b"\n")

@@ -2,7 +2,7 @@
 use borrow.Author.Needs.{needs}
 use native.Mathlib.Omega.{arith}
 use lib.ListN.{length-map}
-use Rattle.fault_text.specs.Faults.{shown}
+use Rattle.line_parts.specs.Parts.{shown}
 use Rattle.fault_text.proofs.Lines.{words-6, words-7, words-5, words-2-names, words-2, words-4-names, words-4, words-other}
 use Rattle.fault_text.proofs.with_words.Statement.{statement}
 use Rattle.fault_text.proofs.with_words.Tie as tie

@@ -1,7 +1,7 @@
--- `fault_text::shown` meets its contract.
+-- `line_parts::shown` meets its contract.
 use borrow.Author.Tests.{lt-ltb, le-ltb}
-use Rattle.fault_text.proofs.shown.Statement.{statement}
-use Rattle.fault_text.proofs.shown.Tie as tie
+use Rattle.line_parts.proofs.shown.Statement.{statement}
+use Rattle.line_parts.proofs.shown.Tie as tie
 
 returns : tie.Need-returns
 returns c = simp (lt-ltb _ _ (c .if1 .taken))

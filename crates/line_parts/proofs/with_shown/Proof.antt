@@ -1,14 +1,14 @@
--- `fault_text::with_shown` meets its contract.
+-- `line_parts::with_shown` meets its contract.
 use borrow.Author.Needs.{needs}
 use mathlib.Core.List.{map}
 use Prim.Native.Nat.{_-_}
 use lib.ListN.{length}
 use Rattle.text.proofs.Texts.{Copied}
-use Rattle.fault_text.specs.Faults.{shown}
-use Rattle.fault_text.proofs.Lines.{shown-start, shown-inside, shown-more, shown-end}
+use Rattle.line_parts.specs.Parts.{shown}
+use Rattle.line_parts.proofs.Parts.{shown-start, shown-inside, shown-more, shown-end}
 use native.Mathlib.Omega.{arith}
-use Rattle.fault_text.proofs.with_shown.Statement.{statement}
-use Rattle.fault_text.proofs.with_shown.Tie as tie
+use Rattle.line_parts.proofs.with_shown.Statement.{statement}
+use Rattle.line_parts.proofs.with_shown.Tie as tie
 
 abbrev Inv-loop : tie.InvT-loop
 Inv-loop name start bytes₀ i₀ bytes i = Copied (map shown name) start bytes₀ bytes i

@@ -1,8 +1,8 @@
--- `fault_text::with_part` meets its contract.
+-- `line_parts::with_part` meets its contract.
 use borrow.Author.Needs.{needs}
-use Rattle.fault_text.proofs.Lines.{part-none, part-some}
-use Rattle.fault_text.proofs.with_part.Statement.{statement}
-use Rattle.fault_text.proofs.with_part.Tie as tie
+use Rattle.line_parts.proofs.Parts.{part-none, part-some}
+use Rattle.line_parts.proofs.with_part.Statement.{statement}
+use Rattle.line_parts.proofs.with_part.Tie as tie
 
 returns : tie.Need-returns
 returns c = part-none _ (c .if1 .taken) (c .before .before .pre)
