@@ -1,0 +1,144 @@
+-- `refusal_details::value_line` meets its contract.
+use mathlib.Core.Path.{_≡_}
+use Prim.Native.Nat.{_≤_, _<_, _*_, _/_, _%_}
+use native.Mathlib.Nat.{div-le-self, mod-le}
+use native.Mathlib.Omega.{arith}
+use lib.ListN.{length}
+use Rattle.files.specs.Book.{boats, columns}
+use Rattle.refusal_details.specs.Details.{book-values}
+use Rattle.refusal_details.proofs.Refused.{book-out, book-found}
+use Rattle.refusal_details.proofs.Scan.{Out-at}
+use Rattle.refusal_details.proofs.Lines.{few-names, value-told}
+use borrow.Author.Needs.{needs}
+use Rattle.refusal_details.proofs.value_line.Statement.{statement}
+use Rattle.refusal_details.proofs.value_line.Tie as tie
+
+product : (c : tie.After-boats) → (let b = c .before .before .before .before .before .args .book .now in c .boats .result * c .before .before .columns .result ≡ boats b * columns b)
+product c = rw (c .boats .ensures, c .before .before .columns .ensures .0)
+
+found : (c : tie.After-first-out) → (let b = c .before .before .before .before .before .before .args .book .now in Out-at (book-values b) b (c .before .before .before .before .book-body .result) (c .first-out .result))
+found c =
+    let at-columns = c .before .before .before in
+    book-found _ (at-columns .before .before .before .pre) (at-columns .before .book-body .ensures) (c .before .boats .ensures) (at-columns .columns .ensures .0) (c .first-out .ensures)
+
+front-few : (c : tie.After-first-out) → length (c .before .before .names-csv .result .now) ≤ 200000
+front-few c = rw (c .before .before .names-csv .ensures) (omega (arith, few-names (c .before .before .before .before .before .before .args .book .now), found c .few))
+
+some-columns : (c : tie.After-first-out) → 0 < c .before .before .before .columns .result
+some-columns c = omega (arith, c .before .before .before .columns .ensures .0, book-out _ (c .before .before .before .before .before .before .pre) .some-columns)
+
+small-boat : (c : tie.After-first-out) → c .first-out .result / c .before .before .before .columns .result < 65536
+small-boat c = let o = found c in omega (arith, div-le-self (c .first-out .result) (c .before .before .before .columns .result), o .inside, o .few)
+
+small-column : (c : tie.After-first-out) → c .first-out .result % c .before .before .before .columns .result < 65536
+small-column c = let o = found c in omega (arith, mod-le (c .first-out .result) (c .before .before .before .columns .result), o .inside, o .few)
+
+book-body-requires : tie.Need-book-body-requires
+book-body-requires c κs = book-out _ (c .before .pre) .whole
+
+columns-requires : tie.Need-columns-requires
+columns-requires c κs = book-out _ (c .before .before .pre) .at-least
+
+names-csv-requires : tie.Need-names-csv-requires
+names-csv-requires c κs = let o = book-out _ (c .before .before .before .pre) in (o .whole, (o .at-most, o .some-columns))
+
+boats-requires : tie.Need-boats-requires
+boats-requires c κs = book-out _ (c .before .before .before .before .pre) .at-least
+
+mul-first-out : tie.Need-mul-first-out
+mul-first-out c =
+    let o = book-out _ (c .before .before .before .before .before .pre) in
+    omega (arith, product c, o .whole, o .at-most)
+
+first-out-requires : tie.Need-first-out-requires
+first-out-requires c κs =
+    let o = book-out _ (c .before .before .before .before .before .pre) in
+    omega (arith, product c, c .before .before .before .book-body .ensures, o .whole)
+
+div-i : tie.Need-div-i
+div-i c = some-columns c
+
+rem-j : tie.Need-rem-j
+rem-j c = some-columns c
+
+empty-requires : tie.Need-empty-requires
+empty-requires c κs = search needs
+
+slice-aggregate-with-bytes : tie.Need-slice-aggregate-with-bytes
+slice-aggregate-with-bytes c = search needs
+
+with-bytes-requires : tie.Need-with-bytes-requires
+with-bytes-requires c κs = search needs
+
+first-boat-requires : tie.Need-first-boat-requires
+first-boat-requires c κs = front-few (c .before .before .before)
+
+add-row : tie.Need-add-row
+add-row c = omega (arith, c .first-boat .ensures .1, small-boat (c .before .before .before .before))
+
+slice-aggregate-with-called : tie.Need-slice-aggregate-with-called
+slice-aggregate-with-called c = search needs
+
+with-called-requires : tie.Need-with-called-requires
+with-called-requires c κs = let at-first = c .before .before .before .before .before in (search needs, (front-few at-first, (omega arith, small-boat at-first)))
+
+add-with-called : tie.Need-add-with-called
+add-with-called c = omega (arith, small-column (c .before .before .before .before .before .before))
+
+slice-aggregate-with-called-2 : tie.Need-slice-aggregate-with-called-2
+slice-aggregate-with-called-2 c = search needs
+
+with-called-requires-2 : tie.Need-with-called-requires-2
+with-called-requires-2 c κs =
+    let at-first = c .before .before .before .before .before .before .before in
+    let at-begun = c .before .before .before .before in
+    (omega (arith, c .before .with-called .ensures .1, at-begun .with-bytes .ensures .length-is, at-begun .before .before .empty .ensures .length-is), (front-few at-first, (omega arith, small-column at-first)))
+
+mul-u16-at : tie.Need-mul-u16-at
+mul-u16-at c = let o = found (c .before .before .before .before .before .before .before .before) in omega (arith, o .inside, o .few)
+
+add-u16-at : tie.Need-add-u16-at
+add-u16-at c = let o = found (c .before .before .before .before .before .before .before .before) in omega (arith, o .inside, o .few)
+
+u16-at-requires : tie.Need-u16-at-requires
+u16-at-requires c κs = omega (arith, found (c .before .before .before .before .before .before .before .before) .inside)
+
+with-out-requires : tie.Need-with-out-requires
+with-out-requires c κs = search needs
+
+returns : tie.Need-returns
+returns c =
+    let at-boat = c .before .before .before .before in
+    let at-begun = at-boat .before .before .before in
+    let at-first = at-begun .before .before .before in
+    let at-columns = at-first .before .before .before in
+    value-told _ (at-first .before .before .names-csv .ensures) (at-columns .columns .ensures .0) (found at-first) (at-boat .before .before .first-boat .ensures .0) (c .before .u16-at .ensures .0)
+    (at-begun .before .before .empty .ensures) (at-begun .with-bytes .ensures) (at-boat .with-called .ensures .0) (c .before .before .with-called2 .ensures .0) (c .with-out .ensures)
+
+pub value-line-spec : {M : Type 1} → statement M
+value-line-spec =
+    tie.close
+    (tie.spec
+    book-body-requires
+    columns-requires
+    names-csv-requires
+    boats-requires
+    mul-first-out
+    first-out-requires
+    div-i
+    rem-j
+    empty-requires
+    slice-aggregate-with-bytes
+    with-bytes-requires
+    first-boat-requires
+    add-row
+    slice-aggregate-with-called
+    with-called-requires
+    add-with-called
+    slice-aggregate-with-called-2
+    with-called-requires-2
+    mul-u16-at
+    add-u16-at
+    u16-at-requires
+    with-out-requires
+    returns)
