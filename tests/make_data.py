@@ -11,6 +11,7 @@ sys.path.insert(0, HERE)
 from exact import make_book, make_card, make_sheet, true_card, write_card  # noqa: E402
 from generator import Draws, draw_row  # noqa: E402
 import csv_books  # noqa: E402
+import details  # noqa: E402
 import pairs  # noqa: E402
 
 CRATES = os.path.join(HERE, "..", "crates")
@@ -166,6 +167,7 @@ def main():
                             for name, content in ((book, rows), (card + ".wsh", sheet))}
     data["test_book"] = {os.path.join(name, file): content for name, files in csv_books.FOLDERS.items() for file, content in files.items()}
     data["test_book"]["cases.dat"] = csv_books.file_of(csv_books.cases())
+    data["test_details"] = {"cases.dat": details.file_of(details.cases())}
     data["test_program"] = {os.path.join(name, file): content for name, files in FOLDERS.items() for file, content in files.items()}
     for crate, files in data.items():
         for name, content in files.items():
