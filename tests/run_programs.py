@@ -13,6 +13,7 @@ import tempfile
 HERE = os.path.dirname(os.path.abspath(__file__))
 sys.path.insert(0, HERE)
 import csv_books  # noqa: E402
+import details  # noqa: E402
 import exact  # noqa: E402
 
 P = [[0, 0], [4, 0], [0, 4]]
@@ -22,6 +23,8 @@ SPENT = exact.make_sheet([1, 1], steps=2, tolerance=1)
 NO_STEPS = exact.make_sheet([1, 1], steps=0, tolerance=1)
 FACTORS = exact.make_sheet([1, 1], steps=2, tolerance=1, factors=[1, 2])
 NO_FACTORS = exact.make_sheet([1, 1], steps=2, tolerance=1, factors=[0, 0])
+NAMED = b"boat,length,beam\nAlka 12,0,0\n\"Eider, II\",4,2500\nJura,0,4\n"
+WRONG_BOOK = exact.make_book([[0, 0], [4, 2500], [0, 4]], NAMED)
 FOLDER = None  # stands for a folder in the place of a file
 MIXREPORT = os.path.join(HERE, "..", "report", "mixreport")
 
@@ -42,6 +45,11 @@ FILES = [
     ("sheet of 40,001 bytes", {"fleet.wbk": BOOK, "sheet.wsh": SHEET.rjust(40001, b"x")}),
     ("book a folder", {"fleet.wbk": FOLDER, "sheet.wsh": SHEET}),
     ("sheet a folder", {"fleet.wbk": BOOK, "sheet.wsh": FOLDER}),
+    ("value of the book out of range", {"fleet.wbk": WRONG_BOOK, "sheet.wsh": SHEET}),
+    ("value of a book without names out of range", {"fleet.wbk": exact.make_book([[0, 0], [4, 2500], [0, 4]]), "sheet.wsh": SHEET}),
+    ("value of the sheet out of range", {"fleet.wbk": exact.make_book(P, NAMED), "sheet.wsh": exact.make_sheet([1, -2001], steps=9, tolerance=1)}),
+    ("other columns", {"fleet.wbk": exact.make_book(P, NAMED), "sheet.wsh": exact.make_sheet([1], steps=9, tolerance=1)}),
+    ("value out of range, no sheet", {"fleet.wbk": WRONG_BOOK}),
 ]
 
 
@@ -102,10 +110,31 @@ class Runs:
             print("FAILED: " + name)
 
 
-def unread(files):
-    """What standard error says of files that cannot be read."""
-    return b"".join(name.encode() + b": could not be read whole\n"
-                    for name in ("fleet.wbk", "sheet.wsh", "card.wcd", "first.wcd", "second.wcd") if name in files and files[name] is FOLDER)
+# The files that each program reads, in its order, and the one that it files.
+READ = {
+    "mixlist": ("fleet.wbk", "sheet.wsh"),
+    "mixcard": ("fleet.wbk", "sheet.wsh"),
+    "mixcheck": ("fleet.wbk", "sheet.wsh", "card.wcd"),
+    "mixbetter": ("fleet.wbk", "sheet.wsh", "first.wcd", "second.wcd"),
+    "mixbook": ("fleet.csv",),
+}
+FILED = {"mixcard": "card.wcd", "mixbetter": "better.wcd"}
+
+
+def told(program, files, refused=False, folder=""):
+    """What standard error says of files that are not there or cannot be read, of a refusal, and of an older file that stays."""
+    lines = []
+    for name in READ[program]:
+        if name not in files:
+            lines.append((folder + name).encode() + b": not found in this folder\n")
+        elif files[name] is FOLDER:
+            lines.append((folder + name).encode() + b": could not be read whole\n")
+    if program != "mixbook":
+        book, sheet = content(files, "fleet.wbk"), content(files, "sheet.wsh")
+        lines.append(details.detail(book, sheet, exact.files_refusal(book, sheet)))
+    if refused and program in FILED:
+        lines.append((folder + FILED[program]).encode() + b" is as it was\n")
+    return b"".join(lines)
 
 
 def check_output(program, files, runs):
@@ -121,7 +150,7 @@ def check_mixlist(program, runs):
         out, err, left = run(program, files)
         runs.expect("mixlist, " + name,
                     out == exact.listing(content(files, "fleet.wbk"), content(files, "sheet.wsh"))
-                    and err == unread(files) and left == files)
+                    and err == told("mixlist", files) and left == files)
 
 
 def check_mixcard(program, runs):
@@ -131,10 +160,8 @@ def check_mixcard(program, runs):
             book, sheet = content(files, "fleet.wbk"), content(files, "sheet.wsh")
             refusal, _, length, written = exact.write_card(book, sheet, bytes(1060))
             after = dict(before)
-            faults = unread(files)
-            if refusal:
-                faults += b"card.wcd: not written, the search is refused\n"
-            else:
+            faults = told("mixcard", files, refusal != 0)
+            if not refusal:
                 after["card.wcd"] = written[:length]
             out, err, left = run(program, before)
             runs.expect("mixcard, %s, %s" % (name, older), (out, err, left) == (exact.listing(book, sheet), faults, after))
@@ -168,7 +195,7 @@ def card_folders(names):
 def check_mixcheck(program, runs):
     for name, before, listing in card_folders([name for name, _ in FILES]):
         out, err, left = run(program, before)
-        runs.expect("mixcheck, " + name, (out, err, left) == (listing, unread(before), before))
+        runs.expect("mixcheck, " + name, (out, err, left) == (listing, told("mixcheck", before), before))
 
 
 def check_report(program, runs):
@@ -190,7 +217,7 @@ def check_mixbetter(program, runs):
     nearer = exact.true_card(BOOK, sheet, [2, 2, 2], 3, front=b"front")
     cards = [("farther", farther), ("nearer", nearer), ("none", None), ("empty", b""), ("a folder", FOLDER),
              ("40,000 bytes", nearer.rjust(40000, b"x")), ("40,001 bytes", nearer.rjust(40001, b"x")), ("cut", nearer[:-1])]
-    for name, book in (("its book", BOOK), ("no book", b""), ("book of 40,001 bytes", BOOK.rjust(40001, b"x"))):
+    for name, book in (("its book", BOOK), ("no book", b""), ("book of 40,001 bytes", BOOK.rjust(40001, b"x")), ("a value out of range", WRONG_BOOK)):
         for first_name, first in cards:
             for second_name, second in cards:
                 before = {"fleet.wbk": book, "sheet.wsh": sheet, "better.wcd": b"older card"}
@@ -198,7 +225,7 @@ def check_mixbetter(program, runs):
                                if card_name != "none"})
                 four = [content(before, file) for file in ("fleet.wbk", "sheet.wsh", "first.wcd", "second.wcd")]
                 refusal, part = exact.better_part(*four)
-                faults = unread(before) + (b"better.wcd: not written, a file is refused\n" if refusal else b"")
+                faults = told("mixbetter", before, refusal != 0)
                 after = before if refusal else dict(before, **{"better.wcd": part})
                 runs.expect("mixbetter, %s, %s, %s" % (name, first_name, second_name),
                             run(program, before) == (exact.better_listing(*four), faults, after))
@@ -221,8 +248,8 @@ def check_mixbook(program, runs):
     long = csv_books.YARD.ljust(200001, b"\n")
     for name, before, fault in (("200,001 bytes", {"fleet.csv": long}, b"fleet.csv: more than 200000 bytes\n"),
                                 ("300,000 bytes", {"fleet.csv": long.ljust(300000, b"\n")}, b"fleet.csv: more than 200000 bytes\n"),
-                                ("no CSV", {"fleet.wbk": BOOK}, b"fleet.csv line 1: no boat\n"),
-                                ("CSV a folder", {"fleet.csv": FOLDER}, b"fleet.csv: could not be read whole\nfleet.csv line 1: no boat\n")):
+                                ("no CSV", {"fleet.wbk": BOOK}, told("mixbook", {})),
+                                ("CSV a folder", {"fleet.csv": FOLDER}, told("mixbook", {"fleet.csv": FOLDER}))):
         runs.expect("mixbook, " + name, run(program, before) == (b"", fault, before))
     before = {"fleet.csv": csv_books.YARD, "fleet.wbk": b"older book"}
     runs.expect("mixbook, no room", run(program, before, read_only=True) == (b"", b"fleet.wbk: could not be written\n", before))
@@ -245,7 +272,10 @@ def check_arguments(name, program, files, runs):
     inside = run(program, {}, arguments=("there",), folders={"there": files})
     runs.expect("%s of a folder" % name, inside[0] == out and inside[1] == err and inside[2] == {"there": left})
     outside = run(program, files, arguments=("missing",))
-    runs.expect("%s of a folder that is missing" % name, outside[2] == files and b"usage" not in outside[1])
+    runs.expect("%s of a folder that is missing" % name, outside[1:] == (told(name, {}, True, "missing/"), files))
+    # a file in the place of the folder
+    inside = run(program, files, arguments=("sheet.wsh",))
+    runs.expect("%s of a file" % name, inside[1:] == (told(name, {}, True, "sheet.wsh/").replace(b"not found in this folder", b"could not be opened"), files))
 
 
 def main(arguments):

@@ -5,7 +5,7 @@
 // Files a card under this path unless something was refused; what is in the way goes to standard error. Whether there is a listing to print.
 fn file(path: &[u8], part: &[u8], refusal: u32) -> bool {
     if refusal != 0 {
-        file_io::tell(path, b": not written, a file is refused\n");
+        file_io::tell(path, b" is as it was\n");
         return true;
     }
     if file_io::replace_file(path, part) {
@@ -17,7 +17,7 @@ fn file(path: &[u8], part: &[u8], refusal: u32) -> bool {
 
 // Files the better of first.wcd and second.wcd, for fleet.wbk and sheet.wsh of a folder, there as better.wcd without front text, and
 // prints its listing. The current folder has no name. Where a file is refused or the card cannot be written, an older better.wcd
-// stays as it was, and standard error says so.
+// stays as it was, and standard error says so, with what is known of a refusal of the book or the sheet.
 pub fn file_better(folder: &[u8]) {
     let mut book = [0u8; 40001];
     let mut sheet = [0u8; 40001];
@@ -27,6 +27,7 @@ pub fn file_better(folder: &[u8]) {
     let m = file_io::read_in(folder, b"sheet.wsh", &mut sheet);
     let k = file_io::read_in(folder, b"first.wcd", &mut first);
     let l = file_io::read_in(folder, b"second.wcd", &mut second);
+    refusal_output::tell_detail(&book[..n], &sheet[..m]);
     let chosen = better_listing::better_text(&book[..n], &sheet[..m], &first[..k], &second[..l]);
     let choice = chosen.choice;
     let part = better_card::part_of(&first[..k], &second[..l], choice);

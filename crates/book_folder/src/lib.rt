@@ -1,6 +1,5 @@
 // The work of mixbook, in a folder that the caller names. What the system reads and writes no contract can say; test_book holds what is
 // printed and filed to the reference.
-use csv_book::Made;
 
 // Files a book under this path; what is in the way goes to standard error. Whether it stands there.
 fn file(path: &[u8], output: &[u8; 40000], len: usize) -> bool {
@@ -11,23 +10,20 @@ fn file(path: &[u8], output: &[u8; 40000], len: usize) -> bool {
     false
 }
 
-// Says on standard error what is wrong with a CSV, and that an older book stays.
-fn tell_fault(csv: &[u8], made: Made) {
-    let text = fault_text::fleet_fault(csv, made);
-    let bytes = text.bytes;
-    file_io::tell(file_io::first_bytes(&bytes, text.len), b"");
-}
-
 // Makes the book of fleet.csv in a folder, files it there as fleet.wbk and prints its boats, columns and front text. The current folder
-// has no name. Where the CSV has a fault or the book cannot be written, an older fleet.wbk stays as it was, and standard error says what
-// is wrong. One byte more is read than a CSV may have, so that a longer one is refused and not cut.
+// has no name. Where the CSV is missing or has a fault, or the book cannot be written, an older fleet.wbk stays as it was, and standard
+// error says what is wrong. One byte more is read than a CSV may have, so that a longer one is refused and not cut.
 pub fn file_book(folder: &[u8]) {
     let mut csv = [0u8; 200001];
-    let n = file_io::read_in(folder, b"fleet.csv", &mut csv);
+    let content = file_io::content_in(folder, b"fleet.csv", &mut csv);
+    if !content.there {
+        return;
+    }
+    let n = content.len;
     let mut output = [0u8; 40000];
     let made = csv_book::csv_book(&csv[..n], &mut output);
     if made.fault != 0 {
-        tell_fault(&csv[..n], made);
+        file_io::tell_text(fault_text::fleet_fault(&csv[..n], made));
         return;
     }
     let path = paths::path_in(folder, b"fleet.wbk");

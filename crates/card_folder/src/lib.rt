@@ -6,7 +6,7 @@
 // Whether there is a listing to print.
 fn file(path: &[u8], output: &[u8; card_listing::MOST_CARD], len: usize) -> bool {
     if len == 0 {
-        file_io::tell(path, b": not written, the search is refused\n");
+        file_io::tell(path, b" is as it was\n");
         return true;
     }
     if file_io::replace_file(path, file_io::first_bytes(output, len)) {
@@ -17,12 +17,14 @@ fn file(path: &[u8], output: &[u8; card_listing::MOST_CARD], len: usize) -> bool
 }
 
 // Searches fleet.wbk and sheet.wsh in a folder, files the card there as card.wcd and prints the listing. The current folder has no name.
-// Where the files are refused or the card cannot be written, an older card.wcd stays as it was, and standard error says so.
+// Where the files are refused or the card cannot be written, an older card.wcd stays as it was, and standard error says so, with what is known of
+// a refusal.
 pub fn file_card(folder: &[u8]) {
     let mut book = [0u8; 40001];
     let mut sheet = [0u8; 40001];
     let n = file_io::read_in(folder, b"fleet.wbk", &mut book);
     let m = file_io::read_in(folder, b"sheet.wsh", &mut sheet);
+    refusal_output::tell_detail(&book[..n], &sheet[..m]);
     let mut output = [0u8; card_listing::MOST_CARD];
     let filing = card_listing::filed_text(&book[..n], &sheet[..m], &mut output);
     let path = paths::path_in(folder, b"card.wcd");
@@ -43,5 +45,6 @@ pub fn check_card(folder: &[u8]) {
     let n = file_io::read_in(folder, b"fleet.wbk", &mut book);
     let m = file_io::read_in(folder, b"sheet.wsh", &mut sheet);
     let k = file_io::read_in(folder, b"card.wcd", &mut filed);
+    refusal_output::tell_detail(&book[..n], &sheet[..m]);
     file_io::print(card_listing::card_text(&book[..n], &sheet[..m], &filed[..k]));
 }
