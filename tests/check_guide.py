@@ -30,6 +30,7 @@ def main():
     # each line of a fault is that of a case
     said = {csv_books.made(case)[3].decode("latin-1").strip() for case in csv_books.by_hand()}
     said.add(csv_books.made(bytes(200001))[3].decode().strip())
+    said.add("fleet.csv: not found in this folder")
     lines = re.findall(r"`(fleet\.csv[ :][^`]*)`", guide)
     faults += [line for line in lines if line not in said]
     if csv_books.made(data)[4] != book or csv_books.made(data)[3].decode().strip().replace("\n", "\n    ") not in guide:
