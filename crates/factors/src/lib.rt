@@ -1,6 +1,6 @@
 // The factors of a sheet: how often each column counts in a squared distance.
 //
-// Helpers for other crates, whose callers prove what they require: factors_of, factor_total, is_plain.
+// Helpers for other crates, whose callers prove what they require: factors_of, total, factor_total, is_plain.
 ghost use mathlib.Core.Path.{_≡_};
 ghost use mathlib.Core.Bool.{true};
 ghost use Prim.Native.Nat.{_≤_};
@@ -21,7 +21,7 @@ pub fn factors_of(sheet: &[u8]) -> &[u8]
 }
 
 // The total of some factors.
-fn total(list: &[u8]) -> usize
+pub fn total(list: &[u8]) -> usize
     requires { ⌜ length (now list) ≤ 65535 ⌝ }
     ensures { λ r. ⌜ r ≡ sum (now (list .entry)) ⌝ }
 {

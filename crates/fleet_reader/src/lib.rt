@@ -1,6 +1,6 @@
 // A fleet read from a whole CSV: its values are put into a buffer while it is read.
 //
-// Helpers for other crates, whose callers prove what they require: read_fleet, next_number.
+// Helpers for other crates, whose callers prove what they require: read_fleet, value_bits, next_number.
 ghost use mathlib.Core.Path.{_≡_};
 ghost use Prim.Native.Nat.{_+_, _*_, _≤_, _<_};
 ghost use lib.ListN.{length};
@@ -20,7 +20,7 @@ pub struct Fleet {
 }
 
 // The 16 bits of a value.
-fn value_bits(negative: bool, magnitude: u32) -> u64
+pub fn value_bits(negative: bool, magnitude: u32) -> u64
     requires { ⌜ magnitude ≤ 2000 ⌝ }
     ensures { λ r. ⌜ r ≡ bits (signed negative magnitude) ⌝ }
 {

@@ -43,7 +43,7 @@ all-kept sep m (b ∷ bs) t n h e =
     rw q (all-kept sep (step sep m b .mode) bs (after t k) (n + l) (kept-more t n h k) e)
 
 -- ---- the range
-signed-in : (b : Bool) (m : ℕ) → m ≤ 2000 → in-range (signed b m) ≡ true
+pub signed-in : (b : Bool) (m : ℕ) → m ≤ 2000 → in-range (signed b m) ≡ true
 unfolding in-range
 signed-in false m h = le-leb m 2000 h
 signed-in true zero h = refl
