@@ -1,0 +1,194 @@
+-- What the entry gives back at each of its returns, and that the sheet is accepted and asks for what the CSVs ask for.
+use mathlib.Core.Path.{_≡_, refl, sym, ap, _∙_}
+use mathlib.Core.Bool.{Bool, true, false, cond}
+use mathlib.Core.List.{List}
+use Prim.Native.Nat.{ℕ, zero, suc, _≤_, _<_}
+use native.Mathlib.Omega.{arith}
+use borrow.Author.Tests.{eq-eqb, ne-eqb, lt-ltb, le-ltb, ltb-false}
+use lib.Dec.{ltb}
+use lib.ListN.{length, take, length-append}
+use Rattle.frank_wolfe.specs.Vectors.{ones, sum}
+use Rattle.files.specs.Bytes.{between}
+use Rattle.files.specs.Limits.{file-limit}
+use Rattle.files.specs.Book.{columns, book-refusal}
+use Rattle.files.specs.Sheet.{sheet, files-refusal, sheet-refusal}
+use Rattle.files.proofs.Refusal.{between-true}
+use Rattle.card_output.specs.Output.{placed}
+use Rattle.sheet_output.specs.Output.{edition-bytes}
+use Rattle.sheet_output.specs.Back.{Factored-fit, Edition-of, Edition-reads-back}
+use Rattle.sheet_output.specs.Front.{Same-with-front, Sheet-takes-front}
+use Rattle.sheet_output.proofs.Back.{edition-reads-back}
+use Rattle.sheet_output.proofs.Front.{sheet-takes-front}
+use Rattle.sheet_output.proofs.Writing.{front-taken}
+use Rattle.fleet_table.specs.declared.Table.{Table}
+use Rattle.fleet_reader.specs.Fleet.{last-table}
+use Rattle.csv_front.specs.declared.Front.the-variants.{Nothing}
+use Rattle.csv_book.specs.declared.Made as book
+use Rattle.csv_book.specs.Books.{csv-book}
+use Rattle.csv_book.proofs.Making.{book-accepted}
+use Rattle.sheet_rows.specs.declared.Finding.{Finding}
+use Rattle.sheet_rows.specs.Rows.{sheet-names, rows-fault}
+use Rattle.column_match.specs.declared.Mismatch.{Mismatch}
+use Rattle.column_match.specs.Match.{mismatch}
+use Rattle.csv_sheet.specs.declared.Made.{Made}
+use Rattle.csv_sheet.specs.Sheets.{places, has-factors, factors-of, tolerance-of, asked-at, asked, sheet-at, nothing-made, total-fault, made-by, made-of-columns, made-of-rows, made-for-fleet, sheet-made, output-at, output-by}
+use Rattle.csv_sheet.specs.Ready.{Ready}
+use Rattle.csv_sheet.specs.Promise.{Sheet-accepted, Sheet-right-by, Sheet-right}
+use Rattle.csv_sheet.proofs.Bounds.{target-long, factors-long, target-in, steps-some, steps-few, factors-plain}
+use Rattle.csv_sheet.proofs.Making.{places-long, ready}
+
+-- ---- the sheet of a CSV without fault
+module _ {ps csv : List ℕ} (d : Ready ps csv) (z : total-fault ps csv ≡ 0) where
+  total-fits : (between 1 64 (sum (factors-of ps csv)) ≡ true) × (tolerance-of ps csv ≤ 1024000000)
+  unfolding total-fault
+  total-fits = by (between 1 64 (sum (factors-of ps csv))) (ltb 1024000000 (tolerance-of ps csv)) refl refl z
+    where
+      by : (a b : Bool) → between 1 64 (sum (factors-of ps csv)) ≡ a → ltb 1024000000 (tolerance-of ps csv) ≡ b → _≡_ {A = ℕ} (cond a (cond b 23 0) 22) 0 →
+          (between 1 64 (sum (factors-of ps csv)) ≡ true) × (tolerance-of ps csv ≤ 1024000000)
+      by true true p q e = absurd (omega arith)
+      by true false p q e = (p, ltb-false 1024000000 (tolerance-of ps csv) q)
+      by false b p q e = absurd (omega arith)
+
+  fit : Factored-fit (asked-at ps csv)
+  unfolding asked-at
+  fit =
+      let t = between-true 1 64 (sum (factors-of ps csv)) (total-fits .0) in
+      record {
+        each-column = factors-long ps csv ∙ sym (target-long ps csv);
+        some-columns = omega (arith, target-long ps csv, d .some);
+        most-columns = omega (arith, target-long ps csv, d .few);
+        in-range = target-in d;
+        some-factor = t .0;
+        few-factors = t .1;
+        some-steps = steps-some d;
+        most-steps = steps-few d;
+        most-tolerance = total-fits .1;
+      }
+
+  plain : has-factors csv ≡ false → asked-at ps csv .factors ≡ ones (length (asked-at ps csv .target))
+  unfolding asked-at
+  plain e = factors-plain ps csv e ∙ ap ones (sym (target-long ps csv))
+
+  abbrev bytes : List ℕ
+  bytes = edition-bytes (has-factors csv) (asked-at ps csv)
+
+  edition : Edition-of (has-factors csv) (asked-at ps csv) bytes
+  unfolding Edition-reads-back
+  edition = edition-reads-back (has-factors csv) (asked-at ps csv) fit plain
+
+  asked-long : length (asked-at ps csv .target) ≡ length ps
+  unfolding asked-at
+  asked-long = target-long ps csv
+
+  pub sheet-short : length (sheet-at ps csv) ≤ file-limit
+  unfolding sheet-at
+  sheet-short = omega (arith, length-append csv bytes, edition .most-bytes, d .short)
+
+  pub with-front : Same-with-front (length ps) csv bytes
+  unfolding Sheet-takes-front sheet-at
+  with-front = sheet-takes-front (length ps) csv bytes (rw asked-long at (edition .accepted)) sheet-short
+
+  pub asks-for : (sheet-refusal (length ps) (sheet-at ps csv) ≡ 0) × (sheet (sheet-at ps csv) ≡ asked-at ps csv)
+  unfolding sheet-at
+  asks-for = (with-front .accepted, with-front .same-sheet ∙ edition .sheet-back)
+
+-- ---- with the book that the fleet's CSV gives
+book-of : (fleet : List ℕ) → last-table fleet .fault ≡ 0 → (book-refusal (csv-book fleet) ≡ 0) × (columns (csv-book fleet) ≡ last-table fleet .columns)
+book-of fleet z =
+    let r : book.Made = record { fault = 0; line = 0; field = 0; len = length (csv-book fleet); boats = last-table fleet .boats; columns = last-table fleet .columns; front = Nothing } in
+    let b = book-accepted fleet z r refl refl refl in
+    (b .accepted, b .columns-are)
+
+pub with-book : (fleet : List ℕ) → last-table fleet .fault ≡ 0 → (n : ℕ) → n ≡ last-table fleet .columns → (s : List ℕ) → sheet-refusal n s ≡ 0 → files-refusal (csv-book fleet) s ≡ 0
+unfolding files-refusal
+with-book fleet z n e s a =
+    let b = book-of fleet z in
+    rw (eq-eqb _ 0 (b .0), b .1, ← e) a
+
+module _ (fleet csv out : List ℕ) (h : file-limit ≤ length out) (z : last-table fleet .fault ≡ 0) (short : length csv ≤ 39000) (good : rows-fault csv .fault ≡ 0) where
+  abbrev ps : List ℕ
+  ps = places fleet csv
+
+  accepted : Ready ps csv → total-fault ps csv ≡ 0 → Sheet-accepted fleet csv (made-by zero ps csv) (sheet-at ps csv)
+  unfolding made-by asked
+  accepted d e =
+      record {
+        size = refl;
+        most-bytes = sheet-short d e;
+        accepted = asks-for d e .0;
+        with-book = with-book fleet z (length ps) (places-long fleet csv z) (sheet-at ps csv) (asks-for d e .0);
+        asks = asks-for d e .1;
+      }
+
+  right-at : Ready ps csv → (f : ℕ) → total-fault ps csv ≡ f → {r : Made} → r ≡ made-by f ps csv → {new : List ℕ} → new ≡ output-at (r .fault) ps csv out → Sheet-right fleet csv r (take (r .len) new)
+  unfolding made-by output-at Sheet-right-by
+  right-at d zero e er {new} en =
+      let m : new ≡ placed out 0 (sheet-at ps csv) = rw er at en in
+      let s : take (length (sheet-at ps csv)) new ≡ sheet-at ps csv = front-taken out (sheet-at ps csv) m refl (omega (arith, sheet-short d e)) in
+      rw (er, s) (accepted d e)
+  right-at d (suc f) e er en = rw er refl
+
+  right : {r : Made} → r ≡ made-of-columns fleet csv → {new : List ℕ} → new ≡ output-by (r .fault) fleet csv out → Sheet-right fleet csv r (take (r .len) new)
+  unfolding made-of-columns Sheet-right-by
+  right {r} er {new} en = by (m .fault) refl
+    where
+      m : Mismatch
+      m = mismatch (last-table fleet .columns) (sheet-names csv) fleet csv
+
+      by : (f : ℕ) → m .fault ≡ f → Sheet-right fleet csv r (take (r .len) new)
+      by zero e = right-at (ready fleet csv z short good e) (total-fault ps csv) refl (er ∙ rw (eq-eqb _ 0 e)) en
+      by (suc f) e =
+          let q : r ≡ nothing-made (suc f) 0 0 (m .column) = er ∙ rw (e, ne-eqb (suc f) 0 (λ z. omega arith)) in
+          rw q refl
+
+-- ---- what a call gives back, the buffer after it, and what holds of them
+abbrev Done : (fleet csv out : List ℕ) → Made → (new : List ℕ) → Type 0
+Done fleet csv out r new = (r ≡ sheet-made (length out) fleet csv) × ((new ≡ output-by (r .fault) fleet csv out) × Sheet-right fleet csv r (take (r .len) new))
+
+module _ (fleet csv out : List ℕ) where
+  stopped : (f l w p : ℕ) → (f ≡ 0 → ⊥) → {r : Made} → r ≡ nothing-made f l w p → sheet-made (length out) fleet csv ≡ nothing-made f l w p → Done fleet csv out r out
+  unfolding output-at Sheet-right-by
+  stopped zero l w p n e s = absurd (n refl)
+  stopped (suc f) l w p n e s = rw e (sym s, (refl, refl))
+
+  pub no-room : length out < file-limit → {r : Made} → r ≡ nothing-made 11 0 0 0 → Done fleet csv out r out
+  unfolding sheet-made
+  no-room h e = stopped 11 0 0 0 (λ z. omega arith) e (rw (lt-ltb (length out) file-limit h))
+
+  module _ (h : file-limit ≤ length out) where
+    pub too-big : 39000 < length csv → {r : Made} → r ≡ nothing-made 10 0 0 0 → Done fleet csv out r out
+    unfolding sheet-made
+    too-big k e = stopped 10 0 0 0 (λ z. omega arith) e (rw (le-ltb (length out) file-limit h, lt-ltb 39000 (length csv) k))
+
+    module _ (k : length csv ≤ 39000) where
+      past-sizes : sheet-made (length out) fleet csv ≡ made-for-fleet fleet csv
+      unfolding sheet-made
+      past-sizes = rw (le-ltb (length out) file-limit h, le-ltb 39000 (length csv) k)
+
+      pub fleet-big : 200000 < length fleet → {r : Made} → r ≡ nothing-made 12 0 0 0 → Done fleet csv out r out
+      unfolding made-for-fleet
+      fleet-big l e = stopped 12 0 0 0 (λ z. omega arith) e (past-sizes ∙ rw (lt-ltb 200000 (length fleet) l))
+
+      module _ (l : length fleet ≤ 200000) {t : Table} (et : t ≡ last-table fleet) where
+        pub fleet-faulty : (t .fault ≡ 0 → ⊥) → {r : Made} → r ≡ nothing-made 12 0 0 0 → Done fleet csv out r out
+        unfolding made-for-fleet
+        fleet-faulty n e = stopped 12 0 0 0 (λ z. omega arith) e (past-sizes ∙ rw (le-ltb 200000 (length fleet) l, ← et, ne-eqb (t .fault) 0 n))
+
+        module _ (z : t .fault ≡ 0) {f : Finding} (ef : f ≡ rows-fault csv) where
+          past-fleet : sheet-made (length out) fleet csv ≡ made-of-rows fleet csv
+          unfolding made-for-fleet
+          past-fleet = past-sizes ∙ rw (le-ltb 200000 (length fleet) l, ← et, eq-eqb (t .fault) 0 z)
+
+          pub rows-faulty : (f .fault ≡ 0 → ⊥) → {r : Made} → r ≡ nothing-made (f .fault) (f .line) (f .row) (f .field) → Done fleet csv out r out
+          unfolding made-of-rows
+          rows-faulty n e = stopped (f .fault) (f .line) (f .row) (f .field) n e (past-fleet ∙ rw (← ef, ne-eqb (f .fault) 0 n))
+
+          pub fleet-fault : last-table fleet .fault ≡ 0
+          fleet-fault = rw (← et) z
+
+          pub rows-faultless : f .fault ≡ 0 → rows-fault csv .fault ≡ 0
+          rows-faultless n = rw (← ef) n
+
+          pub made : f .fault ≡ 0 → {r : Made} → r ≡ made-of-columns fleet csv → {new : List ℕ} → new ≡ output-by (r .fault) fleet csv out → Done fleet csv out r new
+          unfolding made-of-rows
+          made n er en = (er ∙ sym (past-fleet ∙ rw (← ef, eq-eqb (f .fault) 0 n)), (en, right fleet csv out h fleet-fault k (rows-faultless n) er en))

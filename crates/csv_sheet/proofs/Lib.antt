@@ -1,0 +1,6 @@
+-- The laws of this crate.
+pub mod Bounds
+pub mod Putting
+pub mod Editions
+pub mod Making
+pub mod Accepting

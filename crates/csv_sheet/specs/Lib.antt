@@ -1,0 +1,4 @@
+-- The definitions of this crate.
+pub mod Sheets
+pub mod Ready
+pub mod Promise

@@ -1,0 +1,286 @@
+// The sheet of two CSVs: from the bytes of a spreadsheet to the file that a search reads.
+//
+// Entry, which asks nothing of its caller: csv_sheet.
+ghost use mathlib.Core.Path.{_≡_};
+ghost use Prim.Native.Nat.{_*_, _≤_};
+ghost use lib.ListN.{length, take};
+ghost use Rattle.files.specs.Limits.{file-limit};
+ghost use Rattle.card_output.specs.Output.{placed};
+ghost use Rattle.sheet_output.specs.Output.{values-bytes, edition-bytes};
+ghost use Rattle.fleet_reader.specs.Fleet.{last-table};
+ghost use Rattle.sheet_rows.specs.Rows.{rows-fault};
+ghost use Rattle.csv_sheet.specs.Sheets.{row-for, target-of, has-factors, factor-at, factors-of, steps-of, tolerance-for, tolerance-of, sheet-of, sheet-at, nothing-made, made-at, made-of-columns, sheet-made, output-at, output-by};
+ghost use Rattle.csv_sheet.specs.Ready.{Ready};
+ghost use Rattle.csv_sheet.specs.Promise.{Sheet-right};
+use card_output::put;
+use fleet_table::Table;
+
+// What is wrong, besides what sheet_rows, csv_cells and column_match name: more than 39,000 bytes of CSV, a buffer of fewer than 40,000
+// bytes, a fleet's CSV with a fault, factors that do not total 1 to 64, a tolerance above 1,024,000,000.
+pub const BIG: u32 = 10;
+
+pub const ROOM: u32 = 11;
+
+pub const FLEET: u32 = 12;
+
+pub const FACTOR_TOTAL: u32 = 22;
+
+pub const LARGE_TOLERANCE: u32 = 23;
+
+// What was made: a sheet of `len` bytes for so many columns, with the total of its factors, its steps and its tolerance. Where there is a
+// fault, no byte is written, and the fault's place is a line, its row and a field of the sheet's CSV, or a column as the field, or all are 0.
+pub struct Made {
+    pub fault: u32,
+    pub line: usize,
+    pub row: usize,
+    pub field: usize,
+    pub len: usize,
+    pub columns: usize,
+    pub factors: usize,
+    pub steps: u32,
+    pub tolerance: u32,
+}
+
+fn nothing(fault: u32, line: usize, row: usize, field: usize) -> Made
+    ensures { λ r. ⌜ r ≡ nothing-made fault line row field ⌝ }
+{
+    Made {
+        fault,
+        line,
+        row,
+        field,
+        len: 0,
+        columns: 0,
+        factors: 0,
+        steps: 0,
+        tolerance: 0,
+    }
+}
+
+// What was read of a fleet's CSV.
+fn fleet_table(fleet: &[u8]) -> Table
+    requires { ⌜ length (now fleet) ≤ 200000 ⌝ }
+    ensures { λ r. ⌜ r ≡ last-table (now (fleet .entry)) ⌝ }
+{
+    let mut rows = [0u8; 32768];
+    let read = fleet_reader::read_fleet(fleet, &mut rows);
+    let table = read.table;
+    table
+}
+
+// The last row that stands for a kind, 0 where there is none.
+fn row_for(csv: &[u8], kind: u32) -> usize
+    requires { ⌜ length (now csv) ≤ 200000 ⌝ }
+    ensures { λ r. ⌜ r ≡ row-for kind (now (csv .entry)) ⌝ }
+{
+    let last = sheet_rows::last_row(csv);
+    sheet_rows::row_of(csv, kind, last)
+}
+
+// Puts the hull's values at these places, 2 bytes each, from the first byte on.
+fn put_target(csv: &[u8], places: &[u8], output: &mut [u8])
+    requires { ⌜ Ready (now places) (now csv) ⌝ }
+    requires { ⌜ 2 * length (now places) ≤ length (now output) ⌝ }
+    ensures { λ _. ⌜ now (output .exit) ≡ placed (now (output .entry)) 0 (values-bytes (target-of (now (places .entry)) (now (csv .entry)))) ⌝ }
+{
+    let row = row_for(csv, sheet_rows::HULL);
+    let mut i = 0;
+    while i < places.len() {
+        let cell = sheet_rows::cell_at(csv, row, places[i] as usize);
+        put(
+            output,
+            2 * i,
+            2,
+            fleet_reader::value_bits(cell.negative, cell.magnitude),
+        );
+        i += 1;
+    }
+}
+
+// The factor in a field of a row, 1 where there is no such row.
+fn factor_at(csv: &[u8], row: usize, field: usize) -> u32
+    requires { ⌜ length (now csv) ≤ 200000 ⌝ }
+    ensures { λ r. ⌜ r ≡ factor-at row (now (csv .entry)) field ⌝ }
+{
+    if row == 0 {
+        return 1;
+    }
+    let cell = sheet_rows::cell_at(csv, row, field);
+    cell.magnitude
+}
+
+// Puts the factors at these places, 1 byte each, from the first byte on.
+fn put_factors(csv: &[u8], places: &[u8], output: &mut [u8])
+    requires { ⌜ Ready (now places) (now csv) ⌝ }
+    requires { ⌜ length (now places) ≤ length (now output) ⌝ }
+    ensures { λ _. ⌜ now (output .exit) ≡ placed (now (output .entry)) 0 (factors-of (now (places .entry)) (now (csv .entry))) ⌝ }
+{
+    let row = row_for(csv, sheet_rows::FACTORS);
+    let mut i = 0;
+    while i < places.len() {
+        output[i] = factor_at(csv, row, places[i] as usize) as u8;
+        i += 1;
+    }
+}
+
+fn steps_of(csv: &[u8]) -> u32
+    requires { ⌜ length (now csv) ≤ 200000 ⌝ }
+    ensures { λ r. ⌜ r ≡ steps-of (now (csv .entry)) ⌝ }
+{
+    let cell = sheet_rows::cell_at(csv, row_for(csv, sheet_rows::STEPS), 1);
+    cell.magnitude
+}
+
+// The tolerance with factors of this total.
+fn tolerance_for(csv: &[u8], total: usize) -> u64
+    requires { ⌜ length (now csv) ≤ 200000 ⌝ }
+    requires { ⌜ rows-fault (now csv) .fault ≡ 0 ⌝ }
+    requires { ⌜ total ≤ 64 ⌝ }
+    ensures { λ r. ⌜ r ≡ tolerance-for total (now (csv .entry)) ⌝ }
+{
+    let row = row_for(csv, sheet_rows::TOLERANCE);
+    let cell = sheet_rows::cell_at(csv, row, 1);
+    let number = cell.magnitude as u64;
+    if sheet_rows::kind_at(csv, row) == sheet_rows::EACH {
+        return number * number * total as u64;
+    }
+    number
+}
+
+// Puts a sheet without front text, with these factors, from the first byte on; gives back its size.
+fn put_sheet(
+    csv: &[u8],
+    places: &[u8],
+    factors: &[u8],
+    steps: u32,
+    tolerance: u32,
+    output: &mut [u8],
+) -> usize
+    requires { ⌜ Ready (now places) (now csv) ⌝ }
+    requires { ⌜ length (now factors) ≡ length (now places) ⌝ }
+    requires { ⌜ 208 ≤ length (now output) ⌝ }
+    ensures { λ r. ⌜ r ≡ length (edition-bytes (has-factors (now (csv .entry))) (sheet-of (now (places .entry)) (now (csv .entry)) (now (factors .entry)) steps tolerance)) ⌝ }
+    ensures { λ r. ⌜ r ≤ 208 ⌝ }
+    ensures { λ _. ⌜ now (output .exit) ≡ placed (now (output .entry)) 0 (edition-bytes (has-factors (now (csv .entry))) (sheet-of (now (places .entry)) (now (csv .entry)) (now (factors .entry)) steps tolerance)) ⌝ }
+{
+    let columns = places.len();
+    put_target(csv, places, output);
+    if row_for(csv, sheet_rows::FACTORS) == 0 {
+        sheet_output::put_sheet_trailer(output, 2 * columns, columns, steps, tolerance);
+        return 2 * columns + 16;
+    }
+    sheet_output::put_bytes(output, 2 * columns, factors);
+    sheet_output::put_factored_trailer(output, 3 * columns, columns, steps, tolerance);
+    3 * columns + 16
+}
+
+// Puts the CSV and the sheet behind it, from the first byte on; gives back how many bytes.
+fn put_file(
+    csv: &[u8],
+    places: &[u8],
+    factors: &[u8],
+    steps: u32,
+    tolerance: u32,
+    output: &mut [u8],
+) -> usize
+    requires { ⌜ Ready (now places) (now csv) ⌝ }
+    requires { ⌜ now factors ≡ factors-of (now places) (now csv) ⌝ }
+    requires { ⌜ steps ≡ steps-of (now csv) ⌝ }
+    requires { ⌜ tolerance ≡ tolerance-of (now places) (now csv) ⌝ }
+    requires { ⌜ file-limit ≤ length (now output) ⌝ }
+    ensures { λ r. ⌜ r ≡ length (sheet-at (now (places .entry)) (now (csv .entry))) ⌝ }
+    ensures { λ _. ⌜ now (output .exit) ≡ placed (now (output .entry)) 0 (sheet-at (now (places .entry)) (now (csv .entry))) ⌝ }
+{
+    let mut sheet = [0u8; 208];
+    let size = put_sheet(csv, places, factors, steps, tolerance, &mut sheet);
+    sheet_output::put_bytes(output, 0, csv);
+    sheet_output::put_bytes(output, csv.len(), &sheet[..size]);
+    csv.len() + size
+}
+
+// Once the columns match: these are their places.
+fn make_at(csv: &[u8], places: &[u8], output: &mut [u8]) -> Made
+    requires { ⌜ Ready (now places) (now csv) ⌝ }
+    requires { ⌜ file-limit ≤ length (now output) ⌝ }
+    ensures { λ r. ⌜ r ≡ made-at (now (places .entry)) (now (csv .entry)) ⌝ }
+    ensures { λ r. ⌜ now (output .exit) ≡ output-at (r .fault) (now (places .entry)) (now (csv .entry)) (now (output .entry)) ⌝ }
+{
+    let columns = places.len();
+    let mut list = [0u8; 64];
+    put_factors(csv, places, &mut list);
+    let total = factors::total(&list[..columns]);
+    if !file_parts::is_between(1, 64, total) {
+        return nothing(FACTOR_TOTAL, 0, 0, 0);
+    }
+    let tolerance = tolerance_for(csv, total);
+    if 1024000000 < tolerance {
+        return nothing(LARGE_TOLERANCE, 0, 0, 0);
+    }
+    let steps = steps_of(csv);
+    let len = put_file(
+        csv,
+        places,
+        &list[..columns],
+        steps,
+        tolerance as u32,
+        output,
+    );
+    Made {
+        fault: 0,
+        line: 0,
+        row: 0,
+        field: 0,
+        len,
+        columns,
+        factors: total,
+        steps,
+        tolerance: tolerance as u32,
+    }
+}
+
+// Once nothing is wrong but perhaps the columns, of which the fleet has so many.
+fn make_of_columns(fleet: &[u8], columns: usize, csv: &[u8], output: &mut [u8]) -> Made
+    requires { ⌜ length (now fleet) ≤ 200000 ⌝ }
+    requires { ⌜ last-table (now fleet) .fault ≡ 0 ⌝ }
+    requires { ⌜ columns ≡ last-table (now fleet) .columns ⌝ }
+    requires { ⌜ length (now csv) ≤ 39000 ⌝ }
+    requires { ⌜ rows-fault (now csv) .fault ≡ 0 ⌝ }
+    requires { ⌜ file-limit ≤ length (now output) ⌝ }
+    ensures { λ r. ⌜ r ≡ made-of-columns (now (fleet .entry)) (now (csv .entry)) ⌝ }
+    ensures { λ r. ⌜ now (output .exit) ≡ output-by (r .fault) (now (fleet .entry)) (now (csv .entry)) (now (output .entry)) ⌝ }
+{
+    let names = sheet_rows::columns(csv);
+    let found = column_match::find_mismatch(fleet, columns, csv, names);
+    if found.fault != 0 {
+        return nothing(found.fault, 0, 0, found.column);
+    }
+    let mut places = [0u8; 64];
+    column_match::put_positions(fleet, columns, csv, names, &mut places);
+    make_at(csv, &places[..columns], output)
+}
+
+// ENTRY. Puts the sheet of two CSVs, with the sheet's as front text, into a buffer from its first byte on.
+pub fn csv_sheet(fleet: &[u8], csv: &[u8], output: &mut [u8]) -> Made
+    ensures { λ r. ⌜ r ≡ sheet-made (length (now (output .entry))) (now (fleet .entry)) (now (csv .entry)) ⌝ }
+    ensures { λ r. ⌜ now (output .exit) ≡ output-by (r .fault) (now (fleet .entry)) (now (csv .entry)) (now (output .entry)) ⌝ }
+    ensures { λ r. ⌜ Sheet-right (now (fleet .entry)) (now (csv .entry)) r (take (r .len) (now (output .exit))) ⌝ }
+{
+    if output.len() < 40000 {
+        return nothing(ROOM, 0, 0, 0);
+    }
+    if 39000 < csv.len() {
+        return nothing(BIG, 0, 0, 0);
+    }
+    if 200000 < fleet.len() {
+        return nothing(FLEET, 0, 0, 0);
+    }
+    let table = fleet_table(fleet);
+    if table.fault != 0 {
+        return nothing(FLEET, 0, 0, 0);
+    }
+    let finding = sheet_rows::rows_fault(csv);
+    if finding.fault != 0 {
+        return nothing(finding.fault, finding.line, finding.row, finding.field);
+    }
+    make_of_columns(fleet, table.columns, csv, output)
+}
