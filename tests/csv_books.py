@@ -5,6 +5,7 @@ A file of cases has, for each, its length in 3 bytes and the CSV.
 import re
 
 import csv_reader
+from csv_reader import shown
 from exact import make_book
 from generator import Draws
 
@@ -21,11 +22,6 @@ WORDS = {
     csv_reader.STRAY: "text after a closing quote",
     csv_reader.OPEN: "a quote that is not closed",
 }
-
-
-def shown(field):
-    """A name as one line shows it."""
-    return "".join(" " if letter < " " else letter for letter in field)
 
 
 def words(kind, field, columns, value):
