@@ -1,6 +1,7 @@
 // The lines about a fleet's CSV: that of its fault, with file, line, boat, column and what is wrong there, or those of its book.
 //
 // Entries, which ask nothing of their caller: fleet_fault, book_lines.
+// Helpers for other crates, whose callers prove that there is room: with_place, with_plain, with_unnamed, with_many, wants_value, with_front.
 ghost use mathlib.Core.Path.{_≡_};
 ghost use Prim.Native.Nat.{_+_, _≤_};
 ghost use lib.ListN.{length};
@@ -12,7 +13,7 @@ use csv_front::Front;
 use text::Text;
 
 // The text followed by the number of a line, where there is one.
-fn with_place(text: Text, line: usize) -> Text
+pub fn with_place(text: Text, line: usize) -> Text
     requires { ⌜ text .len + 26 ≤ text-limit ⌝ }
     ensures { λ r. ⌜ Adds text (place line) r ⌝ }
     ensures { λ r. ⌜ r .len ≤ text .len + 26 ⌝ }
@@ -49,7 +50,7 @@ fn with_other(text: Text, fault: u32) -> Text
 }
 
 // The text followed by the words of a fault that has no numbers.
-fn with_plain(text: Text, fault: u32) -> Text
+pub fn with_plain(text: Text, fault: u32) -> Text
     requires { ⌜ text .len + 40 ≤ text-limit ⌝ }
     ensures { λ r. ⌜ Adds text (plain-words fault) r ⌝ }
     ensures { λ r. ⌜ r .len ≤ text .len + 40 ⌝ }
@@ -85,7 +86,7 @@ fn with_few(text: Text, field: usize, columns: usize) -> Text
 }
 
 // The text followed by the number of a column without a name.
-fn with_unnamed(text: Text, field: usize) -> Text
+pub fn with_unnamed(text: Text, field: usize) -> Text
     requires { ⌜ text .len + 60 ≤ text-limit ⌝ }
     ensures { λ r. ⌜ Adds text (unnamed-words field) r ⌝ }
     ensures { λ r. ⌜ r .len ≤ text .len + 60 ⌝ }
@@ -96,7 +97,7 @@ fn with_unnamed(text: Text, field: usize) -> Text
 }
 
 // The text followed by how many values there may be.
-fn with_many(text: Text, columns: usize) -> Text
+pub fn with_many(text: Text, columns: usize) -> Text
     requires { ⌜ text .len + 60 ≤ text-limit ⌝ }
     ensures { λ r. ⌜ Adds text (many-words columns) r ⌝ }
     ensures { λ r. ⌜ r .len ≤ text .len + 60 ⌝ }
@@ -178,7 +179,7 @@ fn wants_column(fault: u32, field: usize, columns: usize) -> bool
     fault != 5
 }
 
-fn wants_value(fault: u32) -> bool
+pub fn wants_value(fault: u32) -> bool
     ensures { λ r. ⌜ r ≡ wants-value fault ⌝ }
 {
     if fault == 6 {
@@ -228,7 +229,7 @@ pub fn fleet_fault(csv: &[u8], made: Made) -> Text
 }
 
 // The text followed by the line of the front text.
-fn with_front(text: Text, front: Front) -> Text
+pub fn with_front(text: Text, front: Front) -> Text
     requires { ⌜ text .len + 20 ≤ text-limit ⌝ }
     ensures { λ r. ⌜ Adds text (front-line front) r ⌝ }
 {
