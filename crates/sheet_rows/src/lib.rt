@@ -1,6 +1,6 @@
 // The rows of a sheet's CSV: what each is by its first field, and the first fault with its place.
 //
-// Helpers for other crates, whose callers prove what they require: kind_at, row_of, read, cell_at, columns, last_row, rows_fault.
+// Helpers for other crates, whose callers prove what they require: kind_of, kind_at, row_of, read, cell_at, columns, last_row, rows_fault.
 ghost use mathlib.Core.Path.{_≡_};
 ghost use Prim.Native.Nat.{_≤_};
 ghost use lib.ListN.{length};
@@ -61,7 +61,7 @@ pub struct Finding {
 }
 
 // What a row is by its first field.
-fn kind_of(name: &[u8]) -> u32
+pub fn kind_of(name: &[u8]) -> u32
     ensures { λ r. ⌜ r ≡ kind-of (now (name .entry)) ⌝ }
 {
     if equal_bytes::is_same(name, b"unit") {
