@@ -16,6 +16,7 @@ PROGRAMS = {
     "mixcheck": ("card_folder::check_card", "test_program", "folder"),
     "mixbetter": ("better_folder::file_better", "test_program", "folder"),
     "mixbook": ("book_folder::file_book", "test_book", "name"),
+    "mixsheet": ("sheet_folder::file_sheet", "test_sheet", "name"),
 }
 
 MAIN = ('fn main() { let mut name = [0u8; 4095]; let asked = arguments::folder(b"%s", &mut name); '

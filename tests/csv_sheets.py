@@ -1,6 +1,6 @@
 """The sheet of two CSVs and the line that names a fault, by tests/csv_reader.py, with the cases of test_sheet.
 
-A file of cases has, for each, the length of the fleet's CSV in 3 bytes and that CSV, then the same of the sheet's.
+A file of cases has, for each, the length of the fleet's CSV in 2 bytes and that CSV, then the same of the sheet's.
 """
 import csv_books
 import csv_reader
@@ -290,20 +290,26 @@ def drawn_case(draws):
     return fleet, data
 
 
-COUNT = 600
+# so many pairs in the program, where every byte is read some hundred times and a run with each step checked has to end in seconds; all with the
+# built program, in tests/run_programs.py
+COUNT, ALL = 200, 600
 
 
-def cases():
+def all_cases():
     draws = Draws(41)
-    # the long ones stand in the program
-    found = [pair for pair in by_hand() if len(pair[0]) < 30000 and len(pair[1]) < 30000]
-    while len(found) < COUNT:
+    found = list(by_hand())
+    while len(found) < ALL:
         found.append(drawn_case(draws))
     return found
 
 
+def cases():
+    """Those of the program: the long ones and those of 63 and 64 columns are left out."""
+    return [pair for pair in all_cases() if len(pair[0]) < 30000 and len(pair[1]) < 30000 and b"c60" not in pair[0]][:COUNT]
+
+
 def file_of(found):
-    return b"".join(len(data).to_bytes(3, "little") + data for pair in found for data in pair)
+    return b"".join(len(data).to_bytes(2, "little") + data for pair in found for data in pair)
 
 
 def kinds(found):

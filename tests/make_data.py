@@ -11,6 +11,7 @@ sys.path.insert(0, HERE)
 from exact import make_book, make_card, make_sheet, true_card, write_card  # noqa: E402
 from generator import Draws, draw_row  # noqa: E402
 import csv_books  # noqa: E402
+import csv_sheets  # noqa: E402
 import details  # noqa: E402
 import pairs  # noqa: E402
 
@@ -151,6 +152,7 @@ PROGRAMS = {
     "mixcheck": folder(BOOK, SHEET, HAND_CARD),
     "mixbetter": folder(BOOK, PAIR_SHEET, None, FARTHER, NEARER, b"an older card"),
     "mixbook": {"fleet.csv": csv_books.YARD, "fleet.wbk": b"an older book"},
+    "mixsheet": {"fleet.csv": csv_books.YARD, "sheet.csv": csv_sheets.SHEET, "sheet.wsh": b"an older sheet"},
 }
 
 
@@ -165,8 +167,9 @@ def main():
     data = {"test_search": FILES, "test_better": {"pairs.dat": pairs.file_of(pairs.cases())}, **PROGRAMS}
     data["test_edition"] = {name: content for card, (book, rows, sheet) in FILED_BEFORE.items()
                             for name, content in ((book, rows), (card + ".wsh", sheet))}
-    data["test_book"] = {os.path.join(name, file): content for name, files in csv_books.FOLDERS.items() for file, content in files.items()}
-    data["test_book"]["cases.dat"] = csv_books.file_of(csv_books.cases())
+    for crate, cases in (("test_book", csv_books), ("test_sheet", csv_sheets)):
+        data[crate] = {os.path.join(name, file): content for name, files in cases.FOLDERS.items() for file, content in files.items()}
+        data[crate]["cases.dat"] = cases.file_of(cases.cases())
     data["test_details"] = {"cases.dat": details.file_of(details.cases())}
     data["test_program"] = {os.path.join(name, file): content for name, files in FOLDERS.items() for file, content in files.items()}
     for crate, files in data.items():

@@ -2,7 +2,7 @@
 """Run the built programs in folders of their own, and compare what they print and leave with the reference.
 
 Use: python3 tests/run_programs.py target/bin
-Runs those of mixlist, mixcard, mixcheck, mixbetter and mixbook that are built, and report/mixreport with mixcheck. The last line says how many runs passed.
+Runs those of mixlist, mixcard, mixcheck, mixbetter, mixbook and mixsheet that are built, and report/mixreport with mixcheck. The last line says how many runs passed.
 """
 import os
 import shutil
@@ -13,6 +13,7 @@ import tempfile
 HERE = os.path.dirname(os.path.abspath(__file__))
 sys.path.insert(0, HERE)
 import csv_books  # noqa: E402
+import csv_sheets  # noqa: E402
 import details  # noqa: E402
 import exact  # noqa: E402
 
@@ -257,9 +258,30 @@ def check_mixbook(program, runs):
     runs.expect("mixbook, book a folder", run(program, before) == (b"", b"fleet.wbk: could not be written\n", before))
 
 
+def check_mixsheet(program, runs):
+    """The spreadsheets written by hand and drawn, with an older sheet or none, then files that are too long, missing or folders."""
+    for number, (fleet, data) in enumerate(csv_sheets.all_cases()):
+        before = {"fleet.csv": fleet, "sheet.csv": data}
+        if number % 2:
+            before["sheet.wsh"] = b"older sheet"
+        lines, sheet = csv_sheets.printed(fleet, data), csv_sheets.made(fleet, data)[4]
+        after = dict(before, **{"sheet.wsh": sheet}) if sheet else before
+        runs.expect("mixsheet, case %d" % number, run(program, before) == ((lines, b"", after) if sheet else (b"", lines, before)))
+    fleet, data = {"fleet.csv": csv_sheets.FLEET}, {"sheet.csv": csv_sheets.SHEET}
+    no_fleet, no_sheet = (name + b": not found in this folder\n" for name in (b"fleet.csv", b"sheet.csv"))
+    for name, before, fault in (("100,000 bytes", dict(fleet, **{"sheet.csv": csv_sheets.SHEET.ljust(100000, b"\n")}), b"sheet.csv: more than 39000 bytes\n"),
+                                ("no fleet", data, no_fleet), ("no sheet", fleet, no_sheet), ("no CSV", {}, no_fleet + no_sheet),
+                                ("fleet a folder", dict(data, **{"fleet.csv": FOLDER}), b"fleet.csv: could not be read whole\n"),
+                                ("sheet a folder", dict(fleet, **{"sheet.csv": FOLDER}), b"sheet.csv: could not be read whole\n")):
+        runs.expect("mixsheet, " + name, run(program, before) == (b"", fault, before))
+    for name, older, read_only in (("no room", b"older sheet", True), ("sheet.wsh a folder", FOLDER, False)):
+        before = dict(fleet, **data, **{"sheet.wsh": older})
+        runs.expect("mixsheet, " + name, run(program, before, read_only) == (b"", b"sheet.wsh: could not be written\n", before))
+
+
 CARD = exact.write_card(BOOK, SHEET, bytes(1060))
 # files on which every program does its work
-ARGUMENT_FILES = {"fleet.csv": b"a,b,c\nd,0,0\ne,4,0\nf,0,4\n", "fleet.wbk": BOOK, "sheet.wsh": SHEET, "card.wcd": CARD[3][:CARD[2]],
+ARGUMENT_FILES = {"fleet.csv": b"a,b,c\nd,0,0\ne,4,0\nf,0,4\n", "sheet.csv": b",c,b\nnew,1,1\nsteps,9\ntolerance,1\n", "fleet.wbk": BOOK, "sheet.wsh": SHEET, "card.wcd": CARD[3][:CARD[2]],
                   "first.wcd": CARD[3][:CARD[2]], "second.wcd": CARD[3][:CARD[2]]}
 
 
@@ -284,7 +306,7 @@ def main(arguments):
         return 2
     runs = Runs()
     for name, check in (("mixlist", check_mixlist), ("mixcard", check_mixcard), ("mixcheck", check_mixcheck), ("mixcheck", check_report),
-                        ("mixbetter", check_mixbetter), ("mixbook", check_mixbook)):
+                        ("mixbetter", check_mixbetter), ("mixbook", check_mixbook), ("mixsheet", check_mixsheet)):
         program = os.path.join(arguments[0], name)
         if os.path.exists(program):
             check(program, runs)

@@ -1,0 +1,59 @@
+// The work of mixsheet, in a folder that the caller names. What the system reads and writes no contract can say; test_sheet holds what is
+// printed and filed to the reference.
+use csv_sheet::Made;
+
+// Files a sheet under this path; what is in the way goes to standard error. Whether it stands there.
+fn file(path: &[u8], output: &[u8; 40000], len: usize) -> bool {
+    if file_io::replace_file(path, file_io::first_bytes(output, len)) {
+        return true;
+    }
+    file_io::tell(path, b": could not be written\n");
+    false
+}
+
+// Says on standard error what is wrong with the CSVs. A fault of the fleet's has the line that mixbook has for it.
+fn tell_fault(fleet: &[u8], csv: &[u8], made: Made) {
+    let fault = made.fault;
+    if fault == csv_sheet::FLEET {
+        let mut output = [0u8; 40000];
+        let book = csv_book::csv_book(fleet, &mut output);
+        file_io::tell_text(fault_text::fleet_fault(fleet, book));
+        return;
+    }
+    file_io::tell_text(sheet_text::sheet_fault(fleet, csv, made));
+}
+
+// Files the sheet of two CSVs in a folder as sheet.wsh, and prints its columns, factors, steps, tolerance and front text.
+fn file_made(folder: &[u8], fleet: &[u8], csv: &[u8]) {
+    let mut output = [0u8; 40000];
+    let made = csv_sheet::csv_sheet(fleet, csv, &mut output);
+    if made.fault != 0 {
+        tell_fault(fleet, csv, made);
+        return;
+    }
+    let path = paths::path_in(folder, b"sheet.wsh");
+    let bytes = path.bytes;
+    let name = file_io::first_bytes(&bytes, path.len);
+    if file(name, &output, made.len) {
+        file_io::print(sheet_text::sheet_lines(made));
+    }
+}
+
+// Makes the sheet of fleet.csv and sheet.csv in a folder, files it there as sheet.wsh and prints its lines. The current folder has no
+// name. Where a CSV is missing or has a fault, or the sheet cannot be written, an older sheet.wsh stays as it was, and standard error says
+// what is wrong. One byte more is read than a CSV may have, so that a longer one is refused and not cut.
+pub fn file_sheet(folder: &[u8]) {
+    let mut fleet = [0u8; 200001];
+    let mut csv = [0u8; 39001];
+    let first = file_io::content_in(folder, b"fleet.csv", &mut fleet);
+    let second = file_io::content_in(folder, b"sheet.csv", &mut csv);
+    if !first.there {
+        return;
+    }
+    if !second.there {
+        return;
+    }
+    let n = first.len;
+    let m = second.len;
+    file_made(folder, &fleet[..n], &csv[..m]);
+}
