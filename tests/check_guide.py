@@ -1,6 +1,6 @@
 #!/usr/bin/env python3
-"""See that docs/guide.md says what the reference gives: the table of tolerances for examples/yard, the lines of faults, what mixbook prints,
-and that the book of examples/yard is that of its CSV."""
+"""See that docs/guide.md says what the reference gives: the table of tolerances for examples/yard, the lines of faults, what mixbook, mixsheet
+and mixcard print, and that the book and the sheet of examples/yard are those of its CSVs."""
 import os
 import re
 import sys
@@ -8,37 +8,67 @@ import sys
 HERE = os.path.dirname(os.path.abspath(__file__))
 sys.path.insert(0, HERE)
 import csv_books  # noqa: E402
+import csv_sheets  # noqa: E402
 import exact  # noqa: E402
 
 ROOT = os.path.join(HERE, "..")
 YARD = os.path.join(ROOT, "examples", "yard")
 
 
-def main():
-    with open(os.path.join(ROOT, "docs", "guide.md"), encoding="utf-8") as file:
-        guide = file.read()
-    data, book = (exact.read_file(os.path.join(YARD, name)) for name in ("fleet.csv", "fleet.wbk"))
-    target = exact.read_sheet(exact.read_file(os.path.join(YARD, "sheet.wsh")))[0]
-    faults = []
-    # the verdict and the squared distance of a search of 360 steps with each tolerance
+def block(text):
+    """Lines as a page shows them."""
+    return "\n\n" + "".join("    " + line + "\n" for line in text.decode().splitlines()) + "\n"
+
+
+def tolerances(guide, book, target):
+    """The rows of the table, and those that are wrong: verdict and squared distance of a search of 360 steps with each tolerance."""
     rows = re.findall(r"(?m)^\| ([0-9]+) \| ([a-z]+ [0-9]+) \| ([0-9.]+) \|$", guide)
+    wrong = []
     for tolerance, verdict, distance in rows:
         lines = exact.listing(book, exact.make_sheet(target, steps=360, tolerance=int(tolerance))).decode().split("\n")
         weight, squared = int(lines[2].split()[2]), int(lines[3].split()[1])
         if not lines[2].startswith(verdict + " ") or "%.2f" % (squared / weight ** 2) != distance:
-            faults.append("tolerance " + tolerance)
-    # each line of a fault is that of a case
-    said = {csv_books.made(case)[3].decode("latin-1").strip() for case in csv_books.by_hand()}
-    said.add(csv_books.made(bytes(200001))[3].decode().strip())
-    said.add("fleet.csv: not found in this folder")
-    lines = re.findall(r"`(fleet\.csv[ :][^`]*)`", guide)
-    faults += [line for line in lines if line not in said]
-    if csv_books.made(data)[4] != book or csv_books.made(data)[3].decode().strip().replace("\n", "\n    ") not in guide:
-        faults.append("the book of examples/yard")
+            wrong.append("tolerance " + tolerance)
+    return rows, wrong
+
+
+def fault_lines(guide):
+    """The lines of faults on the page, and those that no case has."""
+    said = {csv_books.made(case)[3] for case in [*csv_books.by_hand(), bytes(200001)]}
+    said |= {csv_sheets.printed(*pair) for pair in csv_sheets.by_hand()}
+    said |= {name + b": not found in this folder" for name in (b"fleet.csv", b"sheet.csv")}
+    said = {line.decode("latin-1").strip() for line in said}
+    lines = re.findall(r"`((?:fleet|sheet)\.csv[ :][^`]*)`", guide)
+    return lines, [line for line in lines if line not in said]
+
+
+def examples(guide, fleet, data, book, sheet):
+    """What is wrong with the worked example: files, what the programs print of them, and the same with other factors."""
+    factors = re.search(r"(?m)^    (factor,.*)$", guide)[1].encode() + b"\n"
+    other = csv_sheets.made(fleet, data + factors)[4]
+    made, asked = csv_books.made(fleet), csv_sheets.made(fleet, data)
+    figures = []
+    for one in (sheet, other):
+        lines = exact.listing(book, one).decode().split("\n")
+        weight, squared = int(lines[2].split()[2]), int(lines[3].split()[1])
+        figures.append("%d / %d² = %.2f" % (squared, weight, squared / weight ** 2))
+    wrong = [name for name, right in (("the book of examples/yard", made[4] == book), ("the sheet of examples/yard", asked[4] == sheet)) if not right]
+    wrong += ["the lines of a program: %r" % text for text in (made[3], asked[3], exact.listing(book, sheet), exact.listing(book, other), data)
+              if block(text) not in guide]
+    return wrong + [figure for figure in figures if figure not in guide]
+
+
+def main():
+    with open(os.path.join(ROOT, "docs", "guide.md"), encoding="utf-8") as file:
+        guide = file.read()
+    fleet, data, book, sheet = (exact.read_file(os.path.join(YARD, name)) for name in ("fleet.csv", "sheet.csv", "fleet.wbk", "sheet.wsh"))
+    rows, wrong = tolerances(guide, book, exact.read_sheet(sheet)[0])
+    lines, unsaid = fault_lines(guide)
+    faults = wrong + unsaid + examples(guide, fleet, data, book, sheet)
     for fault in faults:
         print("docs/guide.md: " + fault)
     print("guide: %d tolerances, %d lines, faults: %d" % (len(rows), len(lines), len(faults)))
-    return 1 if faults or len(rows) < 5 or len(lines) < 8 else 0
+    return 1 if faults or len(rows) < 5 or len(lines) < 30 else 0
 
 
 if __name__ == "__main__":
