@@ -290,9 +290,8 @@ def drawn_case(draws):
     return fleet, data
 
 
-# so many pairs in the program, where every byte is read some hundred times and a run with each step checked has to end in seconds; all with the
-# built program, in tests/run_programs.py
-COUNT, ALL = 200, 600
+# so many pairs in the program; all with the built program, in tests/run_programs.py
+COUNT, ALL = 600, 620
 
 
 def all_cases():
@@ -304,7 +303,7 @@ def all_cases():
 
 
 def cases():
-    """Those of the program: the long ones and those of 63 and 64 columns are left out."""
+    """Those of the program. Left out are the long ones and those of 63 and 64 columns, which take long where each step is checked."""
     return [pair for pair in all_cases() if len(pair[0]) < 30000 and len(pair[1]) < 30000 and b"c60" not in pair[0]][:COUNT]
 
 

@@ -68,9 +68,9 @@ fn folder(name: &[u8]) {
 }
 
 fn main() {
-    let mut cases = [0u8; 200000];
+    let mut cases = [0u8; 300000];
     let n = file_io::read_file(b"cases.dat", &mut cases);
-    each(&cases[..n], 200);
+    each(&cases[..n], 600);
     limits();
     folder(b"");
     folder(b"factors");
