@@ -15,10 +15,10 @@ use Rattle.csv_round_trip.proofs.Marks.{line-over, past-quotes, first-comma, no
 use Rattle.csv_cells.specs.declared.Place.{Place}
 use Rattle.csv_cells.specs.Cells.{place-from, last-place, cell-from, cell-text, line-from, line-of}
 use Rattle.csv_cells.proofs.Steps.{row-none, text-ended, moved-good, token-end}
-use Rattle.cells_writing.specs.Writing.{row-line, rows-csv}
-use Rattle.cells_writing.specs.Back.{Row-fits, Rows-read-back}
-use Rattle.cells_writing.proofs.Going.{Goes, at, none-put}
-use Rattle.cells_writing.proofs.Rows.{picked, told-all, rows-go}
+use Rattle.cells_round_trip.specs.Writing.{row-line, rows-csv}
+use Rattle.cells_round_trip.specs.Back.{Row-fits, Rows-read-back}
+use Rattle.cells_round_trip.proofs.Going.{Goes, at, none-put}
+use Rattle.cells_round_trip.proofs.Rows.{picked, told-all, rows-go}
 
 -- ---- what is picked is what stands there
 past : (t j : ℕ) (xs : List (List ℕ)) → t < j → picked t j xs ≡ []

@@ -5,7 +5,7 @@ use Prim.Native.Nat.{ℕ, _+_, _≤_, _<_}
 use lib.ListN.{length, getD}
 use Rattle.csv_round_trip.specs.Back.{All, Unit-fits}
 use Rattle.csv_cells.specs.Cells.{last-place, cell-text, line-of}
-use Rattle.cells_writing.specs.Writing.{rows-csv}
+use Rattle.cells_round_trip.specs.Writing.{rows-csv}
 
 -- a row of 1 to 65 fields, each of at most 200 bytes, the first with at least one
 pub record Row-fits (row : List (List ℕ)) : Type 0 where

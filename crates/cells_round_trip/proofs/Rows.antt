@@ -12,9 +12,9 @@ use Rattle.csv_round_trip.specs.Writing.{quoted, fields, line}
 use Rattle.csv_round_trip.specs.Back.{All, Unit-fits, none, more}
 use Rattle.csv_cells.specs.Cells.{row-after}
 use Rattle.csv_cells.proofs.Steps.{field-added, row-fields, row-bytes, line-next, moved-good, token-field, token-line}
-use Rattle.cells_writing.specs.Writing.{row-line, rows-csv}
-use Rattle.cells_writing.specs.Back.{Row-fits}
-use Rattle.cells_writing.proofs.Going.{Goes, goes-nil, goes-then, goes-on, goes-byte, at, told, kept, kept-nil, wanted, none-put, quoted-goes}
+use Rattle.cells_round_trip.specs.Writing.{row-line, rows-csv}
+use Rattle.cells_round_trip.specs.Back.{Row-fits}
+use Rattle.cells_round_trip.proofs.Going.{Goes, goes-nil, goes-then, goes-on, goes-byte, at, told, kept, kept-nil, wanted, none-put, quoted-goes}
 
 -- what stands at place t of the lists, counted from j
 unfoldable pub picked : (t j : ℕ) → List (List ℕ) → List ℕ
