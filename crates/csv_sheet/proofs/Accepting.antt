@@ -35,7 +35,7 @@ use Rattle.csv_sheet.specs.Sheets.{places, has-factors, factors-of, tole
 use Rattle.csv_sheet.specs.Ready.{Ready}
 use Rattle.csv_sheet.specs.Promise.{Sheet-accepted, Sheet-right-by, Sheet-right}
 use Rattle.csv_sheet.proofs.Bounds.{target-long, factors-long, target-in, steps-some, steps-few, factors-plain}
-use Rattle.csv_sheet.proofs.Making.{places-long, ready}
+use Rattle.csv_sheet.proofs.Making.{places-long, ready, matched}
 
 -- ---- the sheet of a CSV without fault
 module _ {ps csv : List ℕ} (d : Ready ps csv) (z : total-fault ps csv ≡ 0) where
@@ -109,36 +109,37 @@ module _ (fleet csv out : List ℕ) (h : file-limit ≤ length out) (z : last-ta
   abbrev ps : List ℕ
   ps = places fleet csv
 
-  accepted : Ready ps csv → total-fault ps csv ≡ 0 → Sheet-accepted fleet csv (made-by zero ps csv) (sheet-at ps csv)
+  abbrev mismatched : Mismatch
+  mismatched = mismatch (last-table fleet .columns) (sheet-names csv) fleet csv
+
+  accepted : Ready ps csv → mismatched .fault ≡ 0 → total-fault ps csv ≡ 0 → Sheet-accepted fleet csv (made-by zero ps csv) (sheet-at ps csv)
   unfolding made-by asked
-  accepted d e =
+  accepted d none e =
       record {
         size = refl;
         most-bytes = sheet-short d e;
         accepted = asks-for d e .0;
         with-book = with-book fleet z (length ps) (places-long fleet csv z) (sheet-at ps csv) (asks-for d e .0);
         asks = asks-for d e .1;
+        matched = rw (places-long fleet csv z) (matched fleet csv z short good none);
       }
 
-  right-at : Ready ps csv → (f : ℕ) → total-fault ps csv ≡ f → {r : Made} → r ≡ made-by f ps csv → {new : List ℕ} → new ≡ output-at (r .fault) ps csv out → Sheet-right fleet csv r (take (r .len) new)
+  right-at : Ready ps csv → mismatched .fault ≡ 0 → (f : ℕ) → total-fault ps csv ≡ f → {r : Made} → r ≡ made-by f ps csv → {new : List ℕ} → new ≡ output-at (r .fault) ps csv out → Sheet-right fleet csv r (take (r .len) new)
   unfolding made-by output-at Sheet-right-by
-  right-at d zero e er {new} en =
+  right-at d none zero e er {new} en =
       let m : new ≡ placed out 0 (sheet-at ps csv) = rw er at en in
       let s : take (length (sheet-at ps csv)) new ≡ sheet-at ps csv = front-taken out (sheet-at ps csv) m refl (omega (arith, sheet-short d e)) in
-      rw (er, s) (accepted d e)
-  right-at d (suc f) e er en = rw er refl
+      rw (er, s) (accepted d none e)
+  right-at d none (suc f) e er en = rw er refl
 
   right : {r : Made} → r ≡ made-of-columns fleet csv → {new : List ℕ} → new ≡ output-by (r .fault) fleet csv out → Sheet-right fleet csv r (take (r .len) new)
   unfolding made-of-columns Sheet-right-by
-  right {r} er {new} en = by (m .fault) refl
+  right {r} er {new} en = by (mismatched .fault) refl
     where
-      m : Mismatch
-      m = mismatch (last-table fleet .columns) (sheet-names csv) fleet csv
-
-      by : (f : ℕ) → m .fault ≡ f → Sheet-right fleet csv r (take (r .len) new)
-      by zero e = right-at (ready fleet csv z short good e) (total-fault ps csv) refl (er ∙ rw (eq-eqb _ 0 e)) en
+      by : (f : ℕ) → mismatched .fault ≡ f → Sheet-right fleet csv r (take (r .len) new)
+      by zero e = right-at (ready fleet csv z short good e) e (total-fault ps csv) refl (er ∙ rw (eq-eqb _ 0 e)) en
       by (suc f) e =
-          let q : r ≡ nothing-made (suc f) 0 0 (m .column) = er ∙ rw (e, ne-eqb (suc f) 0 (λ z. omega arith)) in
+          let q : r ≡ nothing-made (suc f) 0 0 (mismatched .column) = er ∙ rw (e, ne-eqb (suc f) 0 (λ z. omega arith)) in
           rw q refl
 
 -- ---- what a call gives back, the buffer after it, and what holds of them

@@ -61,7 +61,7 @@ module _ (fleet csv : List ℕ) (z : last-table fleet .fault ≡ 0) where
   places-long = positions-long (sheet-names csv) fleet csv (last-table fleet .columns)
 
   module _ (short : length csv ≤ 39000) (good : rows-fault csv .fault ≡ 0) (none : mismatch (last-table fleet .columns) (sheet-names csv) fleet csv .fault ≡ 0) where
-    matched : Matched (last-table fleet .columns) (sheet-names csv) fleet csv
+    pub matched : Matched (last-table fleet .columns) (sheet-names csv) fleet csv
     unfolding Without-mismatch-matched
     matched = without-mismatch-matched (last-table fleet .columns) (sheet-names csv) fleet csv none
 
