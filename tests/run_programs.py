@@ -2,7 +2,8 @@
 """Run the built programs in folders of their own, and compare what they print and leave with the reference.
 
 Use: python3 tests/run_programs.py target/bin
-Runs those of mixlist, mixcard, mixcheck, mixbetter, mixbook and mixsheet that are built, and report/mixreport with mixcheck. The last line says how many runs passed.
+Runs those of mixlist, mixcard, mixcheck, mixbetter, mixbook and mixsheet that are built, and report/mixreport with mixcheck. The last line says
+how many runs passed.
 """
 import os
 import shutil
@@ -118,6 +119,7 @@ READ = {
     "mixcheck": ("fleet.wbk", "sheet.wsh", "card.wcd"),
     "mixbetter": ("fleet.wbk", "sheet.wsh", "first.wcd", "second.wcd"),
     "mixbook": ("fleet.csv",),
+    "mixsheet": ("fleet.csv", "sheet.csv"),
 }
 FILED = {"mixcard": "card.wcd", "mixbetter": "better.wcd"}
 
@@ -130,7 +132,7 @@ def told(program, files, refused=False, folder=""):
             lines.append((folder + name).encode() + b": not found in this folder\n")
         elif files[name] is FOLDER:
             lines.append((folder + name).encode() + b": could not be read whole\n")
-    if program != "mixbook":
+    if "fleet.wbk" in READ[program]:
         book, sheet = content(files, "fleet.wbk"), content(files, "sheet.wsh")
         lines.append(details.detail(book, sheet, exact.files_refusal(book, sheet)))
     if refused and program in FILED:
@@ -268,12 +270,11 @@ def check_mixsheet(program, runs):
         after = dict(before, **{"sheet.wsh": sheet}) if sheet else before
         runs.expect("mixsheet, case %d" % number, run(program, before) == ((lines, b"", after) if sheet else (b"", lines, before)))
     fleet, data = {"fleet.csv": csv_sheets.FLEET}, {"sheet.csv": csv_sheets.SHEET}
-    no_fleet, no_sheet = (name + b": not found in this folder\n" for name in (b"fleet.csv", b"sheet.csv"))
-    for name, before, fault in (("100,000 bytes", dict(fleet, **{"sheet.csv": csv_sheets.SHEET.ljust(100000, b"\n")}), b"sheet.csv: more than 39000 bytes\n"),
-                                ("no fleet", data, no_fleet), ("no sheet", fleet, no_sheet), ("no CSV", {}, no_fleet + no_sheet),
-                                ("fleet a folder", dict(data, **{"fleet.csv": FOLDER}), b"fleet.csv: could not be read whole\n"),
-                                ("sheet a folder", dict(fleet, **{"sheet.csv": FOLDER}), b"sheet.csv: could not be read whole\n")):
-        runs.expect("mixsheet, " + name, run(program, before) == (b"", fault, before))
+    long = dict(fleet, **{"sheet.csv": csv_sheets.SHEET.ljust(100000, b"\n")})
+    runs.expect("mixsheet, 100,000 bytes", run(program, long) == (b"", b"sheet.csv: more than 39000 bytes\n", long))
+    for name, before in (("no fleet", data), ("no sheet", fleet), ("no CSV", {}), ("fleet a folder", dict(data, **{"fleet.csv": FOLDER})),
+                         ("sheet a folder", dict(fleet, **{"sheet.csv": FOLDER})), ("both folders", {"fleet.csv": FOLDER, "sheet.csv": FOLDER})):
+        runs.expect("mixsheet, " + name, run(program, before) == (b"", told("mixsheet", before), before))
     for name, older, read_only in (("no room", b"older sheet", True), ("sheet.wsh a folder", FOLDER, False)):
         before = dict(fleet, **data, **{"sheet.wsh": older})
         runs.expect("mixsheet, " + name, run(program, before, read_only) == (b"", b"sheet.wsh: could not be written\n", before))
@@ -281,7 +282,8 @@ def check_mixsheet(program, runs):
 
 CARD = exact.write_card(BOOK, SHEET, bytes(1060))
 # files on which every program does its work
-ARGUMENT_FILES = {"fleet.csv": b"a,b,c\nd,0,0\ne,4,0\nf,0,4\n", "sheet.csv": b",c,b\nnew,1,1\nsteps,9\ntolerance,1\n", "fleet.wbk": BOOK, "sheet.wsh": SHEET, "card.wcd": CARD[3][:CARD[2]],
+ARGUMENT_FILES = {"fleet.csv": b"a,b,c\nd,0,0\ne,4,0\nf,0,4\n", "sheet.csv": b",c,b\nnew,1,1\nsteps,9\ntolerance,1\n",
+                  "fleet.wbk": BOOK, "sheet.wsh": SHEET, "card.wcd": CARD[3][:CARD[2]],
                   "first.wcd": CARD[3][:CARD[2]], "second.wcd": CARD[3][:CARD[2]]}
 
 
