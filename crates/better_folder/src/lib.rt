@@ -8,11 +8,7 @@ fn file(path: &[u8], part: &[u8], refusal: u32) -> bool {
         file_io::tell(path, b" is as it was\n");
         return true;
     }
-    if file_io::replace_file(path, part) {
-        return true;
-    }
-    file_io::tell(path, b": could not be written\n");
-    false
+    file_io::replace_or_tell(path, part)
 }
 
 // Files the better of first.wcd and second.wcd, for fleet.wbk and sheet.wsh of a folder, there as better.wcd without front text, and

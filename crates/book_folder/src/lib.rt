@@ -1,15 +1,6 @@
 // The work of mixbook, in a folder that the caller names. What the system reads and writes no contract can say; test_book holds what is
 // printed and filed to the reference.
 
-// Files a book under this path; what is in the way goes to standard error. Whether it stands there.
-fn file(path: &[u8], output: &[u8; 40000], len: usize) -> bool {
-    if file_io::replace_file(path, file_io::first_bytes(output, len)) {
-        return true;
-    }
-    file_io::tell(path, b": could not be written\n");
-    false
-}
-
 // Makes the book of fleet.csv in a folder, files it there as fleet.wbk and prints its boats, columns and front text. The current folder
 // has no name. Where the CSV is missing or has a fault, or the book cannot be written, an older fleet.wbk stays as it was, and standard
 // error says what is wrong. One byte more is read than a CSV may have, so that a longer one is refused and not cut.
@@ -29,7 +20,7 @@ pub fn file_book(folder: &[u8]) {
     let path = paths::path_in(folder, b"fleet.wbk");
     let bytes = path.bytes;
     let name = file_io::first_bytes(&bytes, path.len);
-    if file(name, &output, made.len) {
+    if file_io::replace_or_tell(name, file_io::first_bytes(&output, made.len)) {
         file_io::print(fault_text::book_lines(made));
     }
 }

@@ -9,11 +9,7 @@ fn file(path: &[u8], output: &[u8; card_listing::MOST_CARD], len: usize) -> bool
         file_io::tell(path, b" is as it was\n");
         return true;
     }
-    if file_io::replace_file(path, file_io::first_bytes(output, len)) {
-        return true;
-    }
-    file_io::tell(path, b": could not be written\n");
-    false
+    file_io::replace_or_tell(path, file_io::first_bytes(output, len))
 }
 
 // Searches fleet.wbk and sheet.wsh in a folder, files the card there as card.wcd and prints the listing. The current folder has no name.

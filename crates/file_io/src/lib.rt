@@ -144,6 +144,15 @@ pub fn replace_file(path: &[u8], content: &[u8]) -> bool {
     replace_by(path, &mut bytes[..len], content)
 }
 
+// The same, and standard error says where the file could not be put there.
+pub fn replace_or_tell(path: &[u8], content: &[u8]) -> bool {
+    if replace_file(path, content) {
+        return true;
+    }
+    tell(path, b": could not be written\n");
+    false
+}
+
 // Prints a text. Where standard output does not take all of it, standard error says so.
 pub fn print(t: Text)
     requires { ⌜ t .len ≤ text-limit ⌝ }

@@ -2,15 +2,6 @@
 // printed and filed to the reference.
 use csv_sheet::Made;
 
-// Files a sheet under this path; what is in the way goes to standard error. Whether it stands there.
-fn file(path: &[u8], output: &[u8; 40000], len: usize) -> bool {
-    if file_io::replace_file(path, file_io::first_bytes(output, len)) {
-        return true;
-    }
-    file_io::tell(path, b": could not be written\n");
-    false
-}
-
 // Says on standard error what is wrong with the CSVs. A fault of the fleet's has the line that mixbook has for it.
 fn tell_fault(fleet: &[u8], csv: &[u8], made: Made) {
     let fault = made.fault;
@@ -34,7 +25,7 @@ fn file_made(folder: &[u8], fleet: &[u8], csv: &[u8]) {
     let path = paths::path_in(folder, b"sheet.wsh");
     let bytes = path.bytes;
     let name = file_io::first_bytes(&bytes, path.len);
-    if file(name, &output, made.len) {
+    if file_io::replace_or_tell(name, file_io::first_bytes(&output, made.len)) {
         file_io::print(sheet_text::sheet_lines(made));
     }
 }

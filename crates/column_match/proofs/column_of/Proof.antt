@@ -8,8 +8,6 @@ use Rattle.column_match.specs.Match.{column-of}
 use Rattle.column_match.proofs.Looking.{name-taken, looking-found, looking-lower, looking-end}
 use Rattle.column_match.proofs.column_of.Statement.{statement}
 use Rattle.column_match.proofs.column_of.Tie as tie
-use Rattle.column_match.proofs.column_of.Reads as reads
-use Rattle.column_match.proofs.column_of.Lts as lts
 
 abbrev Inv-loop : tie.InvT-loop
 Inv-loop name n csv bytes₀ j₀ bytes j = (length bytes ≡ 200) × (column-of name j csv ≡ column-of name n csv)
