@@ -1,9 +1,10 @@
 #!/usr/bin/env python3
-"""What test_sheet prints: the sheet or the fault of each pair of CSVs, then mixsheet in one folder after another."""
+"""What test_sheet prints: the sheet or the fault of each pair of CSVs, then mixsheet in one folder after another, then the way to a card."""
 import os
 import sys
 
 sys.path.insert(0, os.path.join(os.path.dirname(os.path.abspath(__file__)), ".."))
+import csv_books  # noqa: E402
 import csv_sheets  # noqa: E402
 import exact  # noqa: E402
 from printing import checksum  # noqa: E402
@@ -37,6 +38,15 @@ def folder(name):
     return name.encode() + b"\n" + (b"" if fault else lines) + b"bytes %d\nsum %d\n" % (len(left), checksum(left))
 
 
+def worked(name):
+    """mixbook, mixsheet, mixcard and mixcheck in a folder with two spreadsheets."""
+    fleet, data = (csv_sheets.FOLDERS[name][file] for file in ("fleet.csv", "sheet.csv"))
+    (*_, told, book), (*_, asked, sheet) = csv_books.made(fleet), csv_sheets.made(fleet, data)
+    refusal, _, length, card = exact.write_card(book, sheet, bytes(1060))
+    assert not refusal
+    return name.encode() + b"\n" + told + asked + exact.listing(book, sheet) + exact.card_listing(book, sheet, card[:length])
+
+
 def main():
     found = csv_sheets.cases()
     # each outcome must be met, in each edition; a sheet is accepted for the fleet's columns
@@ -48,7 +58,7 @@ def main():
         sys.exit("csv_sheets.py has no case of: %s, or a sheet that is refused: %d" % (missing, len(refused)))
     out = [b"case %d\n" % number + made_of(*pair) for number, pair in enumerate(found)]
     names = ("", "factors", "faulty", "fleet", "alone", "longer", "none")
-    sys.stdout.buffer.write(b"".join([*out, *limits(), *(folder(name) for name in names)]))
+    sys.stdout.buffer.write(b"".join([*out, *limits(), *(folder(name) for name in names), *(worked(name) for name in ("", "factors"))]))
 
 
 main()

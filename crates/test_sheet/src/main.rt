@@ -1,4 +1,4 @@
-// Sheets of CSVs written by hand and drawn, and mixsheet in one folder after another. The cases and folders are made by
+// Sheets of CSVs written by hand and drawn, mixsheet in one folder after another, and the way from spreadsheets to a card. The cases and folders are made by
 // tests/make_data.py, the expected output by tests/expected/test_sheet.py.
 use test_buffers::between;
 use test_buffers::u16_at;
@@ -67,6 +67,15 @@ fn folder(name: &[u8]) {
     test_printing::line(b"sum", test_buffers::checksum(&sheet[..n]));
 }
 
+// From the two spreadsheets of a folder to the card that is filed there and checked: mixbook, mixsheet, mixcard, mixcheck.
+fn worked(name: &[u8]) {
+    test_printing::title(name);
+    book_folder::file_book(name);
+    sheet_folder::file_sheet(name);
+    card_folder::file_card(name);
+    card_folder::check_card(name);
+}
+
 fn main() {
     let mut cases = [0u8; 300000];
     let n = file_io::read_file(b"cases.dat", &mut cases);
@@ -79,4 +88,6 @@ fn main() {
     folder(b"alone");
     folder(b"longer");
     folder(b"none");
+    worked(b"");
+    worked(b"factors");
 }
