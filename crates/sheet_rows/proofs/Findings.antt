@@ -8,6 +8,7 @@ use native.Mathlib.Omega.{arith}
 use borrow.Author.Tests.{eq-eqb, ne-eqb, lt-ltb, le-ltb}
 use lib.Dec.{ltb, eqb}
 use lib.ListN.{length}
+use Rattle.files.specs.Limits.{step-limit}
 use Rattle.csv.specs.Cells.{is-number}
 use Rattle.csv.specs.declared.Cell.{Cell}
 use Rattle.csv_cells.specs.Cells.{last-place, cell-text, line-of, width}
@@ -69,7 +70,7 @@ module _ (k : ℕ) where
   unfolding most
   most-factors h = rw h
 
-  pub most-steps : k ≡ 3 → 360 ≡ most k
+  pub most-steps : k ≡ 3 → step-limit ≡ most k
   unfolding most
   most-steps h = rw h
 
