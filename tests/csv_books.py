@@ -7,7 +7,7 @@ import re
 import csv_reader
 from csv_reader import shown
 from exact import make_book
-from generator import Draws
+from generator import filled
 
 MOST_FILE = 40000
 
@@ -238,11 +238,7 @@ COUNT = 500
 
 
 def cases():
-    draws = Draws(22)
-    found = list(by_hand())
-    while len(found) < COUNT:
-        found.append(drawn_case(draws))
-    return found
+    return filled(by_hand(), drawn_case, 22, COUNT)
 
 
 def file_of(found):

@@ -7,7 +7,7 @@ import csv_reader
 from csv_books import YARD as FLEET
 from csv_books import quoted, table_of
 from exact import make_sheet
-from generator import Draws
+from generator import filled
 
 
 def made(fleet, data):
@@ -295,11 +295,7 @@ COUNT, ALL = 600, 620
 
 
 def all_cases():
-    draws = Draws(41)
-    found = list(by_hand())
-    while len(found) < ALL:
-        found.append(drawn_case(draws))
-    return found
+    return filled(by_hand(), drawn_case, 41, ALL)
 
 
 def cases():

@@ -5,7 +5,7 @@ A file of cases has, for each, the lengths of a book and of a sheet in 3 bytes e
 import csv_books
 import csv_reader
 import exact
-from generator import Draws
+from generator import filled
 
 MOST_FIELDS = 65
 
@@ -152,11 +152,7 @@ def drawn_case(draws):
 
 
 def cases():
-    draws = Draws(31)
-    found = list(by_hand())
-    while len(found) < COUNT:
-        found.append(drawn_case(draws))
-    return found
+    return filled(by_hand(), drawn_case, 31, COUNT)
 
 
 def file_of(found):

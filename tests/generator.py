@@ -176,3 +176,11 @@ def damage(draws, file):
     """A damaged file."""
     start, end, changed = damage_in(draws, file, len(file))
     return changed[start:end]
+
+
+def filled(found, drawn_case, seed, count):
+    """The cases written by hand, and drawn ones up to `count`."""
+    draws, found = Draws(seed), list(found)
+    while len(found) < count:
+        found.append(drawn_case(draws))
+    return found

@@ -3,8 +3,8 @@
 use test_buffers::between;
 use test_buffers::u16_at;
 
-// Prints what is made of a fleet's CSV and a sheet's: the line of its fault, or the lines of the sheet with length and sum, and how many
-// bytes of the buffer are still zero behind it.
+// Prints what is made of a fleet's CSV and a sheet's: the line of its fault, or the lines of the sheet, then its length and a sum over
+// the whole buffer.
 fn made_of(fleet: &[u8], csv: &[u8]) {
     let mut output = [0u8; 40000];
     let made = csv_sheet::csv_sheet(fleet, csv, &mut output);
