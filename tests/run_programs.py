@@ -1,9 +1,9 @@
 #!/usr/bin/env python3
 """Run the built programs in folders of their own, and compare what they print and leave with the reference.
 
-Use: python3 tests/run_programs.py target/bin
-Runs those of mixlist, mixcard, mixcheck, mixbetter, mixbook and mixsheet that are built, and report/mixreport with mixcheck. The last line says
-how many runs passed.
+Use: python3 tests/run_programs.py target/bin [NAME..]
+Runs the programs that are named, all where none is, and report/mixreport with mixcheck. A program that is not built counts as a failed run. The
+last line says how many runs passed.
 """
 import os
 import shutil
@@ -302,20 +302,26 @@ def check_arguments(name, program, files, runs):
     runs.expect("%s of a file" % name, inside[1:] == (told(name, {}, True, "sheet.wsh/").replace(b"not found in this folder", b"could not be opened"), files))
 
 
+# What is tried of each program.
+CHECKS = {"mixlist": (check_mixlist,), "mixcard": (check_mixcard,), "mixcheck": (check_mixcheck, check_report), "mixbetter": (check_mixbetter,),
+          "mixbook": (check_mixbook,), "mixsheet": (check_mixsheet,)}
+
+
 def main(arguments):
-    if len(arguments) != 1:
+    if not arguments or not set(arguments[1:]) <= set(CHECKS):
         sys.stderr.write(__doc__)
         return 2
     runs = Runs()
-    for name, check in (("mixlist", check_mixlist), ("mixcard", check_mixcard), ("mixcheck", check_mixcheck), ("mixcheck", check_report),
-                        ("mixbetter", check_mixbetter), ("mixbook", check_mixbook), ("mixsheet", check_mixsheet)):
+    for name in arguments[1:] or CHECKS:
         program = os.path.join(arguments[0], name)
-        if os.path.exists(program):
+        if not os.path.exists(program):
+            runs.expect("%s is not built" % name, False)
+            continue
+        for check in CHECKS[name]:
             check(program, runs)
-            if check is not check_report:
-                check_arguments(name, program, ARGUMENT_FILES, runs)
-                if os.path.exists("/dev/full"):
-                    check_output(program, ARGUMENT_FILES, runs)
+        check_arguments(name, program, ARGUMENT_FILES, runs)
+        if os.path.exists("/dev/full"):
+            check_output(program, ARGUMENT_FILES, runs)
     print("%d runs passed, %d failed" % (runs.passed, runs.failed))
     return 1 if runs.failed else 0
 
