@@ -11,8 +11,8 @@ use Rattle.files.specs.Bytes.{number-bytes, little-endian, number, same, length
 use Rattle.files.specs.Book.{boats, columns, rows, rows-from, WBK1, book-refusal}
 use Rattle.files.proofs.Rows.{rows-flat}
 use Rattle.files.proofs.Bytes.{read-bytes}
+use Rattle.files.proofs.Refusal.{between-said}
 use Rattle.files.specs.Limits.{file-limit}
-use Rattle.card_format.proofs.Accepted.{between-said}
 use Rattle.sheet_output.proofs.Back.{file-length, file-trailer, file-body, body-passed}
 use Rattle.book_output.specs.Output.{rows-bytes, book-trailer, book-bytes}
 use Rattle.book_output.specs.Back.{Rows-fit, Book-reads-back}

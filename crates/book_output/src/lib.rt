@@ -4,9 +4,9 @@
 ghost use mathlib.Core.Path.{_≡_};
 ghost use Prim.Native.Nat.{_+_, _≤_};
 ghost use lib.ListN.{length};
-ghost use Rattle.card_output.specs.Output.{placed};
+ghost use Rattle.buffers.specs.Placed.{placed};
 ghost use Rattle.book_output.specs.Output.{book-trailer};
-use card_output::put;
+use buffers::put;
 
 // The letters WBK1 as a number.
 const WBK1: u64 = 827015767;

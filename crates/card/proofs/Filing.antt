@@ -24,8 +24,8 @@ use Rattle.card_format.specs.Checks.{write-refusal}
 use Rattle.card_format.specs.Truth.{Written-accepted, Written-short}
 use Rattle.card_format.proofs.Editions.{same-run-card, same-writing}
 use Rattle.card_format.proofs.Written.{run-pairs-length, run-card-length, written-accepted, written-short}
-use Rattle.card_output.specs.Output.{placed}
-use Rattle.card_output.proofs.Placing.{placed-next}
+use Rattle.buffers.specs.Placed.{placed}
+use Rattle.buffers.proofs.Placing.{placed-next}
 use Rattle.card.specs.declared.Written.{Written}
 use Rattle.card.specs.declared.Written.the-variants.{Refused, Filed}
 use Rattle.card.specs.Filing.{writing-number, written-size, filing, Reads-back, Filed-right, Filing-right}

@@ -12,7 +12,7 @@ use Rattle.frank_wolfe.specs.Vectors.{sum}
 use Rattle.files.specs.Bytes.{all-bytes, same, between, length-in-range, trailer, body-offset, body, reaches}
 use Rattle.files.specs.Book.{columns, boats}
 use Rattle.files.specs.Sheet.{sheet, files-refusal}
-use Rattle.files.proofs.Refusal.{and-true, between-true}
+use Rattle.files.proofs.Refusal.{and-true, between-true, between-said}
 use Rattle.files.proofs.Accepted.{passed, passed-last, files-accepted}
 use Rattle.method.specs.declared.Test.{Test}
 use Rattle.method.specs.declared.Test.the-variants.{Former, Sharper}
@@ -219,10 +219,6 @@ unfolding verdict-number
 verdict-between Within = (omega arith, omega arith)
 verdict-between (Beyond f) = (omega arith, omega arith)
 verdict-between (Spent n) = (omega arith, omega arith)
-
-pub between-said : {least most n : ℕ} → least ≤ n → n ≤ most → between least most n ≡ true
-unfolding between
-between-said {least} {most} {n} h k = simp (le-leb least n h, le-leb n most k)
 
 pub support-most : (qs : List ℕ) → support qs ≤ length qs
 unfolding support

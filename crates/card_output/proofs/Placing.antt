@@ -1,15 +1,14 @@
 -- Bytes put into a buffer one after the other.
 use mathlib.Core.Path.{_≡_, refl, sym, ap, _∙_}
 use mathlib.Core.Bool.{Bool, true, false}
-use mathlib.Core.List.{List, [], _∷_, _++_, append-assoc}
-use Prim.Native.Nat.{ℕ, zero, suc, _+_, _-_, _/_, _%_, _≤_, _<_}
-use native.Mathlib.Nat.{add-assoc}
+use mathlib.Core.List.{List, [], _∷_, _++_}
+use Prim.Native.Nat.{ℕ, zero, suc, _+_, _≤_, _<_}
 use native.Mathlib.Omega.{arith}
 use native.Mathlib.Numerals.{add-one}
 use borrow.Author.Tests.{eqb-true, eqb-false, ne-eqb}
 use lib.Dec.{eqb}
-use lib.ListN.{length, take, drop, set, getD, length-append, length-drop, length-set, take-append-drop, drop-of-length-le}
-use lib.Seq.{drop-drop, drop-append-add, drop-cons, getD-take, take-at, set-split, length-take-le}
+use lib.ListN.{length, take, drop, getD, length-append, drop-of-length-le}
+use lib.Seq.{drop-cons, getD-take, length-take-le}
 use Rattle.files.specs.Bytes.{number-bytes}
 use Rattle.method.specs.declared.Test.the-variants.{Sharper}
 use Rattle.method.specs.declared.Answer.{Answer}
@@ -18,77 +17,8 @@ use Rattle.method.specs.Iterates.{support}
 use Rattle.card_format.specs.Format.{pair, pairs, WCD2, letters, trailer-bytes, answer-fields}
 use Rattle.files.proofs.Bytes.{length-bytes}
 use Rattle.card_format.proofs.Pairs.{pair-some}
-use Rattle.card_output.specs.Output.{placed}
-
-pub placed-nil : (out : List ℕ) (at : ℕ) → placed out at [] ≡ out
-unfolding placed
-placed-nil out at = let e : at + 0 ≡ at = omega arith in rw e (take-append-drop at out)
-
-pub placed-length : (out : List ℕ) (at : ℕ) (bs : List ℕ) → at + length bs ≤ length out → length (placed out at bs) ≡ length out
-unfolding placed
-placed-length out at bs h =
-    length-append (take at out) (bs ++ drop (at + length bs) out)
-    ∙ (omega (arith, length-append bs (drop (at + length bs) out), length-drop (at + length bs) out, length-take-le at out (omega arith)))
-
--- xs, and ys right after them
-pub placed-then : (out : List ℕ) (at : ℕ) (xs ys : List ℕ) → at + length xs ≤ length out → placed (placed out at xs) (at + length xs) ys ≡ placed out at (xs ++ ys)
-unfolding placed
-placed-then out at xs ys h =
-    let n = at + length xs in
-    let d = drop (at + length xs) out in
-    let front = take at out ++ xs in
-    let e : length front ≡ n = length-append (take at out) xs ∙ (omega (arith, length-take-le at out (omega arith))) in
-    let p : take at out ++ (xs ++ d) ≡ front ++ d = sym (append-assoc (take at out) xs d) in
-    let q : drop (n + length ys) (front ++ d) ≡ drop (n + length ys) out =
-    ap (λ k. drop (k + length ys) (front ++ d)) (sym e) ∙ drop-append-add front d (length ys) ∙ drop-drop (length ys) n out in
-    rw (p, take-at front d n e, q, append-assoc (take at out) xs, append-assoc xs ys, length-append xs ys, ← add-assoc at (length xs) (length ys))
-
-pub placed-set : (out : List ℕ) (at a : ℕ) → at < length out → set out at a ≡ placed out at (a ∷ [])
-unfolding placed
-placed-set out at a h = rw add-one (set-split out at a h)
-
--- the same of buffers that are known by equations
-pub placed-next : (out : List ℕ) (at : ℕ) (xs ys : List ℕ) {now new : List ℕ} (after : ℕ) → now ≡ placed out at xs → new ≡ placed now after ys → after ≡ at + length xs → at + length xs ≤ length out → new ≡ placed out at (xs ++ ys)
-placed-next out at xs ys after e f p h = f ∙ rw (e, p) (placed-then out at xs ys h)
-
--- ---- A number, byte by byte
-
-bytes-none : (n : ℕ) → number-bytes 0 n ≡ []
-unfolding number-bytes
-bytes-none n = refl
-
-bytes-more : (w n : ℕ) → number-bytes (suc w) n ≡ (n % 256) ∷ number-bytes w (n / 256)
-unfolding number-bytes
-bytes-more w n = refl
-
-pub record Putting (out : List ℕ) (at width number i rest : ℕ) (now : List ℕ) : Type 0 where
-  pub within : i ≤ width
-  pub long : length now ≡ length out
-  pub later : placed now (at + i) (number-bytes (width - i) rest) ≡ placed out at (number-bytes width number)
-
-pub put-start : {out : List ℕ} {at width number : ℕ} → Putting out at width number 0 number out
-put-start {out} {at} {width} =
-    let e : width - 0 ≡ width = omega arith in
-    let p : at + 0 ≡ at = omega arith in
-    record { within = omega arith; long = refl; later = rw (e, p) }
-
-module _ {out : List ℕ} {at width number i rest : ℕ} {now : List ℕ} (d : Putting out at width number i rest now) where
-  pub put-more : at + width ≤ length out → i < width → Putting out at width number (i + 1) (rest / 256) (set now (at + i) (rest % 256))
-  put-more h k =
-      let e : width - i ≡ suc (width - (i + 1)) = omega arith in
-      let p : at + (i + 1) ≡ at + i + 1 = omega arith in
-      record {
-        within = omega arith;
-        long = length-set now (at + i) (rest % 256) ∙ d .long;
-        later =
-            rw (placed-set now (at + i) (rest % 256) (omega (arith, d .long)), p)
-            (placed-then now (at + i) (rest % 256 ∷ []) (number-bytes (width - (i + 1)) (rest / 256)) (omega (arith, d .long)) ∙ (rw (e, bytes-more) at (d .later)));
-      }
-
-  pub put-end : width ≤ i → now ≡ placed out at (number-bytes width number)
-  put-end h =
-      let e : width - i ≡ 0 = omega arith in
-      sym (placed-nil now (at + i)) ∙ (rw (e, bytes-none) at (d .later))
+use Rattle.buffers.specs.Placed.{placed}
+use Rattle.buffers.proofs.Placing.{placed-nil, placed-length, placed-then, placed-next}
 
 -- ---- The trailer
 

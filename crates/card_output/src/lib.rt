@@ -7,25 +7,12 @@ ghost use Rattle.files.specs.Bytes.{number-bytes};
 ghost use Rattle.method.specs.declared.Test.the-variants.{Sharper};
 ghost use Rattle.method.specs.Iterates.{support};
 ghost use Rattle.card_format.specs.Format.{pair, pairs, WCD2, trailer-bytes, answer-fields};
-ghost use Rattle.card_output.specs.Output.{placed};
+ghost use Rattle.buffers.specs.Placed.{placed};
+use buffers::put;
 use method::Answer;
 
 // The letters WCD2 as a number.
 const LETTERS: u64 = 843334487;
-
-// The `width` bytes of a number from `at` on, the lowest first.
-pub fn put(output: &mut [u8], at: usize, width: usize, number: u64)
-    requires { ⌜ at + width ≤ length (now output) ⌝ }
-    ensures { λ _. ⌜ now (output .exit) ≡ placed (now (output .entry)) at (number-bytes width number) ⌝ }
-{
-    let mut rest = number;
-    let mut i = 0;
-    while i < width {
-        output[at + i] = (rest % 256) as u8;
-        rest /= 256;
-        i += 1;
-    }
-}
 
 // A boat and its share, where the share is not 0; gives back the offset after them.
 pub fn put_pair(output: &mut [u8], at: usize, boat: usize, share: u16) -> usize

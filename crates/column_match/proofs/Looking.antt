@@ -9,8 +9,8 @@ use lib.Dec.{eqb, ltb}
 use lib.ListN.{length, take}
 use Rattle.files.specs.Bytes.{same}
 use Rattle.files.proofs.Letters.{same-eq}
-use Rattle.card_output.specs.Output.{placed}
-use Rattle.sheet_output.proofs.Writing.{front-taken}
+use Rattle.buffers.specs.Placed.{placed}
+use Rattle.buffers.proofs.Writing.{front-taken}
 use Rattle.csv_cells.specs.Cells.{cell-text}
 use Rattle.column_match.specs.Match.{column-of}
 

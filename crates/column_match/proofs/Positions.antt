@@ -5,9 +5,9 @@ use Prim.Native.Nat.{ℕ, zero, suc, _+_, _-_, _≤_, _<_}
 use native.Mathlib.Numerals.{add-one}
 use native.Mathlib.Omega.{arith}
 use lib.ListN.{length, getD, set}
-use Rattle.card_output.specs.Output.{placed}
-use Rattle.card_output.proofs.Placing.{placed-set}
-use Rattle.sheet_output.proofs.Writing.{Writing, writing-start, writing-more, writing-end}
+use Rattle.buffers.specs.Placed.{placed}
+use Rattle.buffers.proofs.Placing.{placed-set}
+use Rattle.buffers.proofs.Writing.{Writing, writing-start, writing-more, writing-end}
 use Rattle.column_match.specs.Match.{position, positions-from, positions}
 use Rattle.column_match.proofs.Looking.{column-few}
 

@@ -4,7 +4,7 @@
 ghost use mathlib.Core.Path.{_≡_};
 ghost use Prim.Native.Nat.{_≤_, _<_};
 ghost use lib.ListN.{length};
-ghost use Rattle.card_output.specs.Output.{placed};
+ghost use Rattle.buffers.specs.Placed.{placed};
 ghost use Rattle.csv_cells.specs.Cells.{cell-text};
 ghost use Rattle.column_match.specs.Match.{column-of, position, none, column-mismatch, fleet-mismatch, unknown, mismatch, positions};
 

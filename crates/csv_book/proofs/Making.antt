@@ -10,11 +10,11 @@ use Rattle.files.specs.Book.{boats, columns, rows, book-refusal, Book-whole}
 use Rattle.files.specs.Front.{Book-front-unread}
 use Rattle.files.proofs.Front.{book-front-unread}
 use Rattle.files.specs.Limits.{file-limit}
-use Rattle.card_output.specs.Output.{placed}
-use Rattle.card_output.proofs.Placing.{placed-next}
+use Rattle.buffers.specs.Placed.{placed}
+use Rattle.buffers.proofs.Placing.{placed-next}
 use Rattle.sheet_output.specs.Output.{values-bytes}
 use Rattle.sheet_output.proofs.Values.{length-values-bytes}
-use Rattle.sheet_output.proofs.Writing.{front-taken}
+use Rattle.buffers.proofs.Writing.{front-taken}
 use Rattle.book_output.specs.Output.{book-trailer}
 use Rattle.book_output.proofs.Back.{book-trailer-length}
 use Rattle.fleet_table.specs.declared.Table.{Table}

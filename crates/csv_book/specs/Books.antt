@@ -4,7 +4,7 @@ use mathlib.Core.List.{List}
 use Prim.Native.Nat.{ℕ, zero, suc}
 use lib.Dec.{ltb}
 use lib.ListN.{length}
-use Rattle.card_output.specs.Output.{placed}
+use Rattle.buffers.specs.Placed.{placed}
 use Rattle.book_output.specs.Output.{book-bytes}
 use Rattle.fleet_reader.specs.Fleet.{last-table, last-line}
 use Rattle.fleet_rows.specs.Rows.{fleet-rows}

@@ -8,8 +8,8 @@ use borrow.Author.Tests.{ltb-true, ne-eqb, eq-eqb, lt-ltb, le-ltb}
 use lib.Dec.{ltb, eqb}
 use lib.ListN.{length, getD, drop, length-append}
 use Rattle.files.specs.Bytes.{all-bytes}
-use Rattle.card_output.specs.Output.{placed}
-use Rattle.sheet_output.proofs.Writing.{Writing, writing-start, writing-more, writing-end}
+use Rattle.buffers.specs.Placed.{placed}
+use Rattle.buffers.proofs.Writing.{Writing, writing-start, writing-more, writing-end}
 use Rattle.csv.specs.declared.Mode.{Mode}
 use Rattle.csv.specs.declared.Mode.the-variants.{Start, Plain, Quoted, Closing, Return}
 use Rattle.csv.specs.declared.Step.{Step}

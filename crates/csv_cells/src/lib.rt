@@ -5,7 +5,7 @@
 ghost use mathlib.Core.Path.{_≡_};
 ghost use Prim.Native.Nat.{_≤_, _<_};
 ghost use lib.ListN.{length};
-ghost use Rattle.card_output.specs.Output.{placed};
+ghost use Rattle.buffers.specs.Placed.{placed};
 ghost use Rattle.csv_cells.specs.Cells.{start, faulty, with-text, next-field, row-after, next-line, ended, consumed, moved, last-place, is-in, is-past, cell-text, line-at, line-of, width-at, width};
 use csv::Mode;
 

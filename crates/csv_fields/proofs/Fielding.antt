@@ -7,9 +7,9 @@ use native.Mathlib.Omega.{arith}
 use borrow.Author.Tests.{ltb-true, eq-eqb, ne-eqb, lt-ltb, le-ltb}
 use lib.Dec.{ltb, eqb}
 use lib.ListN.{length, getD, drop, set, length-append}
-use Rattle.card_output.specs.Output.{placed}
-use Rattle.card_output.proofs.Placing.{placed-nil, placed-set}
-use Rattle.sheet_output.proofs.Writing.{Writing, writing-start, writing-more, writing-end}
+use Rattle.buffers.specs.Placed.{placed}
+use Rattle.buffers.proofs.Placing.{placed-nil, placed-set}
+use Rattle.buffers.proofs.Writing.{Writing, writing-start, writing-more, writing-end}
 use Rattle.csv.specs.declared.Mode.{Mode}
 use Rattle.csv.specs.declared.Mode.the-variants.{Start, Plain, Quoted, Closing, Return}
 use Rattle.csv.specs.declared.Step.{Step}

@@ -6,7 +6,7 @@ ghost use mathlib.Core.Bool.{true};
 ghost use Prim.Native.Nat.{_+_, _≤_, _<_};
 ghost use lib.ListN.{length};
 ghost use Rattle.fleet_table.specs.Table.{after};
-ghost use Rattle.card_output.specs.Output.{placed};
+ghost use Rattle.buffers.specs.Placed.{placed};
 ghost use Rattle.csv_fields.specs.Fields.{is-at, byte-if, field-text};
 use csv::Mode;
 use fleet_table::Table;

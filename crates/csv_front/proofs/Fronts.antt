@@ -7,8 +7,8 @@ use native.Mathlib.Omega.{arith}
 use borrow.Author.Tests.{le-leb, lt-leb, leb-true}
 use lib.Dec.{leb}
 use lib.ListN.{length, length-append}
-use Rattle.card_output.specs.Output.{placed}
-use Rattle.card_output.proofs.Placing.{placed-nil, placed-next, placed-length}
+use Rattle.buffers.specs.Placed.{placed}
+use Rattle.buffers.proofs.Placing.{placed-nil, placed-next, placed-length}
 use Rattle.csv_front.specs.declared.Front.{Front}
 use Rattle.csv_front.specs.declared.Front.the-variants.{Whole, Names, Nothing}
 use Rattle.csv_front.specs.declared.Written.{Written}

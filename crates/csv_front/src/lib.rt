@@ -4,12 +4,12 @@
 ghost use mathlib.Core.Path.{_≡_};
 ghost use Prim.Native.Nat.{_+_, _≤_};
 ghost use lib.ListN.{length};
-ghost use Rattle.card_output.specs.Output.{placed};
+ghost use Rattle.buffers.specs.Placed.{placed};
 ghost use Rattle.csv_front.specs.Front.{is-kept, kept-byte, names-text, front-of, front-text, with-front, written-of};
 ghost use Rattle.files.specs.Limits.{file-limit};
+use buffers::put_bytes;
 use csv::Mode;
 use fleet_table::Table;
-use sheet_output::put_bytes;
 
 // What of a CSV is the front text: all of it, the names and units, nothing.
 pub enum Front {

@@ -13,13 +13,13 @@ use Rattle.files.specs.Limits.{file-limit}
 use Rattle.files.specs.Book.{columns, book-refusal}
 use Rattle.files.specs.Sheet.{sheet, files-refusal, sheet-refusal}
 use Rattle.files.proofs.Refusal.{between-true}
-use Rattle.card_output.specs.Output.{placed}
+use Rattle.buffers.specs.Placed.{placed}
 use Rattle.sheet_output.specs.Output.{edition-bytes}
 use Rattle.sheet_output.specs.Back.{Factored-fit, Edition-of, Edition-reads-back}
 use Rattle.sheet_output.specs.Front.{Same-with-front, Sheet-takes-front}
 use Rattle.sheet_output.proofs.Back.{edition-reads-back}
 use Rattle.sheet_output.proofs.Front.{sheet-takes-front}
-use Rattle.sheet_output.proofs.Writing.{front-taken}
+use Rattle.buffers.proofs.Writing.{front-taken}
 use Rattle.fleet_table.specs.declared.Table.{Table}
 use Rattle.fleet_reader.specs.Fleet.{last-table}
 use Rattle.csv_front.specs.declared.Front.the-variants.{Nothing}

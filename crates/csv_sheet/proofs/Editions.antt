@@ -8,12 +8,12 @@ use borrow.Author.Tests.{eq-eqb, ne-eqb}
 use lib.ListN.{length, take, length-append}
 use Rattle.files.specs.Limits.{file-limit}
 use Rattle.files.specs.Sheet.{WSH1, WSH2}
-use Rattle.card_output.specs.Output.{placed}
-use Rattle.card_output.proofs.Placing.{placed-next, placed-length}
+use Rattle.buffers.specs.Placed.{placed}
+use Rattle.buffers.proofs.Placing.{placed-next, placed-length}
 use Rattle.sheet_output.specs.Output.{values-bytes, sheet-trailer, sheet-bytes, factored-body, factored-bytes, edition-bytes}
 use Rattle.sheet_output.proofs.Values.{length-values-bytes}
 use Rattle.sheet_output.proofs.Back.{sheet-trailer-length}
-use Rattle.sheet_output.proofs.Writing.{front-taken}
+use Rattle.buffers.proofs.Writing.{front-taken}
 use Rattle.csv_sheet.specs.Sheets.{row-for, target-of, has-factors, factors-of, steps-of, tolerance-of, sheet-of, asked-at, sheet-at}
 use Rattle.csv_sheet.specs.Ready.{Ready}
 use Rattle.csv_sheet.proofs.Bounds.{target-long}

@@ -8,8 +8,8 @@ use borrow.Author.Tests.{eq-eqb, ne-eqb, lt-ltb, le-ltb}
 use lib.ListN.{length, getD, take}
 use Rattle.frank_wolfe.specs.Vectors.{sum}
 use Rattle.files.specs.Bytes.{between}
-use Rattle.card_output.specs.Output.{placed}
-use Rattle.sheet_output.proofs.Writing.{front-taken}
+use Rattle.buffers.specs.Placed.{placed}
+use Rattle.buffers.proofs.Writing.{front-taken}
 use Rattle.fleet_reader.specs.Fleet.{last-table}
 use Rattle.fleet_rows.specs.Rows.{Whole, Faultless-whole}
 use Rattle.fleet_rows.proofs.Counting.{faultless-whole}

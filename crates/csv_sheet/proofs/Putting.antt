@@ -10,11 +10,11 @@ use Rattle.files.specs.Bytes.{number-bytes}
 use Rattle.files.proofs.Bytes.{length-bytes}
 use Rattle.csv.specs.Cells.{signed}
 use Rattle.csv.specs.declared.Cell.{Cell}
-use Rattle.card_output.specs.Output.{placed}
-use Rattle.card_output.proofs.Placing.{placed-set}
+use Rattle.buffers.specs.Placed.{placed}
+use Rattle.buffers.proofs.Placing.{placed-set}
 use Rattle.sheet_output.specs.Output.{bits, values-bytes}
 use Rattle.sheet_output.proofs.Values.{length-values-bytes}
-use Rattle.sheet_output.proofs.Writing.{Writing, writing-start, writing-more, writing-end}
+use Rattle.buffers.proofs.Writing.{Writing, writing-start, writing-more, writing-end}
 use Rattle.csv_sheet.specs.Sheets.{cell-at, row-for, value-at, target-of, factor-at, factors-of}
 
 -- ---- values, 2 bytes each

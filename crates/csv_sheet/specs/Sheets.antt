@@ -11,7 +11,7 @@ use Rattle.files.specs.Limits.{file-limit}
 use Rattle.files.specs.Sheet.{Sheet}
 use Rattle.csv.specs.Cells.{signed}
 use Rattle.csv.specs.declared.Cell.{Cell}
-use Rattle.card_output.specs.Output.{placed}
+use Rattle.buffers.specs.Placed.{placed}
 use Rattle.sheet_output.specs.Output.{edition-bytes}
 use Rattle.fleet_reader.specs.Fleet.{last-table}
 use Rattle.csv_cells.specs.Cells.{cell-text}

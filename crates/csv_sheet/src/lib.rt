@@ -5,14 +5,14 @@ ghost use mathlib.Core.Path.{_≡_};
 ghost use Prim.Native.Nat.{_*_, _≤_};
 ghost use lib.ListN.{length, take};
 ghost use Rattle.files.specs.Limits.{file-limit};
-ghost use Rattle.card_output.specs.Output.{placed};
+ghost use Rattle.buffers.specs.Placed.{placed};
 ghost use Rattle.sheet_output.specs.Output.{values-bytes, edition-bytes};
 ghost use Rattle.fleet_reader.specs.Fleet.{last-table};
 ghost use Rattle.sheet_rows.specs.Rows.{rows-fault};
 ghost use Rattle.csv_sheet.specs.Sheets.{row-for, target-of, has-factors, factor-at, factors-of, steps-of, tolerance-for, tolerance-of, sheet-of, sheet-at, nothing-made, made-at, made-of-columns, sheet-made, output-at, output-by};
 ghost use Rattle.csv_sheet.specs.Ready.{Ready};
 ghost use Rattle.csv_sheet.specs.Promise.{Sheet-right};
-use card_output::put;
+use buffers::put;
 use fleet_table::Table;
 
 // What is wrong, besides what sheet_rows, csv_cells and column_match name: more than 39,000 bytes of CSV, a buffer of fewer than 40,000
@@ -169,7 +169,7 @@ fn put_sheet(
         sheet_output::put_sheet_trailer(output, 2 * columns, columns, steps, tolerance);
         return 2 * columns + 16;
     }
-    sheet_output::put_bytes(output, 2 * columns, factors);
+    buffers::put_bytes(output, 2 * columns, factors);
     sheet_output::put_factored_trailer(output, 3 * columns, columns, steps, tolerance);
     3 * columns + 16
 }
@@ -193,8 +193,8 @@ fn put_file(
 {
     let mut sheet = [0u8; 208];
     let size = put_sheet(csv, places, factors, steps, tolerance, &mut sheet);
-    sheet_output::put_bytes(output, 0, csv);
-    sheet_output::put_bytes(output, csv.len(), &sheet[..size]);
+    buffers::put_bytes(output, 0, csv);
+    buffers::put_bytes(output, csv.len(), &sheet[..size]);
     csv.len() + size
 }
 

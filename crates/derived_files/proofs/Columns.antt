@@ -7,9 +7,9 @@ use native.Mathlib.Numerals.{add-one}
 use lib.ListN.{length, getD, drop, set, replicate, length-append, length-replicate, length-set, drop-of-length-le}
 use lib.Seq.{drop-cons}
 use Rattle.frank_wolfe.specs.Vectors.{sum}
-use Rattle.card_output.specs.Output.{placed}
-use Rattle.card_output.proofs.Placing.{placed-set, placed-then}
-use Rattle.sheet_output.proofs.Writing.{Writing, writing-start, writing-room, writing-more, writing-end}
+use Rattle.buffers.specs.Placed.{placed}
+use Rattle.buffers.proofs.Placing.{placed-set, placed-then}
+use Rattle.buffers.proofs.Writing.{Writing, writing-start, writing-room, writing-more, writing-end}
 use Rattle.derived_files.specs.Places.{places, cells}
 
 -- ---- one column

@@ -15,13 +15,13 @@ use Rattle.files.specs.Fits.{Sheet-fits}
 use Rattle.files.specs.Sheet.{sheet, WSH1, target-offset, sheet-refusal, files-refusal}
 use Rattle.files.proofs.Access.{target-at}
 use Rattle.files.proofs.Accepted.{book-accepted, files-accepted}
-use Rattle.card_output.specs.Output.{placed}
-use Rattle.card_output.proofs.Placing.{placed-next}
+use Rattle.buffers.specs.Placed.{placed}
+use Rattle.buffers.proofs.Placing.{placed-next}
 use Rattle.sheet_output.specs.Output.{values-bytes, sheet-trailer, sheet-bytes}
 use Rattle.sheet_output.specs.Back.{Sheet-fit, Sheet-reads-back}
 use Rattle.sheet_output.proofs.Values.{length-values-bytes}
 use Rattle.sheet_output.proofs.Back.{sheet-trailer-length, sheet-reads-back}
-use Rattle.sheet_output.proofs.Writing.{front-taken}
+use Rattle.buffers.proofs.Writing.{front-taken}
 use Rattle.method.specs.Problem.{problem}
 use Rattle.method.specs.Plain.{plain-problem}
 use Rattle.plain_twin.specs.Repeating.{repeated, plain-of}

@@ -18,10 +18,10 @@ use Rattle.files.proofs.Numbers.{number-2}
 use Rattle.files.proofs.Rows.{value-of-values}
 use Rattle.files.proofs.Access.{row-at, cell-inside}
 use Rattle.files.proofs.Accepted.{book-accepted}
-use Rattle.card_output.specs.Output.{placed}
+use Rattle.buffers.specs.Placed.{placed}
 use Rattle.sheet_output.specs.Output.{bits, values-bytes}
 use Rattle.sheet_output.proofs.Values.{length-values-bytes}
-use Rattle.sheet_output.proofs.Writing.{Writing, writing-start, writing-more, writing-end}
+use Rattle.buffers.proofs.Writing.{Writing, writing-start, writing-more, writing-end}
 use Rattle.book_output.specs.Output.{rows-bytes}
 use Rattle.derived_files.specs.Places.{picked, cells, picked-rows-bytes, Inside, Below}
 

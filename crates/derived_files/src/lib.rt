@@ -7,7 +7,7 @@ ghost use lib.ListN.{length, replicate};
 ghost use Rattle.frank_wolfe.specs.Vectors.{sum};
 ghost use Rattle.files.specs.Book.{columns, book-refusal};
 ghost use Rattle.files.specs.Fits.{Sheet-fits};
-ghost use Rattle.card_output.specs.Output.{placed};
+ghost use Rattle.buffers.specs.Placed.{placed};
 ghost use Rattle.derived_files.specs.Derived.{derived-book, derived-sheet};
 ghost use Rattle.derived_files.specs.Places.{places, cells, picked-rows-bytes, Inside, Below};
 

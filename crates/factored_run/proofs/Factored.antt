@@ -19,8 +19,8 @@ use Rattle.method.specs.Answers.{run-answer, run-iterate}
 use Rattle.method.specs.Bounds.{answer-of}
 use Rattle.plain_twin.specs.Repeating.{plain-of, Plain-twin, Same-runs}
 use Rattle.plain_twin.proofs.Repeating.{plain-twin}
-use Rattle.card_output.specs.Output.{placed}
-use Rattle.sheet_output.proofs.Writing.{front-inside, front-taken}
+use Rattle.buffers.specs.Placed.{placed}
+use Rattle.buffers.proofs.Writing.{front-inside, front-taken}
 use Rattle.derived_files.specs.Derived.{derived-book, derived-sheet}
 use Rattle.derived_files.specs.Accepted.{twin-book, twin-sheet, Twin-files, Files-twin}
 use Rattle.derived_files.proofs.Files.{book-passed, files-twin}

@@ -5,7 +5,7 @@
 ghost use mathlib.Core.Path.{_≡_};
 ghost use Prim.Native.Nat.{_+_, _≤_};
 ghost use lib.ListN.{length};
-ghost use Rattle.card_output.specs.Output.{placed};
+ghost use Rattle.buffers.specs.Placed.{placed};
 ghost use Rattle.text.specs.Texts.{text-limit, Holds, Adds};
 ghost use Rattle.fault_text.specs.Faults.{place, other-words, plain-words, few-words, unnamed-words, many-words, words, looked, wants-boat, wants-column, wants-value, fault-line, fleet-fault, front-line, book-lines};
 use csv_book::Made;

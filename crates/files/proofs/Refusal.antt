@@ -27,6 +27,10 @@ between-true least most n e =
     let p = and-true (leb least n) (leb n most) e in
     (leb-true least n (p .0), leb-true n most (p .1))
 
+pub between-said : {least most n : ℕ} → least ≤ n → n ≤ most → between least most n ≡ true
+unfolding between
+between-said {least} {most} {n} h k = simp (le-leb least n h, le-leb n most k)
+
 module _ (least most n : ℕ) (g : Bool) (e : g ≡ between least most n) (t : not g ≡ false) where
   pub at-least : least ≤ n
   at-least = between-true least most n (sym e ∙ not-false g t) .0

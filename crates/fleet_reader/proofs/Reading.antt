@@ -9,10 +9,10 @@ use borrow.Author.Tests.{ltb-false}
 use lib.Dec.{ltb, eqb}
 use lib.ListN.{length, getD, drop, length-append, drop-of-length-le}
 use lib.Seq.{drop-cons}
-use Rattle.card_output.specs.Output.{placed}
+use Rattle.buffers.specs.Placed.{placed}
 use Rattle.sheet_output.specs.Output.{values-bytes}
 use Rattle.sheet_output.proofs.Values.{length-values-bytes, values-bytes-append}
-use Rattle.sheet_output.proofs.Writing.{Writing, writing-start, writing-more, writing-end}
+use Rattle.buffers.proofs.Writing.{Writing, writing-start, writing-more, writing-end}
 use Rattle.csv.specs.Cells.{with-byte, progress}
 use Rattle.csv.specs.declared.Cell.{Cell}
 use Rattle.csv.specs.declared.Mode.{Mode}

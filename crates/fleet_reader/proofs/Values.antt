@@ -10,8 +10,8 @@ use lib.Dec.{ltb, eqb}
 use lib.IntN.{ℤ}
 use lib.ListN.{length, length-append}
 use Rattle.files.specs.Bytes.{number-bytes}
-use Rattle.card_output.specs.Output.{placed}
-use Rattle.card_output.proofs.Placing.{placed-nil}
+use Rattle.buffers.specs.Placed.{placed}
+use Rattle.buffers.proofs.Placing.{placed-nil}
 use Rattle.sheet_output.specs.Output.{bits, values-bytes}
 use Rattle.csv.specs.Cells.{signed, is-number}
 use Rattle.fleet_table.specs.declared.Table.{Table}

@@ -4,11 +4,11 @@
 ghost use mathlib.Core.Path.{_≡_};
 ghost use Prim.Native.Nat.{_+_, _*_, _≤_, _<_};
 ghost use lib.ListN.{length};
-ghost use Rattle.card_output.specs.Output.{placed};
+ghost use Rattle.buffers.specs.Placed.{placed};
 ghost use Rattle.sheet_output.specs.Output.{bits, values-bytes};
 ghost use Rattle.csv.specs.Cells.{signed};
 ghost use Rattle.fleet_reader.specs.Fleet.{ends-value, ended-value, next-number, fleet-values, last-table, last-line};
-use card_output::put;
+use buffers::put;
 use csv::Mode;
 use fleet_table::Table;
 

@@ -7,7 +7,8 @@ use borrow.Author.Tests.{eq-eqb, ne-eqb}
 use lib.ListN.{length, getD, set, take, length-map}
 use Rattle.text.specs.Texts.{text-limit, Adds}
 use Rattle.text.specs.declared.Text.{Text}
-use Rattle.text.proofs.Texts.{Copied, copied-start, copied-more, copied-end, adds-both}
+use Rattle.text.proofs.Texts.{adds-placed, adds-both}
+use Rattle.buffers.proofs.Writing.{Copying, copying-more, copying-end}
 use Rattle.line_parts.specs.Parts.{shown, part}
 
 -- ---- a name as one line shows it
@@ -16,18 +17,15 @@ getD-shown [] i h = absurd (omega arith)
 getD-shown (x ∷ s) zero h = refl
 getD-shown (x ∷ s) (suc i) h = getD-shown s i (omega arith)
 
-pub shown-start : (s : List ℕ) {old : List ℕ} {at : ℕ} → at + length s ≤ text-limit → length old ≡ text-limit → Copied (map shown s) at old old 0
-shown-start s r l = copied-start (rw (length-map s shown) r) l
+module _ (s : List ℕ) {old new : List ℕ} {at i : ℕ} (d : Copying old at (map shown s) i new) (room : at + length s ≤ text-limit) (long : length old ≡ text-limit) where
+  pub shown-more : i < length s → {x : ℕ} → x ≡ shown (getD s i 0) → Copying old at (map shown s) (i + 1) (set new (at + i) x)
+  shown-more h e = rw (e ∙ sym (getD-shown s i h)) (copying-more d (rw (length-map s shown) (omega arith)) (rw (length-map s shown) h))
 
-module _ (s : List ℕ) {old new : List ℕ} {at i : ℕ} (d : Copied (map shown s) at old new i) where
-  pub shown-inside : i < length s → at + i < text-limit
-  shown-inside h = omega (arith, d .room, length-map s shown)
-
-  pub shown-more : i < length s → {x : ℕ} → x ≡ shown (getD s i 0) → Copied (map shown s) at old (set new (at + i) x) (i + 1)
-  shown-more h e = rw (e ∙ sym (getD-shown s i h)) (copied-more d (rw (length-map s shown) h))
-
-pub shown-end : {t : Text} (s : List ℕ) {new : List ℕ} {i : ℕ} → Copied (map shown s) (t .len) (t .bytes) new i → length s ≤ i → Adds t (map shown s) (record { bytes = new; len = t .len + i })
-shown-end {t} s d h = copied-end d (rw (length-map s shown) h)
+pub shown-end : {t : Text} (s : List ℕ) {new : List ℕ} {i : ℕ} → Copying (t .bytes) (t .len) (map shown s) i new → t .len + length s ≤ text-limit → length (t .bytes) ≡ text-limit → length s ≤ i →
+    Adds t (map shown s) (record { bytes = new; len = t .len + i })
+shown-end {t} s d r l h =
+    let e : length (map shown s) ≡ length s = length-map s shown in
+    adds-placed (rw e r) l (copying-end d (rw e h)) (omega (arith, d .within))
 
 -- ---- nothing added
 pub nothing-added : (t : Text) → t .len ≤ text-limit → Adds t [] t

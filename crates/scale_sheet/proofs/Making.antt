@@ -23,8 +23,8 @@ use Rattle.cells.specs.declared.ScaleCell.{ScaleCell}
 use Rattle.cells.specs.Cells.{cell-value, read-cells, scale-refusal, values-after, sheet-values}
 use Rattle.cells.specs.Promise.{Values-accepted, Values-right}
 use Rattle.cells.proofs.Values.{scale-accepted, read-length, read-in-range, conversion-right}
-use Rattle.card_output.specs.Output.{placed}
-use Rattle.card_output.proofs.Placing.{placed-next, placed-length}
+use Rattle.buffers.specs.Placed.{placed}
+use Rattle.buffers.proofs.Placing.{placed-next, placed-length}
 use Rattle.sheet_output.specs.Output.{values-bytes, sheet-trailer, sheet-bytes}
 use Rattle.sheet_output.specs.Back.{Sheet-of, Sheet-reads-back}
 use Rattle.sheet_output.proofs.Values.{length-values-bytes}

@@ -12,8 +12,8 @@ use Rattle.frank_wolfe.proofs.Vectors.{sum-ones}
 use Rattle.files.specs.Bytes.{number-bytes, little-endian, number, values, same, all-bytes, all-in-range, length-in-range, trailer, body, reaches, body-refusal}
 use Rattle.files.specs.Sheet.{Sheet, sheet, sheet-columns, WSH1, WSH2, sheet-lettered, factor-bytes, sheet-refusal-in, sheet-refusal}
 use Rattle.files.proofs.Bytes.{read-bytes}
+use Rattle.files.proofs.Refusal.{between-said}
 use Rattle.files.specs.Limits.{file-limit, step-limit}
-use Rattle.card_format.proofs.Accepted.{between-said}
 use Rattle.sheet_output.specs.Output.{values-bytes, sheet-trailer, sheet-bytes, factored-body, factored-bytes, edition-bytes}
 use Rattle.sheet_output.specs.Back.{Sheet-fit, Sheet-reads-back, Factored-fit, Factored-reads-back, Edition-reads-back}
 use Rattle.sheet_output.proofs.Values.{length-values-bytes, values-back}

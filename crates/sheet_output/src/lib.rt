@@ -1,15 +1,15 @@
 // A sheet's bytes put into a buffer: its values from the first byte on, in the edition WSH2 its factors, then its trailer.
 //
-// Helpers for other crates, whose callers prove what they require: put_values, put_bytes, put_sheet_trailer, put_factored_trailer; bits_of asks nothing.
+// Helpers for other crates, whose callers prove what they require: put_values, put_sheet_trailer, put_factored_trailer; bits_of asks nothing.
 ghost use mathlib.Core.Path.{_≡_};
 ghost use mathlib.Core.Bool.{true};
 ghost use Prim.Native.Nat.{_+_, _*_, _≤_};
 ghost use lib.ListN.{length, take};
 ghost use Rattle.files.specs.Bytes.{number-bytes, all-in-range};
 ghost use Rattle.files.specs.Sheet.{WSH1, WSH2};
-ghost use Rattle.card_output.specs.Output.{placed};
+ghost use Rattle.buffers.specs.Placed.{placed};
 ghost use Rattle.sheet_output.specs.Output.{bits, values-bytes, sheet-trailer};
-use card_output::put;
+use buffers::put;
 
 // The letters WSH1 as a number.
 const LETTERS_1: u64 = 826823511;
@@ -33,18 +33,6 @@ pub fn put_values(output: &mut [u8], values: [i16; 64], count: usize)
     while i < count {
         let value = values[i];
         put(output, 2 * i, 2, bits_of(value));
-        i += 1;
-    }
-}
-
-// Bytes from `at` on: a sheet's factors, say, are 1 byte each.
-pub fn put_bytes(output: &mut [u8], at: usize, bytes: &[u8])
-    requires { ⌜ at + length (now bytes) ≤ length (now output) ⌝ }
-    ensures { λ _. ⌜ now (output .exit) ≡ placed (now (output .entry)) at (now (bytes .entry)) ⌝ }
-{
-    let mut i = 0;
-    while i < bytes.len() {
-        output[at + i] = bytes[i];
         i += 1;
     }
 }

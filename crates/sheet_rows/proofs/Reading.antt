@@ -8,8 +8,8 @@ use lib.ListN.{length, getD, take, drop, replicate, drop-of-length-le}
 use lib.Seq.{drop-cons}
 use Rattle.csv.specs.Cells.{no-bytes, with-byte}
 use Rattle.csv.specs.declared.Cell.{Cell}
-use Rattle.card_output.specs.Output.{placed}
-use Rattle.sheet_output.proofs.Writing.{front-taken}
+use Rattle.buffers.specs.Placed.{placed}
+use Rattle.buffers.proofs.Writing.{front-taken}
 use Rattle.csv_cells.specs.Cells.{cell-text}
 use Rattle.csv_cells.proofs.Celling.{few-bytes}
 use Rattle.sheet_rows.specs.Rows.{read-from, read}

@@ -4,7 +4,7 @@
 ghost use mathlib.Core.Path.{_≡_};
 ghost use Prim.Native.Nat.{_+_, _≤_};
 ghost use lib.ListN.{length};
-ghost use Rattle.card_output.specs.Output.{placed};
+ghost use Rattle.buffers.specs.Placed.{placed};
 ghost use Rattle.text.specs.Texts.{text-limit, Holds, Adds};
 ghost use Rattle.sheet_text.specs.Lines.{range-words, beyond-words, again-words, nameless-words, missing-words, limit-words, words, looked, of-value, wants-row, wants-column, row-line, row-fault, opening, closing, column-line, column-fault, sheet-fault, sheet-lines};
 use csv_front::Front;

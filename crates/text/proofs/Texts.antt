@@ -1,12 +1,13 @@
--- Laws of texts: the loops of `figures_of` and `with_bytes`, and texts with several parts added. Assumes nothing.
+-- Laws of texts: the loop of `figures_of`, bytes put behind a text, and texts with several parts added. Assumes nothing.
 use mathlib.Core.Path.{_≡_, refl, sym, ap, _∙_}
 use mathlib.Core.List.{List, [], _∷_, _++_, append-assoc, append-nil}
 use Prim.Native.Nat.{ℕ, zero, suc, _+_, _*_, _-_, _/_, _%_, _^_, _≤_, _<_}
 use native.Mathlib.Nat.{pow-succ', le-of-suc-le-suc}
-use native.Mathlib.Numerals.{add-one}
 use native.Mathlib.Omega.{arith}
-use lib.ListN.{length, getD, take, drop, set, replicate, length-append, length-drop, length-set}
-use lib.Seq.{paste, paste-zero, paste-suc, take-paste, drop-paste, drop-drop, take-all}
+use lib.ListN.{length, take, drop, set, replicate, length-append, length-drop, length-set}
+use lib.Seq.{drop-drop, take-all}
+use Rattle.buffers.specs.Placed.{placed}
+use Rattle.buffers.proofs.Placing.{take-placed, drop-placed}
 use Rattle.text.specs.Decimal.{figure, decimal, pair}
 use Rattle.text.specs.Lines.{number-line, pair-line}
 use Rattle.text.specs.Texts.{text-limit, bytes-of, Holds, Adds, Figures-of}
@@ -118,35 +119,17 @@ written-two {n} {rest} {at} {x} {y} {bytes} w h g p q =
           ∙ sym (rw (i, p, q) (set-two bytes (at - 2) (figure (rest / 10)) (figure (rest % 10)) l)));
     }
 
--- ---- The loop of `with_bytes`
+-- ---- Bytes put behind a text
 
--- `new` is `old` with the first i bytes of s from `at` on
-pub record Copied (s : List ℕ) (at : ℕ) (old new : List ℕ) (i : ℕ) : Type 0 where
-  pub reached : i ≤ length s
-  pub room : at + length s ≤ text-limit
-  pub long : length old ≡ text-limit
-  pub copied : new ≡ paste old at s i
-
-pub copied-start : {s old : List ℕ} {at : ℕ} → at + length s ≤ text-limit → length old ≡ text-limit → Copied s at old old 0
-copied-start {s} {old} {at} r l = record { reached = omega arith; room = r; long = l; copied = paste-zero old at s }
-
-pub copied-more : {s old new : List ℕ} {at i : ℕ} → Copied s at old new i → i < length s → Copied s at old (set new (at + i) (getD s i 0)) (i + 1)
-copied-more {s} {old} {new} {at} {i} k h =
+pub adds-placed : {t : Text} {s new : List ℕ} {n : ℕ} → t .len + length s ≤ text-limit → length (t .bytes) ≡ text-limit → new ≡ placed (t .bytes) (t .len) s → n ≡ t .len + length s →
+    Adds t s (record { bytes = new; len = n })
+adds-placed {t} {s} {new} {n} r l e p =
+    let h : t .len ≤ length (t .bytes) = omega arith in
     record {
-      reached = omega arith;
-      room = k .room;
-      long = k .long;
-      copied = rw (k .copied, add-one) (paste-suc old at s i 0 (omega (arith, k .room, k .long)) h);
-    }
-
-pub copied-end : {t : Text} {s new : List ℕ} {i : ℕ} → Copied s (t .len) (t .bytes) new i → length s ≤ i → Adds t s (record { bytes = new; len = t .len + i })
-copied-end {t} {s} {new} {i} k h =
-    let e : i ≡ length s = omega (arith, k .reached) in
-    record {
-      fits = omega (arith, k .reached, k .room);
-      length-is = omega arith;
-      bytes-are = rw (k .copied) (take-paste (t .bytes) (t .len) s i (omega (arith, k .room, k .long)) (k .reached) ∙ ap (λ (l : List ℕ). take (t .len) (t .bytes) ++ l) (take-all i s h));
-      rest = rw (k .copied) (drop-paste (t .bytes) (t .len) s i (omega (arith, k .reached, k .room, k .long)) (k .reached));
+      fits = omega arith;
+      length-is = p;
+      bytes-are = rw (e, p) (take-placed (t .bytes) (t .len) s h);
+      rest = rw (e, p) (drop-placed (t .bytes) (t .len) s h);
     }
 
 -- ---- Texts with several parts added

@@ -69,14 +69,10 @@ impl Text {
     {
         let start = self.len;
         let mut bytes = self.bytes;
-        let mut i = 0;
-        while i < s.len() {
-            bytes[start + i] = s[i];
-            i += 1;
-        }
+        buffers::put_bytes(&mut bytes, start, s);
         Text {
             bytes,
-            len: start + i,
+            len: start + s.len(),
         }
     }
 

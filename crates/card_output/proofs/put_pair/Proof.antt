@@ -6,7 +6,7 @@ use Rattle.card_output.proofs.put_pair.Statement.{statement}
 use Rattle.card_output.proofs.put_pair.Tie as tie
 use Rattle.card_output.proofs.put_pair.Reads as reads
 use Rattle.card_output.proofs.put_pair.Lts as lts
-use Rattle.card_output.proofs.put.Reads as put-reads
+use Rattle.buffers.proofs.put.Reads as put-reads
 
 returns : tie.Need-returns
 returns c = pair-skipped _ _ _ _ (c .if1 .taken)

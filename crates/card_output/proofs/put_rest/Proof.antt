@@ -5,7 +5,7 @@ use Rattle.card_output.proofs.put_rest.Statement.{statement}
 use Rattle.card_output.proofs.put_rest.Tie as tie
 use Rattle.card_output.proofs.put_rest.Reads as reads
 use Rattle.card_output.proofs.put_rest.Lts as lts
-use Rattle.card_output.proofs.put.Reads as put-reads
+use Rattle.buffers.proofs.put.Reads as put-reads
 
 put-requires : tie.Need-put-requires
 put-requires c κs = search needs

@@ -5,7 +5,7 @@ use Prim.Native.Nat.{_≤_}
 use native.Mathlib.Omega.{arith}
 use lib.ListN.{length, take, replicate}
 use lib.Seq.{length-take-le}
-use Rattle.sheet_output.proofs.Writing.{front-taken}
+use Rattle.buffers.proofs.Writing.{front-taken}
 use Rattle.fault_text.specs.Faults.{looked}
 use Rattle.fault_text.proofs.Lines.{few-looked, fault-told}
 use Rattle.fault_text.proofs.fleet_fault.Statement.{statement}

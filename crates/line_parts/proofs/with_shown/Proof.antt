@@ -2,22 +2,22 @@
 use borrow.Author.Needs.{needs}
 use mathlib.Core.List.{map}
 use Prim.Native.Nat.{_-_}
-use lib.ListN.{length}
-use Rattle.text.proofs.Texts.{Copied}
+use lib.ListN.{length, length-map}
+use Rattle.buffers.proofs.Writing.{Copying, copying-start}
 use Rattle.line_parts.specs.Parts.{shown}
-use Rattle.line_parts.proofs.Parts.{shown-start, shown-inside, shown-more, shown-end}
+use Rattle.line_parts.proofs.Parts.{shown-more, shown-end}
 use native.Mathlib.Omega.{arith}
 use Rattle.line_parts.proofs.with_shown.Statement.{statement}
 use Rattle.line_parts.proofs.with_shown.Tie as tie
 
 abbrev Inv-loop : tie.InvT-loop
-Inv-loop name start bytes₀ i₀ bytes i = Copied (map shown name) start bytes₀ bytes i
+Inv-loop name start bytes₀ i₀ bytes i = Copying bytes₀ start (map shown name) i bytes
 
 abbrev μ-loop : tie.MeasureT-loop
 μ-loop name start bytes₀ i₀ bytes i = length name - i
 
 loop-holds : tie.Need-loop-holds Inv-loop μ-loop
-loop-holds c = search (needs, shown-start)
+loop-holds c = copying-start
 
 shared-slice-read-shown : tie.Need-shared-slice-read-shown Inv-loop μ-loop
 shared-slice-read-shown c = search needs
@@ -26,10 +26,10 @@ shown-requires : tie.Need-shown-requires Inv-loop μ-loop
 shown-requires c κs = search needs
 
 add-bytes : tie.Need-add-bytes Inv-loop μ-loop
-add-bytes c = search (needs, shown-inside)
+add-bytes c = search needs
 
 array-write-bytes : tie.Need-array-write-bytes Inv-loop μ-loop
-array-write-bytes c = search (needs, shown-inside)
+array-write-bytes c = search needs
 
 add-i : tie.Need-add-i Inv-loop μ-loop
 add-i c = search needs
@@ -41,7 +41,7 @@ loop-again : tie.Need-loop-again Inv-loop μ-loop
 loop-again c = search (needs, shown-more)
 
 add-t14 : tie.Need-add-t14 Inv-loop μ-loop
-add-t14 c = omega (arith, c .before .loop .inv .reached, c .before .loop .inv .room)
+add-t14 c = omega (arith, c .before .loop .inv .within, length-map (c .before .before .before .before .args .name .now) shown)
 
 returns : tie.Need-returns Inv-loop μ-loop
 returns c = search (needs, shown-end)

@@ -4,7 +4,7 @@ use Prim.Native.Nat.{_≤_}
 use native.Mathlib.Omega.{arith}
 use lib.ListN.{length, take, replicate}
 use lib.Seq.{length-take-le}
-use Rattle.sheet_output.proofs.Writing.{front-taken}
+use Rattle.buffers.proofs.Writing.{front-taken}
 use Rattle.csv_cells.specs.Cells.{cell-text}
 use Rattle.csv_cells.proofs.Celling.{few-bytes}
 use Rattle.refusal_details.proofs.Lines.{other-length, units-second, boat-second}

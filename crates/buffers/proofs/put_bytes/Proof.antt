@@ -1,11 +1,11 @@
--- `sheet_output::put_bytes` meets its contract: the bytes that are left are still to be put.
+-- `buffers::put_bytes` meets its contract: the bytes that are left are still to be put.
 use borrow.Author.Needs.{needs}
 use native.Mathlib.Omega.{arith}
 use Prim.Native.Nat.{_-_}
 use lib.ListN.{length}
-use Rattle.sheet_output.proofs.Writing.{Copying, copying-start, copying-more, copying-end}
-use Rattle.sheet_output.proofs.put_bytes.Statement.{statement}
-use Rattle.sheet_output.proofs.put_bytes.Tie as tie
+use Rattle.buffers.proofs.Writing.{Copying, copying-start, copying-more, copying-end}
+use Rattle.buffers.proofs.put_bytes.Statement.{statement}
+use Rattle.buffers.proofs.put_bytes.Tie as tie
 
 abbrev Inv-loop : tie.InvT-loop
 Inv-loop output₀ at bytes i₀ output i = Copying output₀ at bytes i output

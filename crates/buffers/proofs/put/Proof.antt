@@ -1,11 +1,11 @@
--- `card_output::put` meets its contract; `Inv-loop` is what its loop keeps.
+-- `buffers::put` meets its contract; `Inv-loop` is what its loop keeps.
 use borrow.Author.Needs.{needs}
 use Prim.Native.Nat.{_-_}
-use Rattle.card_output.proofs.Placing.{Putting, put-start, put-more, put-end}
-use Rattle.card_output.proofs.put.Statement.{statement}
-use Rattle.card_output.proofs.put.Tie as tie
-use Rattle.card_output.proofs.put.Reads as reads
-use Rattle.card_output.proofs.put.Lts as lts
+use Rattle.buffers.proofs.Writing.{Putting, put-start, put-more, put-end}
+use Rattle.buffers.proofs.put.Statement.{statement}
+use Rattle.buffers.proofs.put.Tie as tie
+use Rattle.buffers.proofs.put.Reads as reads
+use Rattle.buffers.proofs.put.Lts as lts
 
 abbrev Inv-loop : tie.InvT-loop
 Inv-loop output₀ at width number rest₀ i₀ output rest i = Putting output₀ at width number i rest output
