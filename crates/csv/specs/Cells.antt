@@ -1,6 +1,6 @@
 -- The bytes of a field so far: how many, and what number they say. A whole number is a sign or none, then figures, with spaces round them. Definitions only.
 use mathlib.Core.Bool.{Bool, true, false, cond}
-use mathlib.Core.List.{List}
+use mathlib.Core.List.{List, [], _∷_}
 use Prim.Native.Nat.{ℕ, zero, suc, _+_, _*_, _%_}
 use lib.Dec.{ltb, eqb}
 use lib.IntN.{ℤ, pos, negsuc}
@@ -45,9 +45,16 @@ shape-after x Sign = after-sign x
 shape-after x Figure = after-figure x
 shape-after x Text = Other
 
--- a number with one figure more, which is its byte less 48. Above 200,000,000 it becomes 4,294,967,295: no number that is asked for is so large
+-- the largest number that is read; a larger one is read as this
+abbrev pub MOST : ℕ
+MOST = 4294967295
+
+abbrev pub kept : ℕ → ℕ
+kept n = cond (ltb MOST n) MOST n
+
+-- a number with one figure more, which is its byte less 48
 abbrev pub more : (magnitude b : ℕ) → ℕ
-more m b = cond (ltb 200000000 m) 4294967295 (10 * m + b % 48)
+more m b = kept (10 * m + b % 48)
 
 abbrev pub magnitude-after : (magnitude : ℕ) → Class → (b : ℕ) → ℕ
 magnitude-after m Space b = m
@@ -77,6 +84,14 @@ is-number-shape Other = false
 
 abbrev pub is-number : Cell → Bool
 is-number c = is-number-shape (c .shape)
+
+-- the bytes of a whole field
+unfoldable pub read-from : Cell → List ℕ → Cell
+read-from c [] = c
+read-from c (b ∷ bs) = read-from (with-byte c b) bs
+
+unfoldable pub read : List ℕ → Cell
+read text = read-from no-bytes text
 
 -- the number that a sign and a magnitude say
 abbrev pub signed : (negative : Bool) → (magnitude : ℕ) → ℤ

@@ -259,14 +259,15 @@ fn shape_after(shape: Shape, class: Class) -> Shape
     }
 }
 
-// A number with one figure more. It becomes the largest of its type where the next might not fit.
+// A number with one figure more, at most the largest of its type.
 fn more(magnitude: u32, b: u8) -> u32
     ensures { λ r. ⌜ r ≡ more magnitude b ⌝ }
 {
-    if 200000000 < magnitude {
+    let next = 10 * magnitude as u64 + (b % 48) as u64;
+    if 4294967295 < next {
         return 4294967295;
     }
-    10 * magnitude + (b % 48) as u32
+    next as u32
 }
 
 fn magnitude_after(magnitude: u32, class: Class, b: u8) -> u32

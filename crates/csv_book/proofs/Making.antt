@@ -1,6 +1,7 @@
 -- A book of a CSV put together: front text, rows, trailer; it is accepted and reads back.
-use mathlib.Core.Path.{_≡_, refl, sym, ap, _∙_}
+use mathlib.Core.Path.{_≡_, refl, sym, ap, subst, _∙_}
 use mathlib.Core.List.{List, [], _++_}
+use mathlib.Core.Logic.{_⊎_, inl, inr}
 use Prim.Native.Nat.{ℕ, zero, suc, _+_, _*_, _≤_, _<_}
 use native.Mathlib.Nat.{mul-le-mul}
 use native.Mathlib.Omega.{arith}
@@ -21,6 +22,11 @@ use Rattle.fleet_table.specs.declared.Table.{Table}
 use Rattle.fleet_reader.specs.Fleet.{fleet-values, last-table, last-line}
 use Rattle.fleet_rows.specs.Rows.{fleet-rows, Whole, Faultless-whole}
 use Rattle.fleet_rows.proofs.Counting.{faultless-whole}
+use Rattle.fleet_rows.specs.Texts.{Values-said}
+use Rattle.fleet_rows.proofs.Texts.{values-said}
+use Rattle.csv_round_trip.specs.Writing.{Fleet, fleet-csv}
+use Rattle.csv_round_trip.specs.Back.{Fleet-fits, Read-back, Fleet-reads-back}
+use Rattle.csv_round_trip.proofs.Back.{fleet-reads-back}
 use Rattle.fleet_rows.proofs.Rows as fleet
 use Rattle.csv_front.specs.declared.Written.{Written}
 use Rattle.csv_front.specs.Front.{front-text, file-front, with-front, written-of}
@@ -87,7 +93,7 @@ module _ (csv : List ℕ) (z : last-table csv .fault ≡ 0) where
       (d .accepted, (d .rows-back, (d .boats-back ∙ fleet.boats-long csv whole, d .columns-back)))
 
   pub book-accepted : (r : Made) → r .len ≡ length (csv-book csv) → r .boats ≡ last-table csv .boats → r .columns ≡ last-table csv .columns → Book-accepted csv r (csv-book csv)
-  unfolding csv-book with-front Book-front-unread
+  unfolding csv-book with-front Book-front-unread Values-said
   book-accepted r el en ec =
       let p = book-front-unread (front-text (file-front csv (bare-book csv)) csv) [] (bare-book csv) bare-whole front-fits (omega (arith, bare-length, few-values)) in
       let q = bare-accepted in
@@ -98,11 +104,34 @@ module _ (csv : List ℕ) (z : last-table csv .fault ≡ 0) where
         rows-are = p .2 ∙ q .1 .0;
         boats-are = p .0 ∙ q .1 .1 .0 ∙ sym en;
         columns-are = p .1 ∙ q .1 .1 .1 ∙ sym ec;
+        values-said = values-said csv;
       }
 
 book-long : (csv : List ℕ) → last-table csv .fault ≡ 0 → length (with-front csv (bare-book csv)) ≤ file-limit
 unfolding csv-book
 book-long csv z = made-long csv z
+
+-- ---- a fleet that was written as CSV
+fleet-back : (csv : List ℕ) (f : Fleet) → Fleet-fits f → csv ≡ fleet-csv f → Read-back f csv
+unfolding Fleet-reads-back
+fleet-back csv f i e = rw e (fleet-reads-back f i)
+
+written : (csv : List ℕ) (r : Made) {b : List ℕ} → Book-accepted csv r b → r .fault ≡ 0 → Book-right csv r b
+unfolding Book-right-by
+written csv r {b} d z = record { by-fault = subst (λ (n : ℕ). Book-right-by n csv r b) (sym z) d; reads-back = λ f i e h k. (z, d .rows-are ∙ fleet-back csv f i e .rows-back) }
+
+-- nothing was made of another CSV, or for its size
+not-written : (csv : List ℕ) (r : Made) → (r .fault ≡ 0 → ⊥) → ((r .fault ≡ 10) ⊎ (r .fault ≡ 11)) ⊎ (last-table csv .fault ≡ 0 → ⊥) → Book-right-by (r .fault) csv r [] → Book-right csv r []
+not-written csv r n w d =
+    record {
+      by-fault = d;
+      reads-back = λ f i e h k. absurd (by w (fleet-back csv f i e .faultless) h k);
+    }
+  where
+    by : ((r .fault ≡ 10) ⊎ (r .fault ≡ 11)) ⊎ (last-table csv .fault ≡ 0 → ⊥) → last-table csv .fault ≡ 0 → (r .fault ≡ 10 → ⊥) → (r .fault ≡ 11 → ⊥) → ⊥
+    by (inl (inl e)) z h k = h e
+    by (inl (inr e)) z h k = k e
+    by (inr m) z h k = m z
 
 -- ---- what a call gives back, the buffer after it, and what holds of them
 abbrev Done : (csv out : List ℕ) → Made → (new : List ℕ) → Type 0
@@ -111,12 +140,12 @@ Done csv out r new = (r ≡ book-made (length out) csv) × ((new ≡ output-by (
 module _ (csv out : List ℕ) where
   pub no-room : length out < file-limit → {r : Made} → r ≡ nothing-made 11 0 0 0 0 → Done csv out r out
   unfolding book-made output-by Book-right-by
-  no-room h e = rw e (rw (lt-ltb (length out) file-limit h), (refl, refl))
+  no-room h e = rw e (rw (lt-ltb (length out) file-limit h), (refl, not-written csv (nothing-made 11 0 0 0 0) (λ z. omega arith) (inl (inr refl)) refl))
 
   module _ (h : file-limit ≤ length out) where
     pub too-big : 200000 < length csv → {r : Made} → r ≡ nothing-made 10 0 0 0 0 → Done csv out r out
     unfolding book-made output-by Book-right-by
-    too-big k e = rw e (rw (le-ltb (length out) file-limit h, lt-ltb 200000 (length csv) k), (refl, refl))
+    too-big k e = rw e (rw (le-ltb (length out) file-limit h, lt-ltb 200000 (length csv) k), (refl, not-written csv (nothing-made 10 0 0 0 0) (λ z. omega arith) (inl (inl refl)) refl))
 
     module _ (k : length csv ≤ 200000) {t : Table} (et : t ≡ last-table csv) where
       not-made : (f : ℕ) → (f ≡ 0 → ⊥) → (l : ℕ) → l ≡ last-line csv →
@@ -129,7 +158,8 @@ module _ (csv out : List ℕ) where
       unfolding book-made
       with-fault n {l} el e =
           let p = not-made (t .fault) n l el in
-          rw (e, le-ltb (length out) file-limit h, le-ltb 200000 (length csv) k, ← et) (p .0, (p .1 .0, p .1 .1))
+          rw (e, le-ltb (length out) file-limit h, le-ltb 200000 (length csv) k, ← et)
+          (p .0, (p .1 .0, not-written csv (nothing-made (t .fault) l (t .field) (t .boats) (t .columns)) n (inr (λ z. n (rw et z))) (p .1 .1)))
 
       pub with-book : t .fault ≡ 0 → {file : List ℕ} → file ≡ bare-book csv → {w : Written} → w ≡ written-of csv file → {new : List ℕ} → new ≡ placed out 0 (with-front csv file) →
           Done csv out (record { fault = 0; line = 0; field = 0; len = w .len; boats = t .boats; columns = t .columns; front = w .front }) new
@@ -141,5 +171,5 @@ module _ (csv out : List ℕ) where
           let m : new ≡ placed out 0 (with-front csv (bare-book csv)) = rw ef at en in
           let s : take (w .len) new ≡ with-front csv (bare-book csv) = front-taken out (with-front csv (bare-book csv)) m a (omega (arith, book-long csv y)) in (
             rw (le-ltb (length out) file-limit h, le-ltb 200000 (length csv) k, y, a, b, et),
-            (m, rw s (book-accepted csv y _ a (rw et) (rw et))),
+            (m, rw s (written csv _ (book-accepted csv y _ a (rw et) (rw et)) refl)),
           )

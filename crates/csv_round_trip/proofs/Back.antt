@@ -8,7 +8,7 @@ use native.Mathlib.Omega.{arith}
 use lib.ListN.{length}
 use lib.Seq.{take-at, drop-at}
 use Rattle.csv.specs.declared.Mode.the-variants.{Start}
-use Rattle.csv.specs.Cells.{no-bytes}
+use Rattle.csv.specs.Cells.{no-bytes, read-from}
 use Rattle.csv.specs.Tokens.{tokens, first-line-has, separator, mark-size, csv-tokens}
 use Rattle.fleet_table.specs.declared.Table.{Table}
 use Rattle.fleet_table.specs.Table.{UNIT, start}
@@ -18,7 +18,7 @@ use Rattle.fleet_reader.proofs.Values.{test-name}
 use Rattle.fleet_rows.specs.Rows.{rows-of, fleet-rows}
 use Rattle.csv_round_trip.specs.Writing.{Boat, Fleet, quoted, line, boat-lines, fleet-csv}
 use Rattle.csv_round_trip.specs.Back.{All, Boat-fits, Fleet-fits, Fleet-reads-back, none, more}
-use Rattle.csv_round_trip.proofs.Going.{Goes, goes-on, no-value, at, cell-with, word-with, no-word, quoted-goes}
+use Rattle.csv_round_trip.proofs.Going.{Goes, goes-on, no-value, at, word-with, no-word, quoted-goes}
 use Rattle.csv_round_trip.proofs.Marks.{first-comma, no-mark}
 use Rattle.csv_round_trip.proofs.Lines.{named, header-fields, unit-line, all-values, boats-go}
 
@@ -50,7 +50,7 @@ module _ (f : Fleet) (i : Fleet-fits f) where
       let n = i .corner-fits in
       goes-on (quoted-goes 0 0 0 false 0 5 (f .corner) (n .text .most) (n .text .bytes))
       (rw z at
-      (header-fields (f .columns) (i .columns-fit) 0 (cell-with no-bytes (f .corner)) (word-with 5 (f .corner)) 0 (named (f .corner) (n .some)) (omega (arith, i .most-columns)) (omega (arith, i .some-columns)) (λ e. no-word (f .corner))))
+      (header-fields (f .columns) (i .columns-fit) 0 (read-from no-bytes (f .corner)) (word-with 5 (f .corner)) 0 (named (f .corner) (n .some)) (omega (arith, i .most-columns)) (omega (arith, i .some-columns)) (λ e. no-word (f .corner))))
 
   last : Table
   last = at 0 c (length (f .boats)) false no-bytes 5

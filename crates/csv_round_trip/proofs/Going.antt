@@ -12,7 +12,7 @@ use Rattle.files.specs.Bytes.{all-bytes}
 use Rattle.csv.specs.declared.Cell.{Cell}
 use Rattle.csv.specs.declared.Mode.{Mode}
 use Rattle.csv.specs.declared.Mode.the-variants.{Start, Plain, Quoted, Closing}
-use Rattle.csv.specs.Cells.{no-bytes, with-byte, progress}
+use Rattle.csv.specs.Cells.{no-bytes, with-byte, read-from, progress}
 use Rattle.csv.specs.Tokens.{says, step, tokens}
 use Rattle.fleet_table.specs.declared.Table.{Table}
 use Rattle.fleet_table.specs.Table.{UNIT, with-text, consumed, after}
@@ -76,18 +76,9 @@ module _ (f c b : ℕ) (u : Bool) where
   text-value x w n k h = no-value (at f c b u x w) n k (test-byte (at f c b u x w) k refl h)
 
 -- ---- the bytes of a field
-unfoldable pub cell-with : Cell → List ℕ → Cell
-cell-with x [] = x
-cell-with x (k ∷ ks) = cell-with (with-byte x k) ks
-
 unfoldable pub word-with : ℕ → List ℕ → ℕ
 word-with w [] = w
 word-with w (k ∷ ks) = word-with (progress UNIT w k) ks
-
-pub cell-size : (x : Cell) (ks : List ℕ) → cell-with x ks .size ≡ x .size + length ks
-unfolding cell-with
-cell-size x [] = omega arith
-cell-size x (k ∷ ks) = omega (arith, cell-size (with-byte x k) ks)
 
 pub no-word : (ks : List ℕ) → word-with 5 ks ≡ 5
 unfolding word-with
@@ -113,8 +104,8 @@ module _ (f c b : ℕ) (u : Bool) (n : ℕ) where
       (goes-byte {m = Closing} {m′ = Quoted} n 34 refl (text-goes f c b u x w 34 s (omega arith)) (text-value f c b u x w n 34 (omega arith))))
   one-quoted x w k s h false e = goes-byte {m = Quoted} {m′ = Quoted} n k (rw e) (text-goes f c b u x w k s h) (text-value f c b u x w n k h)
 
-  all-quoted : (x : Cell) (w : ℕ) (ks : List ℕ) → x .size + length ks ≤ 200 → all-bytes ks ≡ true → Goes Quoted (at f c b u x w) n (doubled ks) Quoted (at f c b u (cell-with x ks) (word-with w ks)) []
-  unfolding doubled cell-with word-with all-bytes
+  all-quoted : (x : Cell) (w : ℕ) (ks : List ℕ) → x .size + length ks ≤ 200 → all-bytes ks ≡ true → Goes Quoted (at f c b u x w) n (doubled ks) Quoted (at f c b u (read-from x ks) (word-with w ks)) []
+  unfolding doubled read-from word-with all-bytes
   all-quoted x w [] s h = goes-nil
   all-quoted x w (k ∷ ks) s h =
       let p = both-true (ltb k 256) (all-bytes ks) h in
@@ -122,12 +113,12 @@ module _ (f c b : ℕ) (u : Bool) (n : ℕ) where
       rw e
       (goes-on (one-quoted x w k (omega arith) (ltb-true k 256 (p .0)) (eqb k 34) refl) (all-quoted (with-byte x k) (progress UNIT w k) ks (omega arith) (p .1)))
 
-  pub quoted-goes : (w : ℕ) (ks : List ℕ) → length ks ≤ 200 → all-bytes ks ≡ true → Goes Start (at f c b u no-bytes w) n (quoted ks) Closing (at f c b u (cell-with no-bytes ks) (word-with w ks)) []
+  pub quoted-goes : (w : ℕ) (ks : List ℕ) → length ks ≤ 200 → all-bytes ks ≡ true → Goes Start (at f c b u no-bytes w) n (quoted ks) Closing (at f c b u (read-from no-bytes ks) (word-with w ks)) []
   unfolding quoted
   quoted-goes w ks s h =
       goes-on (goes-byte {m = Start} {m′ = Quoted} n 34 refl (nothing-goes f c b u no-bytes w) (nothing-value f c b u no-bytes w n))
       (goes-on (all-quoted no-bytes w ks (omega arith) h)
-      (goes-byte {m = Quoted} {m′ = Closing} n 34 refl (nothing-goes f c b u (cell-with no-bytes ks) (word-with w ks)) (nothing-value f c b u (cell-with no-bytes ks) (word-with w ks) n)))
+      (goes-byte {m = Quoted} {m′ = Closing} n 34 refl (nothing-goes f c b u (read-from no-bytes ks) (word-with w ks)) (nothing-value f c b u (read-from no-bytes ks) (word-with w ks) n)))
 
 -- ---- without quotes: no quote, comma, newline or carriage return
 unfoldable pub plain : ℕ → Bool
@@ -158,16 +149,16 @@ module _ (k : ℕ) (h : plain k ≡ true) where
   plain-more = let p = parts in rw (p .1 .0, p .1 .1 .0, p .1 .1 .1 .0)
 
 module _ (f c b : ℕ) (u : Bool) (n : ℕ) where
-  plain-run : (x : Cell) (w : ℕ) (ks : List ℕ) → x .size + length ks ≤ 200 → all-plain ks ≡ true → Goes Plain (at f c b u x w) n ks Plain (at f c b u (cell-with x ks) (word-with w ks)) []
-  unfolding cell-with word-with all-plain
+  plain-run : (x : Cell) (w : ℕ) (ks : List ℕ) → x .size + length ks ≤ 200 → all-plain ks ≡ true → Goes Plain (at f c b u x w) n ks Plain (at f c b u (read-from x ks) (word-with w ks)) []
+  unfolding read-from word-with all-plain
   plain-run x w [] s h = goes-nil
   plain-run x w (k ∷ ks) s h =
       let p = both-true (plain k) (all-plain ks) h in
       let l = parts k (p .0) .1 .1 .1 .1 in
       goes-on (goes-byte n k (plain-more k (p .0)) (text-goes f c b u x w k (omega arith) l) (text-value f c b u x w n k l)) (plain-run (with-byte x k) (progress UNIT w k) ks (omega arith) (p .1))
 
-  pub plain-goes : (w : ℕ) (ks : List ℕ) → 1 ≤ length ks → length ks ≤ 200 → all-plain ks ≡ true → Goes Start (at f c b u no-bytes w) n ks Plain (at f c b u (cell-with no-bytes ks) (word-with w ks)) []
-  unfolding cell-with word-with all-plain
+  pub plain-goes : (w : ℕ) (ks : List ℕ) → 1 ≤ length ks → length ks ≤ 200 → all-plain ks ≡ true → Goes Start (at f c b u no-bytes w) n ks Plain (at f c b u (read-from no-bytes ks) (word-with w ks)) []
+  unfolding read-from word-with all-plain
   plain-goes w [] o s h = absurd (omega arith)
   plain-goes w (k ∷ ks) o s h =
       let p = both-true (plain k) (all-plain ks) h in

@@ -11,7 +11,8 @@ use lib.ListN.{length}
 use Rattle.files.specs.Bytes.{in-range, all-in-range}
 use Rattle.csv.specs.declared.Cell.{Cell}
 use Rattle.csv.specs.declared.Mode.the-variants.{Start, Plain, Closing}
-use Rattle.csv.specs.Cells.{no-bytes, signed}
+use Rattle.csv.specs.Cells.{no-bytes, signed, read-from}
+use Rattle.csv_numbers.proofs.Reading.{read-size}
 use Rattle.fleet_table.specs.declared.Table.{Table}
 use Rattle.fleet_table.specs.Table.{UNIT, number-fault, field-fault, limit, units-after, end-fault, columns-after, boats-after, word-after, after}
 use Rattle.fleet_table.proofs.Steps.{name-some, limit-first, limit-later, word-first, word-later, fault-header, units-word, units-kept, columns-first, columns-kept, boats-first, end-names, fault-units, fault-name, fault-value, boats-units, boats-more, end-whole, field-next, line-next, line-later, after-good, token-field, token-line}
@@ -19,7 +20,7 @@ use Rattle.fleet_reader.specs.Fleet.{ends-value, ended-value}
 use Rattle.fleet_reader.proofs.Values.{test-names, test-units, test-name, test-value}
 use Rattle.csv_round_trip.specs.Writing.{Boat, quoted, figures, fields, line, boat-lines}
 use Rattle.csv_round_trip.specs.Back.{All, Unit-fits, Name-fits, Boat-fits, none, more}
-use Rattle.csv_round_trip.proofs.Going.{Goes, goes-nil, goes-then, goes-on, goes-byte, no-value, at, cell-with, word-with, cell-size, no-word, both-true, all-plain, plain, quoted-goes, plain-goes}
+use Rattle.csv_round_trip.proofs.Going.{Goes, goes-nil, goes-then, goes-on, goes-byte, no-value, at, word-with, no-word, both-true, all-plain, plain, quoted-goes, plain-goes}
 use Rattle.csv_round_trip.proofs.Numbers.{cell-of, Number, number}
 
 positive : (c : ℕ) → (c ≡ 0 → ⊥) → 0 < c
@@ -35,8 +36,8 @@ line-goes : (t : Table) → t .fault ≡ 0 → (t .field ≡ 0 → ⊥) → fiel
     record { field = 0; columns = c; boats = b; units = false; cell = no-bytes; word = w; fault = 0 } ≡ after t 257
 line-goes t z f e g ec eb ew = after-good t 257 z (token-line t 257 refl (line-later t f (line-next t refl e refl g ec eb refl ew)))
 
-pub named : (ks : List ℕ) → 1 ≤ length ks → cell-with no-bytes ks .size ≡ 0 → ⊥
-named ks h e = omega (arith, cell-size no-bytes ks)
+pub named : (ks : List ℕ) → 1 ≤ length ks → read-from no-bytes ks .size ≡ 0 → ⊥
+named ks h e = omega (arith, read-size no-bytes ks)
 
 -- ---- the column names
 module _ (f : ℕ) (x : Cell) (w : ℕ) (s : x .size ≡ 0 → ⊥) where
@@ -70,7 +71,7 @@ header-fields (c ∷ cs) (more i is) f x w n s h o e =
     rw p
     (goes-on (header-comma f x w n s (omega arith) e)
     (goes-on (quoted-goes (f + 1) 0 0 false n 0 c (i .text .most) (i .text .bytes))
-    (header-fields cs is (f + 1) (cell-with no-bytes c) (word-with 0 c) n (named c (i .some)) (omega arith) (omega arith) (λ z. absurd (omega arith)))))
+    (header-fields cs is (f + 1) (read-from no-bytes c) (word-with 0 c) n (named c (i .some)) (omega arith) (omega arith) (λ z. absurd (omega arith)))))
 
 -- ---- the units
 module _ (c : ℕ) (q : c ≡ 0 → ⊥) where
@@ -94,13 +95,13 @@ module _ (c : ℕ) (q : c ≡ 0 → ⊥) where
   unit-fields [] none f x w n o h = unit-end f x w n (omega arith)
   unit-fields (u ∷ us) (more i is) f x w n o h =
       goes-on (unit-comma f x w n o (omega arith))
-      (goes-on (quoted-goes (f + 1) c 0 true n 0 u (i .most) (i .bytes)) (unit-fields us is (f + 1) (cell-with no-bytes u) (word-with 0 u) n (λ z. omega arith) (omega arith)))
+      (goes-on (quoted-goes (f + 1) c 0 true n 0 u (i .most) (i .bytes)) (unit-fields us is (f + 1) (read-from no-bytes u) (word-with 0 u) n (λ z. omega arith) (omega arith)))
 
   unit-cell : Cell
-  unit-cell = cell-with no-bytes UNIT
+  unit-cell = read-from no-bytes UNIT
 
   unit-size : unit-cell .size ≡ 0 → ⊥
-  unfolding unit-cell cell-with
+  unfolding unit-cell read-from
   unit-size e = omega arith
 
   unit-word : Goes Start (at 0 c 0 false no-bytes 0) 0 UNIT Plain (at 0 c 0 false unit-cell 4) []
@@ -120,7 +121,7 @@ module _ (c : ℕ) (q : c ≡ 0 → ⊥) where
   unit-line (u ∷ us) (more i is) h =
       goes-on unit-word
       (goes-on unit-first
-      (goes-on (quoted-goes 1 c 0 true 0 0 u (i .most) (i .bytes)) (unit-fields us is 1 (cell-with no-bytes u) (word-with 0 u) 0 (λ z. omega arith) (omega arith))))
+      (goes-on (quoted-goes 1 c 0 true 0 0 u (i .most) (i .bytes)) (unit-fields us is 1 (read-from no-bytes u) (word-with 0 u) 0 (λ z. omega arith) (omega arith))))
 
 -- ---- a boat
 one-value : (t : Table) (n k : ℕ) → n < 16384 → true ≡ ends-value t k → signed (t .cell .negative) (t .cell .magnitude) ∷ [] ≡ ended-value t n k
@@ -169,7 +170,7 @@ module _ (c b : ℕ) (q : c ≡ 0 → ⊥) where
       goes-byte n 44 refl (field-goes t refl (rw (← limit-later c q) (positive c q)) (sym (fault-name t q refl refl h (name-some x s))) (units-word t refl))
       (no-value t n 256 (test-name t 256 refl (omega arith) (omega arith) q refl refl))
 
-  named-boat : (a : List ℕ) → Name-fits a → (n : ℕ) → Goes Start (at 0 c b false no-bytes 5) n (quoted a) Closing (at 0 c b false (cell-with no-bytes a) 5) []
+  named-boat : (a : List ℕ) → Name-fits a → (n : ℕ) → Goes Start (at 0 c b false no-bytes 5) n (quoted a) Closing (at 0 c b false (read-from no-bytes a) 5) []
   named-boat a i n = rw (no-word a) at (quoted-goes 0 c b false n 5 a (i .text .most) (i .text .bytes))
 
   boat-values : (x : Cell) → (x .size ≡ 0 → ⊥) → b < 256 → (n : ℕ) → n + c ≤ 16384 → (vs : List ℤ) → length vs ≡ c → all-in-range vs ≡ true →
@@ -182,7 +183,7 @@ module _ (c b : ℕ) (q : c ≡ 0 → ⊥) where
   unfolding line
   boat-goes a i h n l =
       goes-on (named-boat (a .name) (i .name-fits) n)
-      (boat-values (cell-with no-bytes (a .name)) (named (a .name) (i .name-fits .some)) h n l (a .values) (i .long) (i .in-range))
+      (boat-values (read-from no-bytes (a .name)) (named (a .name) (i .name-fits .some)) h n l (a .values) (i .long) (i .in-range))
 
 -- ---- all boats
 unfoldable pub all-values : List Boat → List ℤ

@@ -1,12 +1,13 @@
 -- What the entry gives back at each of its returns, and that the sheet is accepted and asks for what the CSVs ask for.
 use mathlib.Core.Path.{_≡_, refl, sym, ap, _∙_}
 use mathlib.Core.Bool.{Bool, true, false, cond}
-use mathlib.Core.List.{List}
+use mathlib.Core.List.{List, [], _∷_, map}
 use Prim.Native.Nat.{ℕ, zero, suc, _≤_, _<_}
 use native.Mathlib.Omega.{arith}
 use borrow.Author.Tests.{eq-eqb, ne-eqb, lt-ltb, le-ltb, ltb-false}
 use lib.Dec.{ltb}
-use lib.ListN.{length, take, length-append}
+use lib.IntN.{pos}
+use lib.ListN.{length, take, getD, length-append}
 use Rattle.frank_wolfe.specs.Vectors.{ones, sum}
 use Rattle.files.specs.Bytes.{between}
 use Rattle.files.specs.Limits.{file-limit}
@@ -28,14 +29,21 @@ use Rattle.csv_book.specs.Books.{csv-book}
 use Rattle.csv_book.proofs.Making.{book-accepted}
 use Rattle.sheet_rows.specs.declared.Finding.{Finding}
 use Rattle.sheet_rows.specs.Rows.{sheet-names, rows-fault}
+use Rattle.sheet_rows.proofs.Soundness.{sound}
 use Rattle.column_match.specs.declared.Mismatch.{Mismatch}
 use Rattle.column_match.specs.Match.{mismatch}
 use Rattle.csv_sheet.specs.declared.Made.{Made}
-use Rattle.csv_sheet.specs.Sheets.{places, has-factors, factors-of, tolerance-of, asked-at, asked, sheet-at, nothing-made, total-fault, made-by, made-of-columns, made-of-rows, made-for-fleet, sheet-made, output-at, output-by}
+use Rattle.csv_sheet.specs.Sheets.{cell-at, row-for, value-at, target-of, factor-at, places, has-factors, factors-of, steps-of, tolerance-for, tolerance-of, asked-at, asked, sheet-at, nothing-made, total-fault, made-by, made-of-columns, made-of-rows, made-for-fleet, sheet-made, output-at, output-by}
 use Rattle.csv_sheet.specs.Ready.{Ready}
-use Rattle.csv_sheet.specs.Promise.{Sheet-accepted, Sheet-right-by, Sheet-right}
+use Rattle.csv_sheet.specs.Promise.{Figures-said, Sheet-accepted, Sheet-right-by, Sheet-right}
 use Rattle.csv_sheet.proofs.Bounds.{target-long, factors-long, target-in, steps-some, steps-few, factors-plain}
 use Rattle.csv_sheet.proofs.Making.{places-long, ready, matched}
+
+-- an element of a list that is there, with any defaults
+getD-map : {A : Type 0} (f : ℕ → A) (xs : List ℕ) (i : ℕ) (a : A) (b : ℕ) → i < length xs → getD (map f xs) i a ≡ f (getD xs i b)
+getD-map f [] i a b h = absurd (omega arith)
+getD-map f (x ∷ xs) zero a b h = refl
+getD-map f (x ∷ xs) (suc i) a b h = getD-map f xs i a b (omega arith)
 
 -- ---- the sheet of a CSV without fault
 module _ {ps csv : List ℕ} (d : Ready ps csv) (z : total-fault ps csv ≡ 0) where
@@ -80,6 +88,20 @@ module _ {ps csv : List ℕ} (d : Ready ps csv) (z : total-fault ps csv ≡ 0) w
   unfolding asked-at
   asked-long = target-long ps csv
 
+  pub figures : (fleet : List ℕ) → ps ≡ places fleet csv → Figures-said fleet csv (asked-at ps csv)
+  unfolding asked-at target-of factors-of factor-at value-at steps-of tolerance-for
+  figures fleet e =
+      let g = sound csv (d .faultless) in
+      record {
+        values = λ i h. rw (← e, getD-map (value-at (row-for 0 csv) csv) ps i (pos 0) 0 (rw e h)) (g .values-said (getD ps i 0) (d .first i (rw e h)) (d .last i (rw e h)));
+        factors = λ n i h.
+            rw (← e, getD-map (factor-at (row-for 2 csv) csv) ps i 0 0 (rw e h), ne-eqb (row-for 2 csv) 0 n) (g .factors-said n (getD ps i 0) (d .first i (rw e h)) (d .last i (rw e h)));
+        steps = g .steps-said;
+        tolerance-number = cell-at (row-for 4 csv) 1 csv .magnitude;
+        tolerance-said = g .tolerance-said;
+        tolerance = refl;
+      }
+
   pub sheet-short : length (sheet-at ps csv) ≤ file-limit
   unfolding sheet-at
   sheet-short = omega (arith, length-append csv bytes, edition .most-bytes, d .short)
@@ -121,6 +143,7 @@ module _ (fleet csv out : List ℕ) (h : file-limit ≤ length out) (z : last-ta
         accepted = asks-for d e .0;
         with-book = with-book fleet z (length ps) (places-long fleet csv z) (sheet-at ps csv) (asks-for d e .0);
         asks = asks-for d e .1;
+        figures = rw (asks-for d e .1) (figures d e fleet refl);
         matched = rw (places-long fleet csv z) (matched fleet csv z short good none);
       }
 

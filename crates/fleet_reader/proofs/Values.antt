@@ -5,7 +5,7 @@ use mathlib.Core.List.{List, [], _∷_, append-nil}
 use Prim.Native.Nat.{ℕ, zero, suc, _+_, _*_, _-_, _%_, _≤_, _<_}
 use native.Mathlib.Nat.{mod-eq-of-lt}
 use native.Mathlib.Omega.{arith}
-use borrow.Author.Tests.{ltb-true, ltb-false, eq-eqb, ne-eqb, lt-ltb, le-ltb}
+use borrow.Author.Tests.{ltb-true, ltb-false, eqb-true, eq-eqb, ne-eqb, lt-ltb, le-ltb}
 use lib.Dec.{ltb, eqb}
 use lib.IntN.{ℤ}
 use lib.ListN.{length, length-append}
@@ -41,9 +41,9 @@ both : (b x : Bool) → cond b x false ≡ true → (b ≡ true) × (x ≡ true)
 both true x p = (refl, p)
 both false x p = let z : _≡_ {A = ℕ} 0 1 = cc in absurd (omega arith)
 
-within : (p q : Bool) → eqb (cond p (cond q 7 0) 6) 0 ≡ true → q ≡ false
+within : (p q : Bool) → eqb (cond p (cond q 7 0) 6) 0 ≡ true → (p ≡ true) × (q ≡ false)
 within true true e = let z : _≡_ {A = ℕ} 0 1 = cc in absurd (omega arith)
-within true false e = refl
+within true false e = (refl, refl)
 within false q e = let z : _≡_ {A = ℕ} 0 1 = cc in absurd (omega arith)
 
 module _ (t : Table) (k : ℕ) (e : ends-value t k ≡ true) where
@@ -53,7 +53,11 @@ module _ (t : Table) (k : ℕ) (e : ends-value t k ≡ true) where
 
   small : t .cell .magnitude ≤ 2000
   unfolding number-fault
-  small = ltb-false 2000 (t .cell .magnitude) (within (is-number (t .cell)) (ltb 2000 (t .cell .magnitude)) ends)
+  small = ltb-false 2000 (t .cell .magnitude) (within (is-number (t .cell)) (ltb 2000 (t .cell .magnitude)) ends .1)
+
+  pub value-whole : (t .fault ≡ 0) × (is-number (t .cell) ≡ true)
+  unfolding ends-value number-fault
+  value-whole = (eqb-true (t .fault) 0 (both (eqb (t .fault) 0) _ e .0), within (is-number (t .cell)) (ltb 2000 (t .cell .magnitude)) ends .0)
 
 -- ---- what the test for it says, and what is put then
 module _ (t : Table) (k : ℕ) where

@@ -2,3 +2,4 @@
 pub mod Kept
 pub mod Counting
 pub mod Rows
+pub mod Texts

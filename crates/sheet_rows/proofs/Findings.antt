@@ -9,13 +9,13 @@ use borrow.Author.Tests.{eq-eqb, ne-eqb, lt-ltb, le-ltb}
 use lib.Dec.{ltb, eqb}
 use lib.ListN.{length}
 use Rattle.files.specs.Limits.{step-limit}
-use Rattle.csv.specs.Cells.{is-number}
+use Rattle.csv.specs.Cells.{is-number, read}
 use Rattle.csv.specs.declared.Cell.{Cell}
 use Rattle.csv_cells.specs.Cells.{last-place, cell-text, line-of, width}
 use Rattle.csv_cells.specs.declared.Place.{Place}
 use Rattle.sheet_rows.specs.declared.Finding.{Finding}
 use Rattle.sheet_rows.specs.Kinds.{kind-at, place, row-of}
-use Rattle.sheet_rows.specs.Rows.{read, count-of, least, most, is-out, number-fault, field-fault, faulty-field, none, found-in, many-finding, numbers-finding, kind-finding, row-finding, rows-finding, sheet-names, nameless, names-finding, last-row, without, missing-finding, content-finding, rows-fault}
+use Rattle.sheet_rows.specs.Rows.{count-of, least, most, is-out, number-fault, field-fault, faulty-field, none, found-in, many-finding, numbers-finding, kind-finding, row-finding, rows-finding, sheet-names, nameless, names-finding, last-row, without, missing-finding, content-finding, rows-fault}
 use Rattle.sheet_rows.proofs.First.{first-stays}
 
 -- ---- how many numbers, and from where to where

@@ -6,13 +6,12 @@ use native.Mathlib.Numerals.{add-one}
 use native.Mathlib.Omega.{arith}
 use lib.ListN.{length, getD, take, drop, replicate, drop-of-length-le}
 use lib.Seq.{drop-cons}
-use Rattle.csv.specs.Cells.{no-bytes, with-byte}
+use Rattle.csv.specs.Cells.{no-bytes, with-byte, read-from, read}
 use Rattle.csv.specs.declared.Cell.{Cell}
 use Rattle.buffers.specs.Placed.{placed}
 use Rattle.buffers.proofs.Writing.{front-taken}
 use Rattle.csv_cells.specs.Cells.{cell-text}
 use Rattle.csv_cells.proofs.Celling.{few-bytes}
-use Rattle.sheet_rows.specs.Rows.{read-from, read}
 
 pub record Reading (text : List ℕ) (cell : Cell) (i : ℕ) : Type 0 where
   pub within : i ≤ length text

@@ -1,20 +1,23 @@
 -- What the rows of a sheet's CSV have where they have no fault.
 use mathlib.Core.Path.{_≡_, refl, sym}
-use mathlib.Core.Bool.{Bool, true, false, cond}
+use mathlib.Core.Bool.{Bool, true, false, cond, not}
 use mathlib.Core.List.{List}
 use mathlib.Core.Logic.{_⊎_, inl, inr}
-use Prim.Native.Nat.{ℕ, zero, suc, _-_, _≤_}
+use Prim.Native.Nat.{ℕ, zero, suc, _-_, _≤_, _<_}
+use lib.IntN.{pos}
 use native.Mathlib.Omega.{arith}
 use borrow.Author.Tests.{eqb-true, eqb-false, ltb-false, ne-eqb}
 use lib.Dec.{ltb, eqb}
 use lib.ListN.{length}
-use Rattle.csv.specs.Cells.{is-number}
-use Rattle.csv.specs.declared.Cell.{Cell}
+use Rattle.files.specs.Limits.{step-limit}
+use Rattle.csv.specs.Cells.{is-number, read, signed, MOST}
+use Rattle.csv_numbers.specs.Numbers.{Says-value}
+use Rattle.csv_numbers.proofs.Saying.{says-value}
 use Rattle.csv_cells.specs.Cells.{last-place, cell-text}
 use Rattle.csv_cells.proofs.Widths.{width-few}
 use Rattle.sheet_rows.specs.declared.Finding.{Finding}
 use Rattle.sheet_rows.specs.Kinds.{kind-at, place, row-of}
-use Rattle.sheet_rows.specs.Rows.{read, count-of, least, most, is-out, number-fault, field-fault, faulty-field, none, found-in, many-finding, numbers-finding, kind-finding, row-finding, rows-finding, sheet-names, names-finding, last-row, without, missing-finding, content-finding, rows-fault}
+use Rattle.sheet_rows.specs.Rows.{count-of, least, most, is-out, number-fault, field-fault, faulty-field, none, found-in, many-finding, numbers-finding, kind-finding, row-finding, rows-finding, sheet-names, names-finding, last-row, without, missing-finding, content-finding, rows-fault}
 use Rattle.sheet_rows.specs.Sound.{Sound, magnitude-at}
 use Rattle.sheet_rows.proofs.First.{nothing-both, nothing-each}
 
@@ -22,22 +25,59 @@ abbrev fault-of : Finding → ℕ
 fault-of x = x .fault
 
 -- ---- a number
-in-by : (a b d : Bool) → cond a true (cond b true d) ≡ false → (a ≡ false) × (b ≡ false)
+record In (a b d : Bool) : Type 0 where
+  first : a ≡ false
+  second : b ≡ false
+  third : d ≡ false
+
+in-by : (a b d : Bool) → cond a true (cond b true d) ≡ false → In a b d
 in-by true b d h = absurd (let z : _≡_ {A = ℕ} 0 1 = cc in omega arith)
 in-by false true d h = absurd (let z : _≡_ {A = ℕ} 0 1 = cc in omega arith)
-in-by false false d h = (refl, refl)
+in-by false false d h = record { first = refl; second = refl; third = h }
 
-good-by : (a b d : Bool) → _≡_ {A = ℕ} (cond a 5 (cond b (cond d 7 0) 6)) 0 → d ≡ false
+good-by : (a b d : Bool) → _≡_ {A = ℕ} (cond a 5 (cond b (cond d 7 0) 6)) 0 → (b ≡ true) × (d ≡ false)
 good-by true b d h = absurd (omega arith)
 good-by false true true h = absurd (omega arith)
-good-by false true false h = refl
+good-by false true false h = (refl, refl)
 good-by false false d h = absurd (omega arith)
 
-number-in : (k : ℕ) (c : Cell) → number-fault k c ≡ 0 → (c .magnitude ≤ most k) × (least k ≤ c .magnitude)
+-- a number that may not be below 0 is its magnitude
+unsigned : (g : Bool) (m : ℕ) → cond g (not (eqb m 0)) false ≡ false → signed g m ≡ pos m
+unsigned false m h = refl
+unsigned true zero h = refl
+unsigned true (suc m) h = absurd (let e : _≡_ {A = Bool} true false = rw (ne-eqb (suc m) 0 (λ z. omega arith)) at h in let z : _≡_ {A = ℕ} 0 1 = cc in omega arith)
+
+most-small : (k : ℕ) → most k < MOST
+unfolding most
+most-small k = by (eqb k 0) (eqb k 2) (eqb k 3) (eqb k 4)
+  where
+    by : (a b d e : Bool) → cond a 2000 (cond b 64 (cond d step-limit (cond e 1024000000 32000))) < MOST
+    by true b d e = omega arith
+    by false true d e = omega arith
+    by false false true e = omega arith
+    by false false false true = omega arith
+    by false false false false = omega arith
+
+-- the number in a field of a row of a kind
+record Good (k : ℕ) (text : List ℕ) : Type 0 where
+  fits : read text .magnitude ≤ most k
+  enough : least k ≤ read text .magnitude
+  said : Says-value (signed (read text .negative) (read text .magnitude)) text
+  upward : (k ≡ 0 → ⊥) → signed (read text .negative) (read text .magnitude) ≡ pos (read text .magnitude)
+
+number-good : (k : ℕ) (text : List ℕ) → number-fault k (read text) ≡ 0 → Good k text
 unfolding number-fault is-out
-number-in k c h =
-    let p = in-by (ltb (most k) (c .magnitude)) (ltb (c .magnitude) (least k)) _ (good-by (eqb (c .size) 0) (is-number c) (is-out k c) h) in
-    (ltb-false (most k) (c .magnitude) (p .0), ltb-false (c .magnitude) (least k) (p .1))
+number-good k text h =
+    let c = read text in
+    let g = good-by (eqb (c .size) 0) (is-number c) (is-out k c) h in
+    let p = in-by (ltb (most k) (c .magnitude)) (ltb (c .magnitude) (least k)) _ (g .1) in
+    let l = ltb-false (most k) (c .magnitude) (p .first) in
+    record {
+      fits = l;
+      enough = ltb-false (c .magnitude) (least k) (p .second);
+      said = says-value text (g .0) (omega (arith, most-small k));
+      upward = λ n. unsigned (c .negative) (c .magnitude) (rw (ne-eqb k 0 n) at (p .third));
+    }
 
 -- ---- the numbers of a row
 module _ (k r : ℕ) (csv : List ℕ) where
@@ -83,9 +123,9 @@ module _ (k r : ℕ) (csv : List ℕ) where
       (rw (ne-eqb k 8 p) at h)
 
   -- each of them is in range
-  row-in : (c : ℕ) → (k ≡ 8 → ⊥) → kind-finding k c r csv .fault ≡ 0 → (f : ℕ) → 1 ≤ f → f ≤ count-of k c → (magnitude-at r f csv ≤ most k) × (least k ≤ magnitude-at r f csv)
+  row-in : (c : ℕ) → (k ≡ 8 → ⊥) → kind-finding k c r csv .fault ≡ 0 → (f : ℕ) → 1 ≤ f → f ≤ count-of k c → Good k (cell-text r f csv)
   unfolding field-fault
-  row-in c p h f l u = number-in k (read (cell-text r f csv)) (numbers-good (count-of k c) (omega arith) (kind-good c p h) f l u)
+  row-in c p h f l u = number-good k (cell-text r f csv) (numbers-good (count-of k c) (omega arith) (kind-good c p h) f l u)
 
 -- ---- the row of a kind
 pub record Row-found (k n : ℕ) (csv : List ℕ) (r : ℕ) : Type 0 where
@@ -171,7 +211,7 @@ module _ (csv : List ℕ) (h : rows-fault csv .fault ≡ 0) where
 
   -- the numbers of the row that is found for a kind
   found-in-range : (k x : ℕ) → (row-of k (last-row csv) csv ≡ 0 → ⊥) → kind-at (row-of k (last-row csv) csv) csv ≡ x → (x ≡ 8 → ⊥) →
-      (f : ℕ) → 1 ≤ f → f ≤ count-of x (sheet-names csv) → (magnitude-at (row-of k (last-row csv) csv) f csv ≤ most x) × (least x ≤ magnitude-at (row-of k (last-row csv) csv) f csv)
+      (f : ℕ) → 1 ≤ f → f ≤ count-of x (sheet-names csv) → Good x (cell-text (row-of k (last-row csv) csv) f csv)
   found-in-range k x p e q =
       let r = row-of k (last-row csv) csv in
       let d = row-found k (last-row csv) csv p in
@@ -179,6 +219,17 @@ module _ (csv : List ℕ) (h : rows-fault csv .fault ≡ 0) where
 
   kind-found : (k : ℕ) → (k ≡ 4 → ⊥) → (row-of k (last-row csv) csv ≡ 0 → ⊥) → kind-at (row-of k (last-row csv) csv) csv ≡ k
   kind-found k q p = kind-is _ k q (row-found k (last-row csv) csv p .stands)
+
+  -- the row of factors, steps or tolerance
+  upward-said : (k x : ℕ) → (row-of k (last-row csv) csv ≡ 0 → ⊥) → kind-at (row-of k (last-row csv) csv) csv ≡ x → (x ≡ 8 → ⊥) → (x ≡ 0 → ⊥) →
+      (f : ℕ) → 1 ≤ f → f ≤ count-of x (sheet-names csv) → Says-value (pos (magnitude-at (row-of k (last-row csv) csv) f csv)) (cell-text (row-of k (last-row csv) csv) f csv)
+  upward-said k x p e q n f l u = let g = found-in-range k x p e q f l u in rw (g .upward n) at (g .said)
+
+  tolerance-found : (row-of 4 (last-row csv) csv ≡ 0 → ⊥) → (kind-at (row-of 4 (last-row csv) csv) csv ≡ 4) ⊎ (kind-at (row-of 4 (last-row csv) csv) csv ≡ 5) →
+      Says-value (pos (magnitude-at (row-of 4 (last-row csv) csv) 1 csv)) (cell-text (row-of 4 (last-row csv) csv) 1 csv)
+  unfolding count-of
+  tolerance-found d (inl e) = upward-said 4 4 d e (λ z. omega arith) (λ z. omega arith) 1 (omega arith) (omega arith)
+  tolerance-found d (inr e) = upward-said 4 5 d e (λ z. omega arith) (λ z. omega arith) 1 (omega arith) (omega arith)
 
   pub sound : Sound csv
   unfolding count-of most least
@@ -197,10 +248,14 @@ module _ (csv : List ℕ) (h : rows-fault csv .fault ≡ 0) where
         hull-kind = kind-found 0 (λ e. omega arith) a;
         steps-kind = kind-found 3 (λ e. omega arith) b;
         tolerance-kind = tolerance-is _ (row-found 4 (last-row csv) csv d .stands);
-        values-fit = λ f l u. found-in-range 0 0 a (kind-found 0 (λ e. omega arith) a) (λ e. omega arith) f l u .0;
-        factors-fit = λ g f l u. found-in-range 2 2 g (kind-found 2 (λ e. omega arith) g) (λ e. omega arith) f l u .0;
-        some-steps = s .1;
-        few-steps = s .0;
-        tolerance-fits = λ e. found-in-range 4 4 d e (λ z. omega arith) 1 (omega arith) (omega arith) .0;
-        each-fits = λ e. found-in-range 4 5 d e (λ z. omega arith) 1 (omega arith) (omega arith) .0;
+        values-fit = λ f l u. found-in-range 0 0 a (kind-found 0 (λ e. omega arith) a) (λ e. omega arith) f l u .fits;
+        factors-fit = λ g f l u. found-in-range 2 2 g (kind-found 2 (λ e. omega arith) g) (λ e. omega arith) f l u .fits;
+        some-steps = s .enough;
+        few-steps = s .fits;
+        tolerance-fits = λ e. found-in-range 4 4 d e (λ z. omega arith) 1 (omega arith) (omega arith) .fits;
+        each-fits = λ e. found-in-range 4 5 d e (λ z. omega arith) 1 (omega arith) (omega arith) .fits;
+        values-said = λ f l u. found-in-range 0 0 a (kind-found 0 (λ e. omega arith) a) (λ e. omega arith) f l u .said;
+        factors-said = λ g f l u. upward-said 2 2 g (kind-found 2 (λ e. omega arith) g) (λ e. omega arith) (λ e. omega arith) f l u;
+        steps-said = upward-said 3 3 b (kind-found 3 (λ e. omega arith) b) (λ e. omega arith) (λ e. omega arith) 1 (omega arith) (omega arith);
+        tolerance-said = tolerance-found d (tolerance-is _ (row-found 4 (last-row csv) csv d .stands));
       }

@@ -5,20 +5,13 @@ use Prim.Native.Nat.{ℕ, zero, suc, _+_, _-_}
 use lib.Dec.{ltb, eqb}
 use lib.ListN.{length}
 use Rattle.files.specs.Limits.{step-limit}
-use Rattle.csv.specs.Cells.{no-bytes, with-byte, is-number}
+use Rattle.csv.specs.Cells.{is-number, read}
 use Rattle.csv.specs.declared.Cell.{Cell}
 use Rattle.csv_cells.specs.Cells.{last-place, cell-text, line-of, width}
 use Rattle.sheet_rows.specs.Kinds.{kind-at, place, row-of}
 use Rattle.sheet_rows.specs.declared.Finding.{Finding}
 
 -- ---- the number in a field
-
-unfoldable pub read-from : Cell → List ℕ → Cell
-read-from c [] = c
-read-from c (b ∷ bs) = read-from (with-byte c b) bs
-
-unfoldable pub read : List ℕ → Cell
-read text = read-from no-bytes text
 
 -- how many numbers a row of a kind has: one a column for a hull and its factors
 unfoldable pub count-of : (kind columns : ℕ) → ℕ

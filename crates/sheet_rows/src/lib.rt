@@ -4,9 +4,10 @@
 ghost use mathlib.Core.Path.{_≡_};
 ghost use Prim.Native.Nat.{_≤_};
 ghost use lib.ListN.{length};
+ghost use Rattle.csv.specs.Cells.{read};
 ghost use Rattle.csv_cells.specs.Cells.{cell-text};
 ghost use Rattle.sheet_rows.specs.Kinds.{kind-of, kind-at, place, row-of};
-ghost use Rattle.sheet_rows.specs.Rows.{read, count-of, least, most, is-out, number-fault, field-fault, faulty-field, none, found-in, many-finding, numbers-finding, kind-finding, row-finding, rows-finding, sheet-names, nameless, names-finding, last-row, without, missing-finding, content-finding, rows-fault};
+ghost use Rattle.sheet_rows.specs.Rows.{count-of, least, most, is-out, number-fault, field-fault, faulty-field, none, found-in, many-finding, numbers-finding, kind-finding, row-finding, rows-finding, sheet-names, nameless, names-finding, last-row, without, missing-finding, content-finding, rows-fault};
 use csv::Cell;
 
 // What a row is: a hull, units, factors, steps, a tolerance in all or for each column, two for the report, or without text.
