@@ -2,12 +2,13 @@
 use mathlib.Core.Path.{_≡_, refl, sym, ap, _∙_, subst}
 use mathlib.Core.Bool.{true}
 use mathlib.Core.List.{List}
-use Prim.Native.Nat.{ℕ, _≤_}
+use Prim.Native.Nat.{ℕ, _*_, _≤_}
 use native.Mathlib.Nat.{le-refl, le-of-lt, lt-of-le-of-lt}
 use native.Mathlib.Omega.{arith}
 use lib.Dec.{lit≤}
 use lib.ListN.{length}
 use Rattle.frank_wolfe.specs.Vectors.{sum}
+use Rattle.integers.proofs.Bounds.{pos-sub}
 use Rattle.integers.proofs.Order.{≤→≤ℤ}
 use Rattle.method.specs.declared.Test.{Test}
 use Rattle.method.specs.declared.Test.the-variants.{Sharper}
@@ -19,7 +20,7 @@ use Rattle.method.proofs.Weights.{weight-positive, weight-fits}
 use Rattle.method.proofs.Shares.{mixed-is, shares-mixed, iterate-mixed, iterate-support}
 use Rattle.method.proofs.Mixtures.{Well-formed, In-range, Sized, gap-is, distance-is, gap-bound, beyond-bound, distance-most, gap-most}
 use Rattle.method.proofs.Iterates.{step-bound, spent-bound}
-use Rattle.method.proofs.Verdicts.{verdict-means, within-means, beyond-means, spent-means, beyond-wherever, unstopped-former, stops-spent}
+use Rattle.method.proofs.Verdicts.{verdict-means, within-exactly, beyond-exactly, beyond-carries, spent-means, wherever-former, unstopped-former, stops-spent}
 use Rattle.method.proofs.Running.{stops-at, stopped}
 use Rattle.files.specs.Limits.{total-limit}
 
@@ -53,15 +54,15 @@ module _ {p : Problem} (h : Well-formed p) (f : In-range p) (z : Sized p) where
         own-distance = distance-is h hw m;
         own-gap = gap-is h hw m;
         gap-bound = λ qs e hq. gap-bound h hw m _ (lit≤ tt) qs e;
-        within = λ v. within-means means v;
-        beyond = λ floor v qs e hq. beyond-bound h hw m test (p .tolerance) (beyond-means means floor v .0) qs e hq;
-        beyond-tested = λ floor v. beyond-means means floor v .0;
-        beyond-former = beyond-wherever test (p .tolerance) (weight (p .schedule) t) (distance p t x) (gap p t x);
-        beyond-floor = λ floor v. beyond-means means floor v .1;
-        spent-undecided = λ short v. spent-means means short v .1;
-        spent-above = λ short v. spent-means means short v .0;
-        spent-last = λ short v. stops-spent (p .steps) t short (rw v at here);
-        spent-shortfall = λ short v. spent-means means short v .2;
+        within = within-exactly means;
+        beyond = λ v qs e hq. beyond-bound h hw m test (p .tolerance) (beyond-exactly means .0 v .1) qs e hq;
+        beyond-tested = beyond-exactly means;
+        beyond-former = λ k. beyond-exactly means .1 (omega arith, wherever-former test (p .tolerance * (weight (p .schedule) t * weight (p .schedule) t)) (distance p t x) (gap p t x) k);
+        beyond-floor = beyond-carries means;
+        spent-undecided = λ v. spent-means means v .1;
+        spent-above = λ v. spent-means means v .0;
+        spent-last = λ v. stops-spent (p .steps) t _ v here;
+        spent-shortfall = λ v. let s = spent-means means v in s .2 ∙ sym (pos-sub (distance p t x) (p .tolerance * (weight (p .schedule) t * weight (p .schedule) t)) (le-of-lt (s .0)));
         distance-fits = lt-of-le-of-lt (distance-most h f m) (weight-fits few (le-refl 1024000000));
         gap-fits = lt-of-le-of-lt (gap-most h f m hw) (weight-fits few (le-refl 1024000000));
         limit-fits = weight-fits few (z .most-tolerance);
@@ -85,5 +86,5 @@ module _ {p : Problem} (h : Well-formed p) (f : In-range p) (z : Sized p) where
         first-former = λ j a k. unstopped-former (p .steps) j (p .tolerance) (weight (p .schedule) j) (distance p j (iterate p j)) (gap p j (iterate p j)) (st .first j a k);
         every-gap = λ j a. rw (gap-is h (weight-positive (h .schedule-fits) a) (iterate-mixed p (h .some-row) (h .wide) j)) (≤→≤ℤ (omega arith));
         step-bound = λ qs e hq. step-bound h t qs e;
-        spent = λ short v qs e hq. spent-bound h t qs e (p .tolerance) (st .later) (le-of-lt (own .spent-above short v));
+        spent = λ v qs e hq. spent-bound h t qs e (p .tolerance) (st .later) (le-of-lt (own .spent-above v));
       }

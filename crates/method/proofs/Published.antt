@@ -30,7 +30,7 @@ use Rattle.method.proofs.Argmin.{length-scores, among-row}
 use Rattle.method.proofs.Picks.{active-none}
 use Rattle.method.proofs.Shares.{Mixed, mixed-is, iterate-mixed}
 use Rattle.method.proofs.Mixtures.{Well-formed, gap-is}
-use Rattle.method.proofs.Verdicts.{Means, verdict-means, within-exactly, beyond-exactly, beyond-carries, spent-carries}
+use Rattle.method.proofs.Verdicts.{Means, verdict-means, within-exactly, beyond-exactly, beyond-carries, spent-means}
 use Rattle.method.proofs.Running.{stops-at, Stopped, stopped}
 use Rattle.method.proofs.Fractions.{one, integer-value, subtract-value, multiply-value, lt-value, le-exactly, same-value}
 use Rattle.method.proofs.Numerators.{integer-over, integers, Over, over-at, over-fractions, over-difference, over-inner, over-linear-form, over-gap-terms, over-argmin, over-active, first-active, over-greatest, step-ratio, over-step, over-first}
@@ -266,8 +266,8 @@ module _ {d g : Fraction} (tolerance w : ℕ) {e f : ℕ} (hd : Is-ratio d (pos 
 
   shortfall-carried : verdict-number (verdict Sharper tolerance w e f) ≡ 3 → Is-ratio (d -ℚ integer (pos tolerance)) (verdict-carries (verdict Sharper tolerance w e f)) (w * w)
   shortfall-carried q =
-      let n = spent-carries means q in
-      rw (n .1) (rw (pos-sub e (tolerance * (w * w)) (le-of-lt (n .0))) at (subtract-value hd tolerance-value))
+      let n = spent-means means q in
+      rw (n .2) (rw (pos-sub e (tolerance * (w * w)) (le-of-lt (n .0))) at (subtract-value hd tolerance-value))
 
 -- ---- The theorem
 

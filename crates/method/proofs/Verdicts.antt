@@ -5,9 +5,9 @@ use mathlib.Core.Bool.{Bool, true, false, _&&_, cond}
 use mathlib.Core.List.{[], _∷_}
 use Prim.Native.Nat.{ℕ, _+_, _*_, _-_, _≤_, _<_}
 use native.Mathlib.Omega.{arith}
-use borrow.Author.Tests.{leb-true, leb-false, ltb-true, lt-ltb, lt-leb, eqb-true}
+use borrow.Author.Tests.{leb-true, leb-false, ltb-true, lt-ltb, eqb-true}
 use lib.Dec.{leb}
-use lib.IntN.{ℤ, pos, _-ℤ_}
+use lib.IntN.{pos, _-ℤ_}
 use Rattle.integers.proofs.Solver.{con, _⊕_, _⊗_, _⊝_, x₀, x₁, x₂, x₃}
 use Rattle.integers.proofs.Order.{≤→≤ℤ, <→<ℤ, <ℤ→<}
 use Rattle.integers.proofs.Facts.{_≼_, _≺_, known, nat, square, equation, _⊞_, _⊡_, derive}
@@ -33,21 +33,6 @@ verdict-means test tolerance w e g = by (leb e (tolerance * (w * w))) (is-beyond
     by false true hp hq = is-far (leb-false e (tolerance * (w * w)) hp) hq
     by false false hp hq = is-spent (leb-false e (tolerance * (w * w)) hp) hq
 
-pub within-means : {test : Test} {limit e g : ℕ} {v : Verdict} → Means test limit e g v → v ≡ Within → e ≤ limit
-within-means (is-within h) q = h
-within-means (is-far h k) q = absurd (let z : _≡_ {A = ℕ} 0 1 = cc in omega arith)
-within-means (is-spent h k) q = absurd (let z : _≡_ {A = ℕ} 0 1 = cc in omega arith)
-
-pub beyond-means : {test : Test} {limit e g : ℕ} {v : Verdict} → Means test limit e g v → (floor : ℤ) → v ≡ Beyond floor → (is-beyond test limit e g ≡ true) × (floor ≡ pos e -ℤ pos (2 * g))
-beyond-means (is-within h) f q = absurd (let z : _≡_ {A = ℕ} 0 1 = cc in omega arith)
-beyond-means (is-far h k) f q = (k, cc)
-beyond-means (is-spent h k) f q = absurd (let z : _≡_ {A = ℕ} 0 1 = cc in omega arith)
-
-pub spent-means : {test : Test} {limit e g : ℕ} {v : Verdict} → Means test limit e g v → (shortfall : ℕ) → v ≡ Spent shortfall → (limit < e) × (is-beyond test limit e g ≡ false) × (shortfall + limit ≡ e)
-spent-means (is-within h) n q = absurd (let z : _≡_ {A = ℕ} 0 1 = cc in omega arith)
-spent-means (is-far h k) n q = absurd (let z : _≡_ {A = ℕ} 0 1 = cc in omega arith)
-spent-means {limit} {e} (is-spent h k) n q = (h, k, let z : n ≡ e - limit = cc in omega arith)
-
 -- ---- By its number
 
 pub within-exactly : {test : Test} {limit e g : ℕ} {v : Verdict} → Means test limit e g v → (verdict-number v ≡ 1) ↔ (e ≤ limit)
@@ -68,11 +53,12 @@ beyond-carries (is-within h) q = absurd (omega arith)
 beyond-carries (is-far h k) q = refl
 beyond-carries (is-spent h k) q = absurd (omega arith)
 
-pub spent-carries : {test : Test} {limit e g : ℕ} {v : Verdict} → Means test limit e g v → verdict-number v ≡ 3 → (limit < e) × (verdict-carries v ≡ pos (e - limit))
+pub spent-means : {test : Test} {limit e g : ℕ} {v : Verdict} → Means test limit e g v → verdict-number v ≡ 3 →
+    (limit < e) × (is-beyond test limit e g ≡ false) × (verdict-carries v ≡ pos (e - limit))
 unfolding verdict-number verdict-carries
-spent-carries (is-within h) q = absurd (omega arith)
-spent-carries (is-far h k) q = absurd (omega arith)
-spent-carries (is-spent h k) q = (h, refl)
+spent-means (is-within h) q = absurd (omega arith)
+spent-means (is-far h k) q = absurd (omega arith)
+spent-means (is-spent h k) q = (h, k, refl)
 
 -- ---- The two tests
 
@@ -94,12 +80,6 @@ unfolding is-beyond
 wherever-former Former limit e g k = lt-ltb (limit + 2 * g) e k
 wherever-former Sharper limit e g k = former-sharper limit e g (lt-ltb (limit + 2 * g) e k)
 
-pub beyond-wherever : (test : Test) (tolerance w e g : ℕ) → tolerance * (w * w) + 2 * g < e → verdict test tolerance w e g ≡ Beyond (pos e -ℤ pos (2 * g))
-unfolding verdict
-beyond-wherever test tolerance w e g k =
-    let n : tolerance * (w * w) < e = omega arith in
-    rw (lt-leb e (tolerance * (w * w)) n, wherever-former test (tolerance * (w * w)) e g k)
-
 -- what does not stop a run by the sharper test does not by the former
 pub unstopped-former : (n t tolerance w e g : ℕ) → stops n t (verdict Sharper tolerance w e g) ≡ false → stops n t (verdict Former tolerance w e g) ≡ false
 unfolding verdict stops
@@ -120,6 +100,8 @@ unstopped-former n t tolerance w e g = by (leb e limit) (is-beyond Sharper limit
 -- ---- In a run
 
 -- Spent stops a run after its last step only
-pub stops-spent : (n t shortfall : ℕ) → stops n t (Spent shortfall) ≡ true → t ≡ n
-unfolding stops
-stops-spent n t m e = eqb-true t n e
+pub stops-spent : (n t : ℕ) (v : Verdict) → verdict-number v ≡ 3 → stops n t v ≡ true → t ≡ n
+unfolding verdict-number stops
+stops-spent n t Within q e = absurd (omega arith)
+stops-spent n t (Beyond floor) q e = absurd (omega arith)
+stops-spent n t (Spent shortfall) q e = eqb-true t n e

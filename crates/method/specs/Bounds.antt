@@ -2,19 +2,19 @@
 -- E, G, W, t are the answer's. A mixture is any list of shares, one a vertex, of a total N above 0; Q is N² times its squared distance. Definitions only.
 use mathlib.Core.Path.{_≡_}
 use mathlib.Core.Bool.{true, false}
+use mathlib.Core.Logic.{_↔_}
 use mathlib.Core.List.{List}
 use Prim.Native.Nat.{ℕ, _+_, _*_, _≤_, _<_}
 use lib.ListN.{length}
-use lib.IntN.{ℤ, pos, _-ℤ_}
+use lib.IntN.{pos, _-ℤ_}
 use lib.Signed.{_≤ℤ_}
 use Rattle.frank_wolfe.specs.Vectors.{sum, combination}
-use Rattle.method.specs.declared.Verdict.the-variants.{Within, Beyond, Spent}
 use Rattle.method.specs.declared.Test.{Test}
 use Rattle.method.specs.declared.Test.the-variants.{Former, Sharper}
 use Rattle.method.specs.declared.Answer.{Answer}
 use Rattle.method.specs.Problem.{Schedule, fixed, Problem, weight}
 use Rattle.method.specs.Iterates.{Iterate, iterate, signed-gap, mixture-distance, diameter, support}
-use Rattle.method.specs.Answers.{is-beyond, stops, answer-at}
+use Rattle.method.specs.Answers.{verdict-number, verdict-carries, is-beyond, stops, answer-at}
 use Rattle.files.specs.Limits.{sum-limit}
 
 -- some shares with their sum of share times vertex
@@ -51,27 +51,28 @@ pub record Answer-bounds (test : Test) (p : Problem) (a : Answer) (shares : List
   -- every squared distance is at least this one less twice the gap
   pub gap-bound : (qs : List ℕ) → length qs ≡ length (p .vertices) → 1 ≤ sum qs →
       a .distance * (sum qs * sum qs) ≤ mixture-distance p qs * (a .weight * a .weight) + 2 * a .gap * (sum qs * sum qs)
-  -- ---- The verdicts: E is at most tolerance × W² for Within alone, else the test holds for Beyond alone
-  -- Within: the squared distance is at most the tolerance
-  pub within : a .verdict ≡ Within → a .distance ≤ p .tolerance * (a .weight * a .weight)
+  -- ---- The verdicts, by number: 1 Within, 2 Beyond, 3 Spent
+  -- Within exactly where the squared distance is at most the tolerance
+  pub within : (verdict-number (a .verdict) ≡ 1) ↔ (a .distance ≤ p .tolerance * (a .weight * a .weight))
   -- Beyond: every mixture's squared distance is above the tolerance
-  pub beyond : (floor : ℤ) → a .verdict ≡ Beyond floor → (qs : List ℕ) → length qs ≡ length (p .vertices) → 1 ≤ sum qs →
+  pub beyond : verdict-number (a .verdict) ≡ 2 → (qs : List ℕ) → length qs ≡ length (p .vertices) → 1 ≤ sum qs →
       p .tolerance * (sum qs * sum qs) < mixture-distance p qs
-  -- it is said where the test holds
-  pub beyond-tested : (floor : ℤ) → a .verdict ≡ Beyond floor → is-beyond test (p .tolerance * (a .weight * a .weight)) (a .distance) (a .gap) ≡ true
+  -- it is said exactly where the squared distance is above the tolerance and the test holds
+  pub beyond-tested :
+      (verdict-number (a .verdict) ≡ 2)
+      ↔ ((p .tolerance * (a .weight * a .weight) < a .distance) × (is-beyond test (p .tolerance * (a .weight * a .weight)) (a .distance) (a .gap) ≡ true))
   -- by either test wherever E - 2 G is above tolerance × W²
-  pub beyond-former : p .tolerance * (a .weight * a .weight) + 2 * a .gap < a .distance → a .verdict ≡ Beyond (pos (a .distance) -ℤ pos (2 * a .gap))
+  pub beyond-former : p .tolerance * (a .weight * a .weight) + 2 * a .gap < a .distance → verdict-number (a .verdict) ≡ 2
   -- and carries E - 2 G, which may be below zero
-  pub beyond-floor : (floor : ℤ) → a .verdict ≡ Beyond floor → floor ≡ pos (a .distance) -ℤ pos (2 * a .gap)
+  pub beyond-floor : verdict-number (a .verdict) ≡ 2 → verdict-carries (a .verdict) ≡ pos (a .distance) -ℤ pos (2 * a .gap)
   -- Spent is said where neither of the others is: the test does not hold
-  pub spent-undecided : (shortfall : ℕ) → a .verdict ≡ Spent shortfall →
-      is-beyond test (p .tolerance * (a .weight * a .weight)) (a .distance) (a .gap) ≡ false
+  pub spent-undecided : verdict-number (a .verdict) ≡ 3 → is-beyond test (p .tolerance * (a .weight * a .weight)) (a .distance) (a .gap) ≡ false
   -- and E is above tolerance × W²
-  pub spent-above : (shortfall : ℕ) → a .verdict ≡ Spent shortfall → p .tolerance * (a .weight * a .weight) < a .distance
+  pub spent-above : verdict-number (a .verdict) ≡ 3 → p .tolerance * (a .weight * a .weight) < a .distance
   -- after the problem's last step only
-  pub spent-last : (shortfall : ℕ) → a .verdict ≡ Spent shortfall → a .steps ≡ p .steps
+  pub spent-last : verdict-number (a .verdict) ≡ 3 → a .steps ≡ p .steps
   -- and carries what E is above tolerance × W²
-  pub spent-shortfall : (shortfall : ℕ) → a .verdict ≡ Spent shortfall → shortfall + p .tolerance * (a .weight * a .weight) ≡ a .distance
+  pub spent-shortfall : verdict-number (a .verdict) ≡ 3 → verdict-carries (a .verdict) ≡ pos (a .distance) -ℤ pos (p .tolerance * (a .weight * a .weight))
   -- ---- Bits
   -- E is below 2^62
   pub distance-fits : a .distance < sum-limit
@@ -99,5 +100,5 @@ pub record Run-bounds (p : Problem) (a : Answer) (shares : List ℕ) : Type 0 wh
   pub step-bound : (qs : List ℕ) → length qs ≡ length (p .vertices) → 1 ≤ sum qs →
       Step-bound (p .schedule) (a .steps) (diameter p) (a .distance) (a .weight * a .weight) (sum qs) (mixture-distance p qs)
   -- Spent: every mixture's squared distance is at least the tolerance, τ / 1, less that bound
-  pub spent : (shortfall : ℕ) → a .verdict ≡ Spent shortfall → (qs : List ℕ) → length qs ≡ length (p .vertices) → 1 ≤ sum qs →
+  pub spent : verdict-number (a .verdict) ≡ 3 → (qs : List ℕ) → length qs ≡ length (p .vertices) → 1 ≤ sum qs →
       Step-bound (p .schedule) (a .steps) (diameter p) (p .tolerance) 1 (sum qs) (mixture-distance p qs)
