@@ -10,16 +10,10 @@ ghost use Rattle.method.specs.Problem.{problem};
 ghost use Rattle.method.specs.Answers.{outcome, slots-after, run-answer};
 ghost use Rattle.card_format.specs.Format.{card-shares, card-answer, run-card};
 ghost use Rattle.card_format.specs.Checks.{write-refusal, check-refusal};
-ghost use Rattle.card.specs.Filing.{filing, Filing-right};
-ghost use Rattle.card.specs.Checking.{Check-right};
-use method::Answer;
+ghost use Rattle.card_format.specs.Filing.{filing, Filing-right};
+ghost use Rattle.card_format.specs.Checking.{Check-right};
+use card_format::Written;
 use method::Searched;
-
-// What the card writer gives back: the number that refuses its input, or the run's answer and how many bytes were written.
-pub enum Written {
-    Refused(u32),
-    Filed(Answer, usize),
-}
 
 // ENTRY. The card of a run, written to the first bytes of `output`: refuses files and a buffer that do not serve (1 to 17, 46, then 22)
 // and leaves the buffer as it was; else gives the run's answer and the card's length. Later bytes are as they were. The third

@@ -17,7 +17,7 @@ use Rattle.card_format.specs.Truth.{Card-true, Accepted-exactly, Accepted-vouch
 use Rattle.files.proofs.Bytes.{drop-bytes}
 use Rattle.card_format.proofs.Trailer.{length-trailer, file-length}
 use Rattle.card_format.proofs.Vouches.{accepted-exactly, accepted-vouches}
-use Rattle.card.specs.Filing.{Reads-back}
+use Rattle.card_format.specs.Filing.{Reads-back}
 use Rattle.card_choice.specs.Choices.{front-length, bare}
 use Rattle.card_choice.specs.Promise.{Is-distance}
 use Rattle.card_choice.proofs.Distances.{squared-distance, distance-is}

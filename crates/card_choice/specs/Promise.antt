@@ -15,7 +15,7 @@ use Rattle.method.specs.Fractions.{Fraction, Is-ratio, _≤ℚ_, _<ℚ_}
 use Rattle.card_format.specs.Format.{card-fields, card-shares, card-answer}
 use Rattle.card_format.specs.Checks.{check-refusal}
 use Rattle.card_format.specs.Truth.{Card-true}
-use Rattle.card.specs.Filing.{Reads-back}
+use Rattle.card_format.specs.Filing.{Reads-back}
 use Rattle.card_choice.specs.Choices.{better-refusal, better-number, better, better-part}
 
 -- a fraction is the squared distance E / W² of an answer; W is above 0

@@ -3,7 +3,9 @@ pub mod Pairs
 pub mod Trailer
 pub mod Accepted
 pub mod Shares
-pub mod Written
+pub mod RunCards
 pub mod Vouches
 pub mod Editions
 pub mod Front
+pub mod Filing
+pub mod Checking

@@ -3,3 +3,5 @@ pub mod Format
 pub mod Checks
 pub mod Truth
 pub mod Front
+pub mod Filing
+pub mod Checking

@@ -17,8 +17,8 @@ use Rattle.text.specs.Texts.{Holds}
 use Rattle.text.specs.declared.Text.{Text}
 use Rattle.listing.proofs.Outcomes.{listable, same-listing, long-enough, same-refusal, after-itself}
 use Rattle.card_format.proofs.Accepted.{both-zero}
-use Rattle.card.specs.Checking.{Check-right}
-use Rattle.card.proofs.Checking.{check-right}
+use Rattle.card_format.specs.Checking.{Check-right}
+use Rattle.card_format.proofs.Checking.{check-right}
 use Rattle.card_listing.specs.Cards.{card-outcome, card-listing}
 
 length-into : (k : ℕ) (bs qs : List ℕ) → length (shares-into k bs qs) ≡ length qs

@@ -11,12 +11,12 @@ use lib.Seq.{take-at}
 use Rattle.files.specs.Sheet.{files-refusal}
 use Rattle.method.specs.Problem.{problem}
 use Rattle.method.specs.Answers.{outcome, slots-after, run-answer}
-use Rattle.card.specs.declared.Written.{Written}
-use Rattle.card.specs.Filing.{written-size, filing}
+use Rattle.card_format.specs.declared.Written.{Written}
+use Rattle.card_format.specs.Filing.{written-size, filing}
 use Rattle.card_format.specs.Format.{card-limit, run-card}
 use Rattle.card_format.specs.Checks.{write-refusal, check-refusal}
 use Rattle.card_format.specs.Truth.{Written-accepted, Written-short}
-use Rattle.card_format.proofs.Written.{written-accepted, written-short}
+use Rattle.card_format.proofs.RunCards.{written-accepted, written-short}
 use Rattle.listing.specs.Lines.{outcome-listing}
 use Rattle.listing.proofs.Outcomes.{same-refusal}
 use Rattle.text.specs.Texts.{Holds}

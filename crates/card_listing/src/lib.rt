@@ -8,13 +8,13 @@ ghost use Rattle.files.specs.Book.{boats};
 ghost use Rattle.files.specs.Sheet.{files-refusal};
 ghost use Rattle.method.specs.Answers.{slots-after};
 ghost use Rattle.method.specs.Promise.{Outcome-right};
-ghost use Rattle.card.specs.Filing.{written-size};
-ghost use Rattle.card.specs.Checking.{Check-right};
+ghost use Rattle.card_format.specs.Filing.{written-size};
+ghost use Rattle.card_format.specs.Checking.{Check-right};
 ghost use Rattle.card_format.specs.Format.{card-shares, run-card};
 ghost use Rattle.text.specs.Texts.{Holds};
 ghost use Rattle.search_listing.specs.Searches.{search-outcome, search-shares, search-listing};
 ghost use Rattle.card_listing.specs.Cards.{card-outcome, card-listing, search-card};
-use card::Written;
+use card_format::Written;
 use text::Text;
 
 // The bytes of the longest card that is written: 256 pairs and a trailer.

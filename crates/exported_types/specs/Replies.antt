@@ -6,8 +6,8 @@ use Rattle.method.specs.declared.Verdict.the-variants.{Within, Beyond, Spent}
 use Rattle.method.specs.declared.Searched.{Searched}
 use Rattle.method.specs.declared.Searched.the-variants.{Refused, Answered}
 use Rattle.method.specs.Answers.{verdict-number}
-use Rattle.card.specs.declared.Written.{Written}
-use Rattle.card.specs.declared.Written.the-variants as written
+use Rattle.card_format.specs.declared.Written.{Written}
+use Rattle.card_format.specs.declared.Written.the-variants as written
 use Rattle.exported_types.specs.declared.Reply.{Reply}
 use Rattle.exported_types.specs.declared.CardReply.{CardReply}
 

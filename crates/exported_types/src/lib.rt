@@ -3,7 +3,7 @@
 // Helpers, which ask nothing of their caller: reply_of, card_reply_of.
 ghost use mathlib.Core.Path.{_≡_};
 ghost use Rattle.exported_types.specs.Replies.{floor-of, shortfall-of, reply-of, card-reply-of};
-use card::Written;
+use card_format::Written;
 use method::Searched;
 use method::Verdict;
 

@@ -4,9 +4,9 @@ use mathlib.Core.List.{List}
 use Prim.Native.Nat.{ℕ}
 use Rattle.method.specs.declared.Searched.{Searched}
 use Rattle.method.specs.Promise.{Outcome-right}
-use Rattle.card.specs.declared.Written.{Written}
-use Rattle.card.specs.Checking.{Check-right}
-use Rattle.card.specs.Filing.{Filing-right}
+use Rattle.card_format.specs.declared.Written.{Written}
+use Rattle.card_format.specs.Checking.{Check-right}
+use Rattle.card_format.specs.Filing.{Filing-right}
 use Rattle.cells.specs.declared.ScaleCell.{ScaleCell}
 use Rattle.cells.specs.declared.SheetValues.{SheetValues}
 use Rattle.cells.specs.Cells.{sheet-values}

@@ -14,8 +14,8 @@ ghost use Rattle.method.specs.Answers.{outcome, search-refusal, slots-after, ru
 ghost use Rattle.files.specs.Book.{boats};
 ghost use Rattle.card_format.specs.Format.{card-shares, card-answer, run-card};
 ghost use Rattle.card_format.specs.Checks.{write-refusal, check-refusal};
-ghost use Rattle.card.specs.Filing.{filing, Filing-right};
-ghost use Rattle.card.specs.Checking.{Check-right};
+ghost use Rattle.card_format.specs.Filing.{filing, Filing-right};
+ghost use Rattle.card_format.specs.Checking.{Check-right};
 ghost use Rattle.method.specs.Promise.{Outcome-right};
 ghost use Rattle.search_listing.specs.Searches.{search-listing};
 ghost use Rattle.exported_types.specs.Replies.{reply-of, card-reply-of};

@@ -8,7 +8,7 @@ use Rattle.method.specs.Problem.{problem}
 use Rattle.method.specs.Answers.{run-answer, slots-after}
 use Rattle.card_format.specs.Format.{run-card}
 use Rattle.card_format.specs.Checks.{write-refusal}
-use Rattle.card.specs.Filing.{written-size, filing}
+use Rattle.card_format.specs.Filing.{written-size, filing}
 
 -- a buffer with fewer bytes is not lent
 abbrev pub written-length : (b s : List ℕ) → (room size : ℕ) → ℕ

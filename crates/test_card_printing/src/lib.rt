@@ -1,9 +1,9 @@
 // For the test programs: a card written, and what the writer gives back printed.
 ghost use mathlib.Core.Path.{_≡_};
 ghost use lib.ListN.{length};
-ghost use Rattle.card.specs.Filing.{written-size};
+ghost use Rattle.card_format.specs.Filing.{written-size};
 ghost use Rattle.test_card_printing.specs.Written.{written-length, written-bytes};
-use card::Written;
+use card_format::Written;
 
 // What the writer gives back; its length.
 fn print_written(written: Written) -> usize

@@ -1,6 +1,6 @@
 -- `card_listing::written_size` meets its contract.
 use borrow.Author.Needs.{needs}
-use Rattle.card.specs.Filing.{written-size}
+use Rattle.card_format.specs.Filing.{written-size}
 use Rattle.card_listing.proofs.written_size.Statement.{statement}
 use Rattle.card_listing.proofs.written_size.Tie as tie
 

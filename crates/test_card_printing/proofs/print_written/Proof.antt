@@ -1,7 +1,7 @@
 -- `test_card_printing::print_written` meets its contract.
 use mathlib.Core.Path.{sym, ap}
 use borrow.Author.Needs.{needs}
-use Rattle.card.specs.Filing.{written-size}
+use Rattle.card_format.specs.Filing.{written-size}
 use Rattle.test_card_printing.proofs.print_written.Statement.{statement}
 use Rattle.test_card_printing.proofs.print_written.Tie as tie
 

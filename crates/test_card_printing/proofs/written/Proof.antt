@@ -5,7 +5,7 @@ use borrow.Author.Needs.{needs}
 use borrow.Author.Tests.{le-leb, lt-leb}
 use lib.ListN.{length, take}
 use lib.Seq.{length-take-le}
-use Rattle.card.specs.Filing.{written-size}
+use Rattle.card_format.specs.Filing.{written-size}
 use Rattle.test_card_printing.proofs.written.Statement.{statement}
 use Rattle.test_card_printing.proofs.written.Tie as tie
 

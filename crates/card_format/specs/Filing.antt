@@ -10,10 +10,10 @@ use Rattle.method.specs.declared.Answer.{Answer}
 use Rattle.method.specs.Problem.{problem}
 use Rattle.method.specs.Answers.{run-iterate}
 use Rattle.method.specs.Promise.{Run-right}
 use Rattle.card_format.specs.Format.{card-shares, card-answer, run-card}
 use Rattle.card_format.specs.Checks.{card-refusal, write-refusal}
-use Rattle.card.specs.declared.Written.{Written}
-use Rattle.card.specs.declared.Written.the-variants.{Refused, Filed}
+use Rattle.card_format.specs.declared.Written.{Written}
+use Rattle.card_format.specs.declared.Written.the-variants.{Refused, Filed}
 
 -- ---- The enum by number
 
