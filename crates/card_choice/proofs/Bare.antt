@@ -1,26 +1,40 @@
 -- An accepted card without its front text is a card that the check accepts, with the same answer and shares.
-use mathlib.Core.Path.{_≡_, sym, ap, _∙_}
+use mathlib.Core.Path.{_≡_, refl, sym, ap, _∙_}
 use mathlib.Core.Bool.{true}
 use mathlib.Core.List.{List, [], _++_}
 use Prim.Native.Nat.{ℕ, _+_, _≤_}
 use native.Mathlib.Omega.{arith}
 use lib.ListN.{length, drop, length-append}
-use lib.Seq.{drop-at}
+use lib.Seq.{drop-at, drop-append-add}
 use Rattle.files.specs.Bytes.{all-bytes}
 use Rattle.files.specs.Book.{boats}
 use Rattle.files.specs.Sheet.{files-refusal}
+use Rattle.files.specs.Front.{same-file, other-front}
 use Rattle.method.specs.Problem.{problem}
 use Rattle.method.proofs.Weights.{fixed-fits, weight-positive}
 use Rattle.card_format.specs.Format.{pairs, trailer-bytes, card-fields, card-shares, card-answer}
 use Rattle.card_format.specs.Checks.{card-refusal}
 use Rattle.card_format.specs.Truth.{Card-true, Accepted-exactly, Accepted-vouches}
+use Rattle.card_format.specs.Front.{Card-whole, Same-card}
 use Rattle.files.proofs.Bytes.{drop-bytes}
 use Rattle.card_format.proofs.Trailer.{length-trailer, file-length}
+use Rattle.card_format.proofs.Front.{fields-front}
 use Rattle.card_format.proofs.Vouches.{accepted-exactly, accepted-vouches}
 use Rattle.card_format.specs.Filing.{Reads-back}
 use Rattle.card_choice.specs.Choices.{front-length, bare}
 use Rattle.card_choice.specs.Promise.{Is-distance}
 use Rattle.card_choice.proofs.Distances.{squared-distance, distance-is}
+
+-- cards that differ in front text alone are the same without it
+bare-front : (f w : List ℕ) → Card-whole w → bare (f ++ w) ≡ bare w
+unfolding bare
+bare-front f w h =
+    let m : front-length (f ++ w) ≡ length f + front-length w = rw (fields-front f w h) (omega (arith, length-append f w)) in
+    ap (λ k. drop k (f ++ w)) m ∙ drop-append-add f w (front-length w)
+
+pub bare-behind : (w w′ : List ℕ) → Same-card w w′ → bare w′ ≡ bare w
+bare-behind w w′ same-file = refl
+bare-behind w w′ (other-front f g x h i j) = bare-front g x h ∙ sym (bare-front f x h)
 
 module _ (b s w : List ℕ) (ok : files-refusal b s ≡ 0) (all : all-bytes w ≡ true) (e : card-refusal b s w ≡ 0) where
   is-true : Card-true b s w

@@ -12,6 +12,8 @@ use lib.Seq.{take-all}
 use Rattle.files.specs.Bytes.{all-bytes}
 use Rattle.files.specs.Sheet.{files-refusal}
 use Rattle.files.specs.Editions.{Editions}
+use Rattle.files.specs.Front.{Same-book, Same-sheet, Files-alike, Files-front-unread}
+use Rattle.files.proofs.Front.{files-front-unread}
 use Rattle.method.proofs.Promise.{same-files}
 use Rattle.method.specs.declared.Answer.{Answer}
 use Rattle.method.specs.declared.Searched.{Searched}
@@ -23,14 +25,16 @@ use Rattle.listing.proofs.Outcomes.{same-refusal}
 use Rattle.card_format.specs.Format.{card-fields, card-answer}
 use Rattle.card_format.specs.Checks.{card-refusal, check-refusal}
 use Rattle.card_format.specs.Truth.{Card-true, Accepted-exactly}
+use Rattle.card_format.specs.Front.{Same-card, Cards-alike, Card-front-unread}
 use Rattle.card_format.proofs.Editions.{same-card-refusal, same-card-answer}
+use Rattle.card_format.proofs.Front.{card-front-unread}
 use Rattle.card_format.proofs.Accepted.{both-zero}
 use Rattle.card_format.proofs.Vouches.{accepted-exactly}
 use Rattle.card_choice.specs.declared.Choice.{Choice}
 use Rattle.card_choice.specs.Choices.{better-refusal, nearer, better-number, numbered, better, bare, better-part, part-of, bare-choice, no-choice, choice}
 use Rattle.card_choice.specs.Promise.{Is-distance, Part-right, Better-right}
 use Rattle.card_choice.proofs.Distances.{squared-distance, at-most, less}
-use Rattle.card_choice.proofs.Bare.{front-of, ends, inside, size, reads-back, own-distance}
+use Rattle.card_choice.proofs.Bare.{bare-behind, front-of, ends, inside, size, reads-back, own-distance}
 
 -- ---- The refusal
 
@@ -199,6 +203,34 @@ module _ (b s x y : List ℕ) (ax : all-bytes x ≡ true) (ay : all-bytes y ≡ 
   unfolding better-part better better-number
   same-part s′ d = rw (same-number s′ d, same-card-answer b s s′ d x, same-card-answer b s s′ d y)
 
+  -- of files and cards that differ in front text alone
+  module _ {b′ s′ x′ y′ : List ℕ} (d : Files-alike b s b′ s′) (dx : Cards-alike b s x b′ s′ x′) (dy : Cards-alike b s y b′ s′ y′) where
+    refusal-behind : better-refusal b′ s′ x′ y′ ≡ better-refusal b s x y
+    unfolding better-refusal
+    refusal-behind = rw (d .refusal, dx .refusal, dy .refusal)
+
+    number-behind : better-number b′ s′ x′ y′ ≡ better-number b s x y
+    unfolding better-number
+    number-behind = rw (dx .answer, dy .answer)
+
+    part-behind : bare x′ ≡ bare x → bare y′ ≡ bare y → better-part b′ s′ x′ y′ ≡ better-part b s x y
+    unfolding better-part better numbered
+    part-behind ex ey = rw (refusal-behind, number-behind) (by (eqb (better-number b s x y) 2))
+      where
+        by : (t : Bool) → cond (eqb (better-refusal b s x y) 0) (bare (cond t y′ x′)) [] ≡ cond (eqb (better-refusal b s x y) 0) (bare (cond t y x)) []
+        by true = rw ey
+        by false = rw ex
+
+  fronts : (b′ s′ x′ y′ : List ℕ) → Same-book b b′ → Same-sheet s s′ → Same-card x x′ → Same-card y y′ →
+      (better-refusal b′ s′ x′ y′ ≡ better-refusal b s x y)
+      × ((better-number b′ s′ x′ y′ ≡ better-number b s x y) × (better-part b′ s′ x′ y′ ≡ better-part b s x y))
+  unfolding Files-front-unread Card-front-unread
+  fronts b′ s′ x′ y′ hb hs hx hy =
+      let d = files-front-unread b s b′ s′ hb hs in
+      let dx = card-front-unread b s x b′ s′ x′ hb hs hx in
+      let dy = card-front-unread b s y b′ s′ y′ hb hs hy in
+      (refusal-behind d dx dy, (number-behind d dx dy, part-behind d dx dy (bare-behind x x′ hx) (bare-behind y y′ hy)))
+
   pub better-right : {n : ℕ} {part : List ℕ} → n ≡ better-refusal b s x y → part ≡ better-part b s x y → Better-right b s x y n part
   better-right {n} {part} e f =
       record {
@@ -207,6 +239,7 @@ module _ (b s x y : List ℕ) (ax : all-bytes x ≡ true) (ay : all-bytes y ≡ 
         refused = λ h. f ∙ no-part n e h;
         chosen = λ z. let r = sym e ∙ z in let a = accepted b s x y r in rw (f, part-when r) (chosen b s x y (a .0) ax ay (a .1 .0) (a .1 .1));
         editions = λ s′ d. (same-number s′ d, same-part s′ d);
+        fronts = fronts;
       }
 
   -- ---- The same of a choice

@@ -10,11 +10,13 @@ use lib.ListN.{length}
 use Rattle.files.specs.Book.{boats}
 use Rattle.files.specs.Sheet.{files-refusal}
 use Rattle.files.specs.Editions.{Editions}
+use Rattle.files.specs.Front.{Same-book, Same-sheet}
 use Rattle.method.specs.declared.Answer.{Answer}
 use Rattle.method.specs.Fractions.{Fraction, Is-ratio, _≤ℚ_, _<ℚ_}
 use Rattle.card_format.specs.Format.{card-fields, card-shares, card-answer}
 use Rattle.card_format.specs.Checks.{check-refusal}
 use Rattle.card_format.specs.Truth.{Card-true}
+use Rattle.card_format.specs.Front.{Same-card}
 use Rattle.card_format.specs.Filing.{Reads-back}
 use Rattle.card_choice.specs.Choices.{better-refusal, better-number, better, better-part}
 
@@ -56,3 +58,7 @@ pub record Better-right (b s x y : List ℕ) (n : ℕ) (part : List ℕ) : Type 
   pub chosen : n ≡ 0 → Part-right b s x y part
   -- for a sheet of the other edition that asks for the same, every factor 1, the number and the part are the same
   pub editions : (s′ : List ℕ) → Editions s s′ → (better-refusal b s′ x y ≡ better-refusal b s x y) × (better-part b s′ x y ≡ better-part b s x y)
+  -- front text is never read: of files and cards that differ from these in front text alone the number, the card chosen and its part are the same
+  pub fronts : (b′ s′ x′ y′ : List ℕ) → Same-book b b′ → Same-sheet s s′ → Same-card x x′ → Same-card y y′ →
+      (better-refusal b′ s′ x′ y′ ≡ better-refusal b s x y)
+      × ((better-number b′ s′ x′ y′ ≡ better-number b s x y) × (better-part b′ s′ x′ y′ ≡ better-part b s x y))

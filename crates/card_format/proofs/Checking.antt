@@ -15,8 +15,10 @@ use Rattle.method.proofs.Promise.{search-accepted, outcome-number, outcome-refu
 use Rattle.card_format.specs.Format.{card-shares, card-answer}
 use Rattle.card_format.specs.Checks.{card-refusal, check-refusal}
 use Rattle.card_format.specs.Truth.{Card-true, Card-vouches, Accepted-exactly, Filed-before-true, Accepted-vouches}
+use Rattle.card_format.specs.Front.{Card-front-unread}
 use Rattle.card_format.specs.Checking.{Check-right}
 use Rattle.card_format.proofs.Editions.{same-check, same-card-answer}
+use Rattle.card_format.proofs.Front.{card-front-unread}
 use Rattle.card_format.proofs.Accepted.{both-zero}
 use Rattle.card_format.proofs.Vouches.{accepted-exactly, accepted-vouches}
 use Rattle.card_format.proofs.RunCards.{filed-before-true}
@@ -56,7 +58,7 @@ module _ (b s w slots : List ℕ) (all : all-bytes w ≡ true) {n : ℕ} {r : Se
       (λ q. x .0 (sym k ∙ q), λ q. k ∙ x .1 q .0)
 
   pub check-right : Check-right b s w r now
-  unfolding Filed-before-true
+  unfolding Filed-before-true Card-front-unread
   check-right =
       record {
         number = number-is ∙ e ∙ ap (check-refusal b s w) (sym same-length);
@@ -65,4 +67,5 @@ module _ (b s w slots : List ℕ) (all : all-bytes w ≡ true) {n : ℕ} {r : Se
         filed-before = λ z c. exactly z .1 (filed-before-true b s w (search-accepted b s (length now) z .0) c);
         answered = λ a q. let h = outcome-answered n (card-answer b s w) a (sym f ∙ q) in rw (← h .1) (vouches (h .0));
         editions = λ s′ d. (same-check b s s′ d w (length now), same-card-answer b s s′ d w);
+        fronts = λ b′ s′ w′ d h k. card-front-unread b s w b′ s′ w′ d h k;
       }

@@ -8,11 +8,13 @@ use borrow.Author.Tests.{ltb-false}
 use lib.Dec.{eqb, ltb, eqb·suc-zero}
 use lib.ListN.{length, take}
 use Rattle.files.specs.Sheet.{files-refusal}
+use Rattle.files.specs.Front.{Files-front-unread}
 use Rattle.files.specs.Limits.{file-limit}
+use Rattle.files.proofs.Front.{files-front-unread}
 use Rattle.method.specs.declared.Answer.{Answer}
 use Rattle.method.specs.Problem.{problem}
 use Rattle.method.specs.Answers.{slots-after, run-answer, run-iterate}
-use Rattle.method.proofs.Promise.{same-problem, run-right, length-after, slots-kept}
+use Rattle.method.proofs.Promise.{same-problem, problem-behind, run-right, length-after, slots-kept}
 use Rattle.card_format.specs.declared.Written.{Written}
 use Rattle.card_format.specs.declared.Written.the-variants.{Refused, Filed}
 use Rattle.card_format.specs.Format.{run-card}
@@ -20,6 +22,7 @@ use Rattle.card_format.specs.Checks.{write-refusal}
 use Rattle.card_format.specs.Truth.{Written-accepted, Written-short}
 use Rattle.card_format.specs.Filing.{writing-number, written-size, filing, Reads-back, Filed-right, Filing-right}
 use Rattle.card_format.proofs.Editions.{same-run-card, same-writing}
+use Rattle.card_format.proofs.Front.{run-card-behind, writing-behind}
 use Rattle.card_format.proofs.RunCards.{written-accepted, written-short}
 
 filing-number : (n : ℕ) (a : Answer) (k : ℕ) → writing-number (filing n a k) ≡ n
@@ -74,10 +77,12 @@ module _ (b s out : List ℕ) {n : ℕ} {r : Written} {now : List ℕ} (e : n �
       rw k (ap (take (length (run-card b s))) (g ∙ ap (λ m. slots-after m (run-card b s) out) z) ∙ slots-kept (run-card b s) out (length (run-card b s)) refl)
 
   pub filing-right : Filing-right b s r now
+  unfolding Files-front-unread
   filing-right =
       record {
         number = ap writing-number f ∙ filing-number n (run-answer (problem b s)) (length (run-card b s)) ∙ e ∙ ap (write-refusal b s) (sym same-length);
         refused = λ m q. filing-refused n m (run-answer (problem b s)) (length (run-card b s)) (sym f ∙ q);
         filed = λ a m q. let h = filing-filed n (run-answer (problem b s)) a (length (run-card b s)) m (sym f ∙ q) in rw (← h .1, written-is (h .0)) (filed-right b s (accepted (h .0) .0));
         editions = λ s′ d. (same-writing b s s′ d (length now), (same-problem b s s′ d, same-run-card b s s′ d));
+        fronts = λ b′ s′ d h. let k = files-front-unread b s b′ s′ d h in (writing-behind k (length now), (problem-behind k, run-card-behind k));
       }

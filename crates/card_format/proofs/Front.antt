@@ -1,5 +1,5 @@
 -- Front text is never read: what stands before a card that holds its whole body changes nothing.
-use mathlib.Core.Path.{_≡_, sym, ap, _∙_}
+use mathlib.Core.Path.{_≡_, refl, sym, ap, _∙_}
 use mathlib.Core.List.{List, _++_, append-assoc}
 use Prim.Native.Nat.{ℕ, _+_, _-_}
 use native.Mathlib.Omega.{arith}
@@ -9,13 +9,15 @@ use lib.Seq.{length-take-le}
 use Rattle.files.specs.Bytes.{between, length-in-range, trailer, body, reaches}
 use Rattle.files.specs.Book.{boats, columns}
 use Rattle.files.specs.Sheet.{sheet}
-use Rattle.files.specs.Front.{Front-fits}
+use Rattle.files.specs.Front.{Front-fits, same-file, other-front, Files-alike, Files-front-unread}
 use Rattle.files.specs.Limits.{file-limit}
+use Rattle.files.proofs.Front.{files-front-unread}
 use Rattle.method.specs.declared.Test.{Test}
 use Rattle.method.specs.Problem.{Problem, problem}
-use Rattle.card_format.specs.Format.{card-fields, lettered, card-test, card-body, pair-count, card-shares, card-answer}
-use Rattle.card_format.specs.Checks.{back-fits, counts-agree, steps-fit, form-refusal, numbers-agree, truth-refusal, card-refusal, check-refusal}
-use Rattle.card_format.specs.Front.{Card-whole, Card-front-unread}
+use Rattle.method.proofs.Promise.{search-behind, problem-behind}
+use Rattle.card_format.specs.Format.{card-fields, lettered, card-test, card-body, pair-count, card-shares, card-answer, run-card}
+use Rattle.card_format.specs.Checks.{back-fits, counts-agree, steps-fit, form-refusal, numbers-agree, truth-refusal, card-refusal, write-refusal, check-refusal}
+use Rattle.card_format.specs.Front.{Card-whole, Same-card, Cards-alike, Card-front-unread}
 use Rattle.card_format.proofs.Trailer.{file-trailer, file-body, file-parts}
 
 module _ (f w : List ℕ) (h : Card-whole w) where
@@ -39,7 +41,7 @@ module _ (f w : List ℕ) (h : Card-whole w) where
   trailer-front : trailer 36 (f ++ w) ≡ trailer 36 w
   trailer-front = ap (trailer 36) parts ∙ file-trailer before (body 36 back w) (trailer 36 w) trailer-length
 
-  fields-front : card-fields (f ++ w) ≡ card-fields w
+  pub fields-front : card-fields (f ++ w) ≡ card-fields w
   unfolding card-fields
   fields-front = rw trailer-front
 
@@ -91,15 +93,50 @@ module _ (f w : List ℕ) (h : Card-whole w) where
   unfolding card-refusal
   refusal-front k b s = rw (form-front k (boats b) (columns b) (sheet s .steps), shares-front (boats b), truth-front (problem b s) (card-shares (boats b) w))
 
-  check-front : Front-fits f w → (b s : List ℕ) (slots : ℕ) → check-refusal b s (f ++ w) slots ≡ check-refusal b s w slots
-  unfolding check-refusal
-  check-front k b s slots = rw (refusal-front k b s)
+-- ---- A card, a book and a sheet that differ in front text alone
+
+-- what is read of such a card alone
+record Same-fields (w w′ : List ℕ) : Type 0 where
+  test : card-test w′ ≡ card-test w
+  steps : card-fields w′ .steps ≡ card-fields w .steps
+  shares : (n : ℕ) → card-shares n w′ ≡ card-shares n w
+  refusal : (b s : List ℕ) → card-refusal b s w′ ≡ card-refusal b s w
+
+same-card : (w w′ : List ℕ) → Same-card w w′ → Same-fields w w′
+same-card w w′ same-file = record { test = refl; steps = refl; shares = λ n. refl; refusal = λ b s. refl }
+same-card w w′ (other-front f g x h i j) =
+    record {
+      test = test-front g x h ∙ sym (test-front f x h);
+      steps = ap (λ k. k .steps) (fields-front g x h ∙ sym (fields-front f x h));
+      shares = λ n. shares-front g x h n ∙ sym (shares-front f x h n);
+      refusal = λ b s. refusal-front g x h j b s ∙ sym (refusal-front f x h i b s);
+    }
+
+module _ {b s b′ s′ : List ℕ} (d : Files-alike b s b′ s′) where
+  refusal-behind : (w : List ℕ) → card-refusal b′ s′ w ≡ card-refusal b s w
+  unfolding card-refusal
+  refusal-behind w = rw (problem-behind d, d .boats, d .columns, d .sheet)
+
+  pub run-card-behind : run-card b′ s′ ≡ run-card b s
+  unfolding run-card
+  run-card-behind = rw (problem-behind d, d .boats, d .columns, d .sheet)
+
+  pub writing-behind : (room : ℕ) → write-refusal b′ s′ room ≡ write-refusal b s room
+  unfolding write-refusal
+  writing-behind room = rw (d .refusal, run-card-behind)
+
+  cards-alike : {w w′ : List ℕ} → Same-fields w w′ → Cards-alike b s w b′ s′ w′
+  unfolding check-refusal card-answer
+  cards-alike {w} {w′} k =
+      let same : card-refusal b′ s′ w′ ≡ card-refusal b s w = refusal-behind w′ ∙ k .refusal b s in
+      record {
+        refusal = same;
+        check = λ slots. rw (search-behind d slots, same);
+        boats = d .boats;
+        shares = k .shares;
+        answer = rw (problem-behind d, d .boats, k .test, k .shares (boats b), k .steps);
+      }
 
 pub card-front-unread : Card-front-unread
-unfolding Card-front-unread
-card-front-unread f g w h i j b s = (
-  refusal-front f w h i b s ∙ sym (refusal-front g w h j b s),
-  λ slots. check-front f w h i b s slots ∙ sym (check-front g w h j b s slots),
-  λ n. shares-front f w h n ∙ sym (shares-front g w h n),
-  answer-front f w h b s ∙ sym (answer-front g w h b s),
-)
+unfolding Card-front-unread Files-front-unread
+card-front-unread b s w b′ s′ w′ d e k = cards-alike (files-front-unread b s b′ s′ d e) (same-card w w′ k)

@@ -6,6 +6,7 @@ use Prim.Native.Nat.{ℕ, _≤_}
 use lib.ListN.{length, take}
 use Rattle.files.specs.Book.{boats}
 use Rattle.files.specs.Editions.{Editions}
+use Rattle.files.specs.Front.{Same-book, Same-sheet}
 use Rattle.method.specs.declared.Answer.{Answer}
 use Rattle.method.specs.declared.Searched.{Searched}
 use Rattle.method.specs.declared.Searched.the-variants.{Refused, Answered}
@@ -13,6 +14,7 @@ use Rattle.method.specs.Answers.{refusal-number, search-refusal}
 use Rattle.card_format.specs.Format.{card-answer}
 use Rattle.card_format.specs.Checks.{check-refusal}
 use Rattle.card_format.specs.Truth.{Card-true, Filed-before, Card-vouches}
+use Rattle.card_format.specs.Front.{Same-card, Cards-alike}
 
 -- of an outcome and the share list that it leaves
 pub record Check-right (b s w : List ℕ) (r : Searched) (slots : List ℕ) : Type 0 where
@@ -29,3 +31,5 @@ pub record Check-right (b s w : List ℕ) (r : Searched) (slots : List ℕ) : Ty
   -- for a sheet of the other edition that asks for the same, every factor 1, the card is refused by the same number and has the same answer
   pub editions : (s′ : List ℕ) → Editions s s′ →
       (check-refusal b s′ w (length slots) ≡ check-refusal b s w (length slots)) × (card-answer b s′ w ≡ card-answer b s w)
+  -- front text is never read: a card, a book and a sheet that differ from these in front text alone have the same refusal, shares and answer
+  pub fronts : (b′ s′ w′ : List ℕ) → Same-book b b′ → Same-sheet s s′ → Same-card w w′ → Cards-alike b s w b′ s′ w′

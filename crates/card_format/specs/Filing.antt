@@ -5,6 +5,7 @@ use Prim.Native.Nat.{ℕ, zero, suc, _+_, _≤_}
 use lib.ListN.{length, take}
 use Rattle.files.specs.Book.{boats}
 use Rattle.files.specs.Editions.{Editions}
+use Rattle.files.specs.Front.{Same-book, Same-sheet}
 use Rattle.files.specs.Limits.{file-limit}
 use Rattle.method.specs.declared.Answer.{Answer}
 use Rattle.method.specs.Problem.{problem}
@@ -61,3 +62,6 @@ pub record Filing-right (b s : List ℕ) (r : Written) (output : List ℕ) : Typ
   -- a sheet of the other edition that asks for the same, every factor 1, is refused by the same number and has the same run and card
   pub editions : (s′ : List ℕ) → Editions s s′ →
       (write-refusal b s′ (length output) ≡ write-refusal b s (length output)) × ((problem b s′ ≡ problem b s) × (run-card b s′ ≡ run-card b s))
+  -- front text is never read: files that differ from these in front text alone are refused by the same number and have the same run and card
+  pub fronts : (b′ s′ : List ℕ) → Same-book b b′ → Same-sheet s s′ →
+      (write-refusal b′ s′ (length output) ≡ write-refusal b s (length output)) × ((problem b′ s′ ≡ problem b s) × (run-card b′ s′ ≡ run-card b s))

@@ -1,10 +1,11 @@
--- Front text is never read, whether a card is accepted or refused: with any two fronts that keep it within 40,000 bytes, a card that holds its
--- whole body has the same refusal, shares and answer.
+-- Front text is never read, whether a card is accepted or refused: a card, a book and a sheet that differ in front text alone from others
+-- have the same refusal, shares and answer. Definitions only.
 use mathlib.Core.Path.{_≡_}
-use mathlib.Core.List.{List, _++_}
+use mathlib.Core.List.{List}
 use Prim.Native.Nat.{ℕ, _+_, _≤_}
 use lib.ListN.{length}
-use Rattle.files.specs.Front.{Front-fits}
+use Rattle.files.specs.Book.{boats}
+use Rattle.files.specs.Front.{Same-behind, Same-book, Same-sheet}
 use Rattle.card_format.specs.Format.{card-fields, card-shares, card-answer}
 use Rattle.card_format.specs.Checks.{card-refusal, check-refusal}
 
@@ -12,10 +13,17 @@ use Rattle.card_format.specs.Checks.{card-refusal, check-refusal}
 abbrev pub Card-whole : (card : List ℕ) → Type 0
 Card-whole w = card-fields w .back + 36 ≤ length w
 
+-- cards that differ in front text alone
+abbrev pub Same-card : List ℕ → List ℕ → Type 0
+Same-card w w′ = Same-behind Card-whole w w′
+
+-- what the check of a card goes by is the same of another
+pub record Cards-alike (b s w b′ s′ w′ : List ℕ) : Type 0 where
+  pub refusal : card-refusal b′ s′ w′ ≡ card-refusal b s w
+  pub check : (slots : ℕ) → check-refusal b′ s′ w′ slots ≡ check-refusal b s w slots
+  pub boats : boats b′ ≡ boats b
+  pub shares : (n : ℕ) → card-shares n w′ ≡ card-shares n w
+  pub answer : card-answer b′ s′ w′ ≡ card-answer b s w
+
 unfoldable pub Card-front-unread : Type 0
-Card-front-unread =
-    (f g w : List ℕ) → Card-whole w → Front-fits f w → Front-fits g w → (b s : List ℕ) →
-    (card-refusal b s (f ++ w) ≡ card-refusal b s (g ++ w))
-    × ((slots : ℕ) → check-refusal b s (f ++ w) slots ≡ check-refusal b s (g ++ w) slots)
-    × ((n : ℕ) → card-shares n (f ++ w) ≡ card-shares n (g ++ w))
-    × (card-answer b s (f ++ w) ≡ card-answer b s (g ++ w))
+Card-front-unread = (b s w b′ s′ w′ : List ℕ) → Same-book b b′ → Same-sheet s s′ → Same-card w w′ → Cards-alike b s w b′ s′ w′

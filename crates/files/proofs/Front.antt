@@ -11,7 +11,7 @@ use lib.Seq.{drop-append-add}
 use Rattle.files.specs.Bytes.{number, between, length-in-range, trailer, body, reaches, body-refusal}
 use Rattle.files.specs.Book.{boats, columns, Book-whole, rows, book-refusal}
 use Rattle.files.specs.Sheet.{sheet-columns, WSH1, WSH2, sheet-lettered, factor-bytes, sheet-back, Sheet-whole, sheet, sheet-refusal-in, files-refusal}
-use Rattle.files.specs.Front.{Front-fits, Book-front-unread, Sheet-front-unread, Files-front-unread}
+use Rattle.files.specs.Front.{Front-fits, Book-front-unread, Sheet-front-unread, same-file, other-front, Same-book, Same-sheet, Files-front-unread}
 use Rattle.files.specs.Limits.{file-limit}
 
 drop-front : (f b : List ℕ) (k m : ℕ) → m ≡ length f + k → drop m (f ++ b) ≡ drop k b
@@ -106,11 +106,22 @@ unfolding Sheet-front-unread
 sheet-front-unread f g s a z w h k =
     (sheet-front f s w ∙ sym (sheet-front g s w), sheet-refusal-front f s w a z h ∙ sym (sheet-refusal-front g s w a z k))
 
--- ---- both
-files-refusal-front : (f b h s : List ℕ) → Book-whole b → Front-fits f b → Sheet-whole s → Front-fits h s → files-refusal (f ++ b) (h ++ s) ≡ files-refusal b s
-unfolding files-refusal
-files-refusal-front f b h s w i v j = rw (book-refusal-front f b w i, columns-front f b w, sheet-refusal-front h s v (columns b) (columns b) j)
+-- ---- both, where they differ in front text alone
+
+-- what a book is read as: boats, columns, rows and its refusal
+same-book : (b b′ : List ℕ) → Same-book b b′ → (boats b′ ≡ boats b) × (columns b′ ≡ columns b) × (rows b′ ≡ rows b) × (book-refusal b′ ≡ book-refusal b)
+unfolding Book-front-unread
+same-book b b′ same-file = (refl, refl, refl, refl)
+same-book b b′ (other-front f g x w h k) = book-front-unread g f x w k h
+
+same-sheet : (s s′ : List ℕ) (a z : ℕ) → Same-sheet s s′ → (sheet s′ ≡ sheet s) × (sheet-refusal-in a z s′ ≡ sheet-refusal-in a z s)
+unfolding Sheet-front-unread
+same-sheet s s′ a z same-file = (refl, refl)
+same-sheet s s′ a z (other-front f g x w h k) = sheet-front-unread g f x a z w k h
 
 pub files-front-unread : Files-front-unread
-unfolding Files-front-unread
-files-front-unread f g b h k s w i i′ v j j′ = files-refusal-front f b h s w i v j ∙ sym (files-refusal-front g b k s w i′ v j′)
+unfolding Files-front-unread files-refusal
+files-front-unread b s b′ s′ d e =
+    let p = same-book b b′ d in
+    let q = same-sheet s s′ (columns b) (columns b) e in
+    record { boats = p .0; columns = p .1; rows = p .2; sheet = q .0; refusal = rw (p .3, p .1, q .1) }

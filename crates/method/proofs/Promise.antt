@@ -11,7 +11,9 @@ use lib.Seq.{take-at}
 use Rattle.files.specs.Book.{boats}
 use Rattle.files.specs.Sheet.{files-refusal}
 use Rattle.files.specs.Editions.{Editions, Editions-alike}
+use Rattle.files.specs.Front.{Files-alike, Files-front-unread}
 use Rattle.files.proofs.Editions.{editions-alike}
+use Rattle.files.proofs.Front.{files-front-unread}
 use Rattle.method.specs.Problem.{problem}
 use Rattle.method.specs.declared.Answer.{Answer}
 use Rattle.method.specs.declared.Searched.{Searched}
@@ -48,6 +50,16 @@ module _ (b s s′ : List ℕ) where
   pub same-problem : Editions s s′ → problem b s′ ≡ problem b s
   unfolding problem Editions-alike
   same-problem d = rw (editions-alike s s′ d .0)
+
+-- ---- Files that differ in front text alone
+module _ {b s b′ s′ : List ℕ} (d : Files-alike b s b′ s′) where
+  pub search-behind : (slots : ℕ) → search-refusal b′ s′ slots ≡ search-refusal b s slots
+  unfolding search-refusal
+  search-behind slots = rw (d .refusal, d .boats)
+
+  pub problem-behind : problem b′ s′ ≡ problem b s
+  unfolding problem
+  problem-behind = rw (d .columns, d .rows, d .sheet)
 
 -- a search that is not refused has files that are not, and a slot for each boat
 pub search-accepted : (b s : List ℕ) (slots : ℕ) → search-refusal b s slots ≡ 0 → (files-refusal b s ≡ 0) × (boats b ≤ slots)
@@ -89,12 +101,14 @@ slots-kept qs slots n e = take-at qs (drop (length qs) slots) n e
 
 pub outcome-right : (b s slots : List ℕ) (n : ℕ) (r : Searched) (now : List ℕ) →
     n ≡ search-refusal b s (length slots) → r ≡ outcome n (run-answer (problem b s)) → now ≡ slots-after n (run-iterate (problem b s) .shares) slots → Outcome-right b s r now
+unfolding Files-front-unread
 outcome-right b s slots n r now e f g =
     record {
       number = ap refusal-number f ∙ outcome-number n (run-answer (problem b s)) ∙ e ∙ ap (search-refusal b s) (sym same-length);
       refused = λ m q. outcome-refused n m (run-answer (problem b s)) (sym f ∙ q) .1;
       answered = λ a q. let h = outcome-answered n (run-answer (problem b s)) a (sym f ∙ q) in rw (← h .1, kept (h .0)) (run-right b s (accepted (h .0) .0));
       editions = λ s′ d. (same-search b s s′ (length now) d, same-problem b s s′ d);
+      fronts = λ b′ s′ d h. (search-behind (files-front-unread b s b′ s′ d h) (length now), problem-behind (files-front-unread b s b′ s′ d h));
     }
   where
     qs : List ℕ

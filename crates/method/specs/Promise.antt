@@ -5,6 +5,7 @@ use Prim.Native.Nat.{ℕ, _≤_}
 use lib.ListN.{length, take}
 use Rattle.files.specs.Book.{boats}
 use Rattle.files.specs.Editions.{Editions}
+use Rattle.files.specs.Front.{Same-book, Same-sheet}
 use Rattle.method.specs.declared.Answer.{Answer}
 use Rattle.method.specs.declared.Searched.{Searched}
 use Rattle.method.specs.declared.Searched.the-variants.{Refused, Answered}
@@ -33,3 +34,6 @@ pub record Outcome-right (b s : List ℕ) (r : Searched) (slots : List ℕ) : Ty
   pub answered : (a : Answer) → r ≡ Answered a → Run-right (problem b s) a (take (boats b) slots)
   -- a sheet of the other edition that asks for the same, every factor 1, is refused by the same number and is the same problem
   pub editions : (s′ : List ℕ) → Editions s s′ → (search-refusal b s′ (length slots) ≡ search-refusal b s (length slots)) × (problem b s′ ≡ problem b s)
+  -- front text is never read: files that differ from these in front text alone are refused by the same number and are the same problem
+  pub fronts : (b′ s′ : List ℕ) → Same-book b b′ → Same-sheet s s′ →
+      (search-refusal b′ s′ (length slots) ≡ search-refusal b s (length slots)) × (problem b′ s′ ≡ problem b s)
