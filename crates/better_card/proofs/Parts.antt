@@ -13,7 +13,7 @@ use Rattle.method.specs.declared.Answer.{Answer}
 use Rattle.card_format.specs.Format.{card-fields}
 use Rattle.card_input.proofs.Reading.{back-at}
 use Rattle.card_choice.specs.declared.Choice.{Choice}
-use Rattle.card_choice.specs.Choices.{nearer, numbered, bare-choice, part-of}
+use Rattle.card_choice.specs.Choices.{nearer, numbered, bare-choice, part-of, place-of}
 
 -- the square of a number of 32 bits fits 64
 square-fits : (w : ℕ) → w < 2 ^ 32 → w * w < 2 ^ 64
@@ -68,10 +68,11 @@ module _ (c : Choice) (x y : List ℕ) where
   same-length : c .offset + c .len - c .offset ≡ c .len
   same-length = omega arith
 
-  pub second-part : c .card ≡ 2 → take (c .offset + c .len - c .offset) (drop (c .offset) y) ≡ part-of c x y
-  unfolding part-of
-  second-part h = rw (second-is h, same-length)
+  -- its bytes and its place, of cards that start at p and q
+  pub second-part : c .card ≡ 2 → (p q : ℕ × ℕ) → (take (c .offset + c .len - c .offset) (drop (c .offset) y) ≡ part-of c x y) × ((q .0, c .offset + q .1) ≡ place-of c p q)
+  unfolding part-of place-of
+  second-part h p q = (rw (second-is h, same-length), rw (eq-eqb (c .card) 2 h))
 
-  pub first-part : (c .card ≡ 2 → ⊥) → take (c .offset + c .len - c .offset) (drop (c .offset) x) ≡ part-of c x y
-  unfolding part-of
-  first-part h = rw (first-is h, same-length)
+  pub first-part : (c .card ≡ 2 → ⊥) → (p q : ℕ × ℕ) → (take (c .offset + c .len - c .offset) (drop (c .offset) x) ≡ part-of c x y) × ((p .0, c .offset + p .1) ≡ place-of c p q)
+  unfolding part-of place-of
+  first-part h p q = (rw (first-is h, same-length), rw (ne-eqb (c .card) 2 h))

@@ -8,7 +8,7 @@ ghost use lib.ListN.{length};
 ghost use Rattle.method.specs.Answers.{outcome};
 ghost use Rattle.card_format.specs.Format.{card-fields, card-answer};
 ghost use Rattle.card_format.specs.Checks.{check-refusal};
-ghost use Rattle.card_choice.specs.Choices.{better-refusal, nearer, numbered, better-part, part-of, bare-choice, no-choice, choice};
+ghost use Rattle.card_choice.specs.Choices.{better-refusal, nearer, numbered, better-part, better-place, part-of, place-of, bare-choice, no-choice, choice};
 ghost use Rattle.card_choice.specs.Promise.{Better-right};
 use card_choice::Choice;
 use method::Answer;
@@ -80,10 +80,11 @@ pub fn choose(book: &[u8], sheet: &[u8], first: &[u8], second: &[u8]) -> Choice
     }
 }
 
-// The part of two cards that a choice names.
+// The part of two cards that a choice names: its bytes, and in which card and where it starts.
 pub fn part_of<'a>(first: &'a [u8], second: &'a [u8], chosen: Choice) -> &'a [u8]
     requires { ⌜ chosen .offset + chosen .len ≤ length (numbered (chosen .card) (now first) (now second)) ⌝ }
     ensures { λ r. ⌜ now r ≡ part-of chosen (now (first .entry)) (now (second .entry)) ⌝ }
+    ensures { λ r. ⌜ r .ptr ≡ place-of chosen (first .entry .ptr) (second .entry .ptr) ⌝ }
 {
     let offset = chosen.offset;
     let end = offset + chosen.len;
@@ -94,8 +95,10 @@ pub fn part_of<'a>(first: &'a [u8], second: &'a [u8], chosen: Choice) -> &'a [u8
 }
 
 // ENTRY. The better of two cards as a part of the caller's own bytes, body and trailer without front text; `number` is left 0. A refusal
-// hands back an empty part of the first card and leaves its number, in the order of `choose`. The third clause says that the part is the
-// end of the card, that the check reads the same answer and shares from it, and that no card of the two is nearer (Better-right).
+// hands back an empty part of the first card and leaves its number, in the order of `choose`. The third clause says where the part starts:
+// behind the front text of the second card where that is nearer, else of the first; on a refusal at the first card's start. The fourth
+// says that the part is the end of the card, that the check reads the same answer and shares from it, and that no card of the two is
+// nearer (Better-right).
 pub fn better_card<'a>(
     book: &[u8],
     sheet: &[u8],
@@ -105,6 +108,7 @@ pub fn better_card<'a>(
 ) -> &'a [u8]
     ensures { λ _. ⌜ now (number .exit) ≡ better-refusal (now (book .entry)) (now (sheet .entry)) (now (first .entry)) (now (second .entry)) ⌝ }
     ensures { λ r. ⌜ now r ≡ better-part (now (book .entry)) (now (sheet .entry)) (now (first .entry)) (now (second .entry)) ⌝ }
+    ensures { λ r. ⌜ r .ptr ≡ better-place (now (book .entry)) (now (sheet .entry)) (now (first .entry)) (now (second .entry)) (first .entry .ptr) (second .entry .ptr) ⌝ }
     ensures { λ r. ⌜ Better-right (now (book .entry)) (now (sheet .entry)) (now (first .entry)) (now (second .entry)) (now (number .exit)) (now r) ⌝ }
 {
     let chosen = choose(book, sheet, first, second);

@@ -4,6 +4,7 @@ use mathlib.Core.Bool.{Bool, true, false, cond}
 use mathlib.Core.Logic.{_↔_}
 use mathlib.Core.List.{List, []}
 use Prim.Native.Nat.{ℕ, zero, suc, _+_, _*_, _≤_, _<_}
+use native.Mathlib.Nat.{zero-add}
 use native.Mathlib.Omega.{arith}
 use borrow.Author.Tests.{ltb-true, ltb-false}
 use lib.Dec.{eqb, eqb·suc-zero}
@@ -31,7 +32,7 @@ use Rattle.card_format.proofs.Front.{card-front-unread}
 use Rattle.card_format.proofs.Accepted.{both-zero}
 use Rattle.card_format.proofs.Vouches.{accepted-exactly}
 use Rattle.card_choice.specs.declared.Choice.{Choice}
-use Rattle.card_choice.specs.Choices.{better-refusal, nearer, better-number, numbered, better, bare, better-part, part-of, bare-choice, no-choice, choice}
+use Rattle.card_choice.specs.Choices.{better-refusal, nearer, better-number, numbered, better, front-length, bare, better-part, better-place, part-of, place-of, bare-choice, no-choice, choice}
 use Rattle.card_choice.specs.Promise.{Is-distance, Part-right, Better-right}
 use Rattle.card_choice.proofs.Distances.{squared-distance, at-most, less}
 use Rattle.card_choice.proofs.Bare.{bare-behind, front-of, ends, inside, size, reads-back, own-distance}
@@ -112,6 +113,24 @@ first-is x y = refl
 pub second-is : (x y : List ℕ) → numbered 2 x y ≡ y
 unfolding numbered
 second-is x y = refl
+
+-- ---- Where the part starts
+
+module _ (b s x y : List ℕ) (p q : ℕ × ℕ) where
+  -- of the card of a number, by the refusal
+  place-by : (n k : ℕ) →
+      place-of (cond (eqb n 0) (bare-choice k (numbered k x y)) (no-choice n)) p q ≡ cond (eqb n 0) (cond (eqb k 2) (q .0, front-length y + q .1) (p .0, front-length x + p .1)) p
+  unfolding place-of bare-choice no-choice numbered
+  place-by zero k = by (eqb k 2)
+    where
+      by : (t : Bool) → _≡_ {A = ℕ × ℕ} (cond t q p .0, front-length (cond t y x) + cond t q p .1) (cond t (q .0, front-length y + q .1) (p .0, front-length x + p .1))
+      by true = refl
+      by false = refl
+  place-by (suc n) k = rw (eqb·suc-zero n, zero-add)
+
+  pub place-is : {c : Choice} → c ≡ choice b s x y → place-of c p q ≡ better-place b s x y p q
+  unfolding choice better-place better
+  place-is e = rw e (place-by (better-refusal b s x y) (better-number b s x y))
 
 -- ---- Two accepted cards
 
@@ -286,12 +305,12 @@ module _ (b s x y : List ℕ) (ax : all-bytes x ≡ true) (ay : all-bytes y ≡ 
       (c ≡ choice b s x y) × (Better-right b s x y (c .refusal) (part-of c x y) × (c .offset + c .len ≤ length (numbered (c .card) x y)))
   promised e = (e, (choice-right e, choice-fits e))
 
-  pub handed : {c : Choice} {part : List ℕ} → c ≡ choice b s x y → part ≡ part-of c x y →
-      (c .refusal ≡ better-refusal b s x y) × ((part ≡ better-part b s x y) × Better-right b s x y (c .refusal) part)
-  handed e f =
+  pub handed : (p q : ℕ × ℕ) {c : Choice} {part : List ℕ} {place : ℕ × ℕ} → c ≡ choice b s x y → (part ≡ part-of c x y) × (place ≡ place-of c p q) →
+      (c .refusal ≡ better-refusal b s x y) × ((part ≡ better-part b s x y) × ((place ≡ better-place b s x y p q) × Better-right b s x y (c .refusal) part))
+  handed p q e f =
       let n = ap (λ c. c .refusal) e ∙ refusal-is b s x y in
-      let q = f ∙ ap (λ c. part-of c x y) e ∙ part-is in
-      (n, (q, better-right n q))
+      let bytes = f .0 ∙ ap (λ c. part-of c x y) e ∙ part-is in
+      (n, (bytes, (f .1 ∙ place-is b s x y p q e, better-right n bytes)))
 
 -- ---- The ways of a choice, by what the two checks gave
 

@@ -43,11 +43,21 @@ bare w = drop (front-length w) w
 unfoldable pub better-part : (book sheet first second : List ℕ) → List ℕ
 better-part b s x y = cond (eqb (better-refusal b s x y) 0) (bare (better b s x y)) []
 
+-- where that part starts in memory, as block and offset: as far behind the start of the better card as its front text is long; where the
+-- files or a card are refused, at the start of the first card
+unfoldable pub better-place : (book sheet first second : List ℕ) → (first-at second-at : ℕ × ℕ) → ℕ × ℕ
+better-place b s x y p q =
+    cond (eqb (better-refusal b s x y) 0) (cond (eqb (better-number b s x y) 2) (q .0, front-length y + q .1) (p .0, front-length x + p .1)) p
+
 -- ---- The same as numbers
 
 -- the part of two cards that a choice names
 unfoldable pub part-of : Choice → (first second : List ℕ) → List ℕ
 part-of c x y = take (c .len) (drop (c .offset) (numbered (c .card) x y))
+
+-- where it starts, of two cards that start at these places
+unfoldable pub place-of : Choice → (first-at second-at : ℕ × ℕ) → ℕ × ℕ
+place-of c p q = let start = cond (eqb (c .card) 2) q p in (start .0, c .offset + start .1)
 
 -- body and trailer of the card of a number
 unfoldable pub bare-choice : (number : ℕ) → (card : List ℕ) → Choice

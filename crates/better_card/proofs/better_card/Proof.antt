@@ -1,4 +1,5 @@
 -- `better_card::better_card` meets its contract.
+use denote.Ref.{ptr}
 use Rattle.files.proofs.Numbers.{all-bytes-known}
 use Rattle.card_choice.proofs.Choosing.{handed}
 use borrow.Author.Needs.{needs}
@@ -19,7 +20,8 @@ returns : tie.Need-returns
 returns c =
     let at-choose = c .before in
     let at-slices = at-choose .before in
-    handed _ _ _ _ (all-bytes-known _ (at-slices .before .shared-slice-known3 .given)) (all-bytes-known _ (at-slices .shared-slice-known4 .given)) (at-choose .choose .ensures .0) (c .part-of .ensures)
+    let x = at-slices .before .before .before .before .args in
+    handed _ _ _ _ (all-bytes-known _ (at-slices .before .shared-slice-known3 .given)) (all-bytes-known _ (at-slices .shared-slice-known4 .given)) (ptr (x .first)) (ptr (x .second)) (at-choose .choose .ensures .0) (c .part-of .ensures)
 
 pub better-card-spec : {M : Type 1} → statement M
 better-card-spec = tie.close (tie.spec choose-requires part-of-requires returns)

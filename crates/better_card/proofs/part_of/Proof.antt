@@ -1,5 +1,5 @@
 -- `better_card::part_of` meets its contract.
-use denote.Ref.{now}
+use denote.Ref.{now, ptr}
 use native.Mathlib.Omega.{arith}
 use Rattle.better_card.proofs.Parts.{end-fits, second-ends, first-ends, second-part, first-part}
 use borrow.Author.Needs.{needs}
@@ -21,7 +21,7 @@ part-result-end : tie.Need-part-result-end
 part-result-end c = let start = c .before .before .before in second-ends (start .args .chosen) (now (start .args .first)) (now (start .args .second)) (start .pre) (c .if1 .taken)
 
 returns : tie.Need-returns
-returns c = let start = c .before .before .before .before in second-part (start .args .chosen) (now (start .args .first)) (now (start .args .second)) (c .before .if1 .taken)
+returns c = let start = c .before .before .before .before in second-part (start .args .chosen) (now (start .args .first)) (now (start .args .second)) (c .before .if1 .taken) (ptr (start .args .first)) (ptr (start .args .second))
 
 sub-result-2 : tie.Need-sub-result-2
 sub-result-2 c = search needs
@@ -33,7 +33,7 @@ part-result-end-2 : tie.Need-part-result-end-2
 part-result-end-2 c = let start = c .before .before .before in first-ends (start .args .chosen) (now (start .args .first)) (now (start .args .second)) (start .pre) (c .if1 .left)
 
 returns-2 : tie.Need-returns-2
-returns-2 c = let start = c .before .before .before .before in first-part (start .args .chosen) (now (start .args .first)) (now (start .args .second)) (c .before .if1 .left)
+returns-2 c = let start = c .before .before .before .before in first-part (start .args .chosen) (now (start .args .first)) (now (start .args .second)) (c .before .if1 .left) (ptr (start .args .first)) (ptr (start .args .second))
 
 pub part-of-spec : {M : Type 1} → statement M
 part-of-spec =

@@ -23,7 +23,7 @@ returns c =
     let at-part = c .before in
     let at-choose = at-part .before in
     let given = at-choose .choose .ensures in
-    (given .0, (better-listed _ _ _ _ _ (given .0) (given .1 .0) (at-part .part-of .ensures) (c .part-text .ensures), given .1))
+    (given .0, (better-listed _ _ _ _ _ (given .0) (given .1 .0) (at-part .part-of .ensures .0) (c .part-text .ensures), given .1))
 
 pub better-text-spec : {M : Type 1} → statement M
 better-text-spec = tie.close (tie.spec choose-requires part-of-requires part-text-requires returns)
