@@ -1,5 +1,5 @@
 -- The card that a search leaves in 1,060 bytes, and its listing, which is the search's. Assumes nothing.
-use mathlib.Core.Path.{_≡_, refl, sym, _∙_}
+use mathlib.Core.Path.{_≡_, refl, sym, _∙_, subst}
 use mathlib.Core.Bool.{false}
 use mathlib.Core.List.{List, []}
 use Prim.Native.Nat.{ℕ, zero, suc, _≤_}
@@ -12,7 +12,7 @@ use Rattle.files.specs.Sheet.{files-refusal}
 use Rattle.method.specs.Problem.{problem}
 use Rattle.method.specs.Answers.{outcome, slots-after, run-answer}
 use Rattle.card_format.specs.declared.Written.{Written}
-use Rattle.card_format.specs.Filing.{written-size, filing}
+use Rattle.card_format.specs.Filing.{written-size, filing, Filing-right}
 use Rattle.card_format.specs.Format.{card-limit, run-card}
 use Rattle.card_format.specs.Checks.{write-refusal, check-refusal}
 use Rattle.card_format.specs.Truth.{Written-accepted, Written-short}
@@ -22,7 +22,7 @@ use Rattle.listing.proofs.Outcomes.{same-refusal}
 use Rattle.text.specs.Texts.{Holds}
 use Rattle.text.specs.declared.Text.{Text}
 use Rattle.search_listing.specs.Searches.{search-listing}
-use Rattle.card_listing.specs.Cards.{card-listing, search-card}
+use Rattle.card_listing.specs.Cards.{card-listing, search-filing, search-card}
 
 module _ (b s : List ℕ) where
   -- no card is longer than 1,060 bytes
@@ -68,6 +68,10 @@ module _ (b s : List ℕ) where
 
     pub length-fits : len ≤ card-limit
     length-fits = omega (arith, length-is, card-fits (files-refusal b s) refl)
+
+    -- what the writer promises of its reply
+    pub promised : {now : List ℕ} → Filing-right b s w now → Filing-right b s (search-filing b s) now
+    promised {now} h = let f : w ≡ search-filing b s = rw (← refusal-is) e in subst (λ v. Filing-right b s v now) f h
 
     pub filed-listed : {now : List ℕ} {t : Text} → now ≡ slots-after (write-refusal b s (length out)) (run-card b s) out → Holds (card-listing b s (take len now)) t →
         (len ≡ length (search-card b s)) × (Holds (search-listing b s) t × (now ≡ slots-after (files-refusal b s) (run-card b s) out))

@@ -8,12 +8,12 @@ ghost use Rattle.files.specs.Book.{boats};
 ghost use Rattle.files.specs.Sheet.{files-refusal};
 ghost use Rattle.method.specs.Answers.{slots-after};
 ghost use Rattle.method.specs.Promise.{Outcome-right};
-ghost use Rattle.card_format.specs.Filing.{written-size};
+ghost use Rattle.card_format.specs.Filing.{written-size, Filing-right};
 ghost use Rattle.card_format.specs.Checking.{Check-right};
 ghost use Rattle.card_format.specs.Format.{card-shares, run-card};
 ghost use Rattle.text.specs.Texts.{Holds};
 ghost use Rattle.search_listing.specs.Searches.{search-outcome, search-shares, search-listing};
-ghost use Rattle.card_listing.specs.Cards.{card-outcome, card-listing, search-card};
+ghost use Rattle.card_listing.specs.Cards.{card-outcome, card-listing, search-filing, search-card};
 use card_format::Written;
 use text::Text;
 
@@ -57,12 +57,14 @@ pub struct Filing {
 }
 
 // ENTRY. The card of a search, written to the first bytes of `output`, and the listing of the search. Refused files leave the buffer
-// as it was; no card is longer than it. One search is made: its listing is that of the card which it wrote.
+// as it was; no card is longer than it. One search is made: its listing is that of the card which it wrote. The third clause says of the
+// search all that `search` promises of it, the fifth of the card all that `write_card` promises: it reads back, also behind front text.
 pub fn filed_text(book: &[u8], sheet: &[u8], output: &mut [u8; MOST_CARD]) -> Filing
     ensures { λ r. ⌜ r .len ≡ length (search-card (now (book .entry)) (now (sheet .entry))) ⌝ }
     ensures { λ r. ⌜ Holds (search-listing (now (book .entry)) (now (sheet .entry))) (r .text) ⌝ }
     ensures { λ _. ⌜ Outcome-right (now (book .entry)) (now (sheet .entry)) (search-outcome (now (book .entry)) (now (sheet .entry))) (search-shares (now (book .entry)) (now (sheet .entry))) ⌝ }
     ensures { λ _. ⌜ now (output .exit) ≡ slots-after (files-refusal (now (book .entry)) (now (sheet .entry))) (run-card (now (book .entry)) (now (sheet .entry))) (now (output .entry)) ⌝ }
+    ensures { λ _. ⌜ Filing-right (now (book .entry)) (now (sheet .entry)) (search-filing (now (book .entry)) (now (sheet .entry))) (now (output .exit)) ⌝ }
 {
     let len = written_size(card::write_card(book, sheet, output));
     let text = first_text(book, sheet, output, len);

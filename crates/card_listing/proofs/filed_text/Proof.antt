@@ -5,7 +5,7 @@ use native.Mathlib.Omega.{arith}
 use denote.Ref.{now}
 use lib.ListN.{length}
 use Rattle.search_listing.proofs.Searches.{listed-right}
-use Rattle.card_listing.proofs.Filed.{length-fits, filed-listed}
+use Rattle.card_listing.proofs.Filed.{length-fits, promised, filed-listed}
 use borrow.Author.Needs.{needs}
 use Rattle.card_listing.proofs.filed_text.Statement.{statement}
 use Rattle.card_listing.proofs.filed_text.Tie as tie
@@ -27,7 +27,10 @@ returns c =
     let p =
     filed-listed (now (x .book)) (now (x .sheet)) (now (x .output)) (search needs) (at-write .write-card .ensures .0) (c .before .before .before .written-size .ensures)
     (at-write .write-card .ensures .1 .0) (c .first-text .ensures) in
-    (p .0, (p .1 .0, (listed-right _ _, p .1 .1)))
+    let right =
+    promised (now (x .book)) (now (x .sheet)) (now (x .output)) (search needs) (at-write .write-card .ensures .0) (c .before .before .before .written-size .ensures)
+    (at-write .write-card .ensures .1 .1) in
+    (p .0, (p .1 .0, (listed-right _ _, (p .1 .1, right))))
 
 pub filed-text-spec : {M : Type 1} → statement M
 filed-text-spec =
