@@ -603,9 +603,9 @@ fn compare_listing(rng: &mut Random) -> Compared {
     let length = length_near(rng, text.len());
     let whole = rng.bytes(length + 2 * GUARD);
     let (mut wanted, mut given) = (whole.clone(), whole);
-    if text.len() <= length {
-        wanted[GUARD..GUARD + text.len()].copy_from_slice(&text);
-    }
+    // A buffer that is too short is left alone, and 0 bytes are counted.
+    let count = if text.len() <= length { text.len() } else { 0 };
+    wanted[GUARD..GUARD + count].copy_from_slice(&text[..count]);
     let before = (lent("book", &book), lent("sheet", &sheet));
     let size = library_listing(&book, &sheet, &mut given[GUARD..GUARD + length]);
     // The refusal is the only line; the verdict is the third line's first word.
@@ -616,7 +616,7 @@ fn compare_listing(rng: &mut Random) -> Compared {
         lines.lines().nth(2).unwrap().split(' ').next().unwrap().to_string()
     };
     let files = [(before.0, &book[..]), (before.1, &sheet[..])];
-    compared("listing", outcome, &files, (text.len(), wanted), (size, given))
+    compared("listing", outcome, &files, (count, wanted), (size, given))
 }
 
 // ------------------------------------------------------------------ the command

@@ -127,12 +127,12 @@ dofitrano_choice dofitrano_better_card(const uint8_t *book, size_t book_length,
                                        const uint8_t *first, size_t first_length,
                                        const uint8_t *second, size_t second_length);
 
-/* A listing has at most so many bytes. */
+/* A listing has at least one and at most so many bytes: a buffer of this length is never too short. */
 #define DOFITRANO_LISTING_MOST 4096
 
 /* Makes the search and lists its answer, or the number that refuses the files, as lines of text. Gives back the listing's length
- * in bytes; there is no 0 byte after it. The listing is in the first bytes of `output` where it is that long, and later bytes are
- * as they were. A shorter buffer is left as it was. */
+ * in bytes, which are the first of `output`; there is no 0 byte after it, and later bytes are as they were. A buffer shorter than the
+ * listing is left as it was, and 0 is given back. */
 size_t dofitrano_listing(const uint8_t *book, size_t book_length,
                          const uint8_t *sheet, size_t sheet_length,
                          uint8_t *output, size_t output_length);

@@ -57,6 +57,7 @@ static void search(const uint8_t *the_sheet, size_t length)
 
 static void list(void)
 {
+    /* Long enough for any listing, so that 0, a buffer too short, is never given back. */
     uint8_t text[DOFITRANO_LISTING_MOST];
     size_t length = dofitrano_listing(book, sizeof book, sheet, sizeof sheet, text, sizeof text);
     fwrite(text, 1, length, stdout);

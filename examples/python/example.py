@@ -95,7 +95,7 @@ def check_card(library, book, sheet, card, slots):
 
 
 def listing(library, book, sheet):
-    """The listing of a search as text."""
+    """The listing of a search as text. The buffer is long enough for any, so that 0, one too short, is never given back."""
     output = ctypes.create_string_buffer(LISTING_MOST)
     length = library.dofitrano_listing(book, len(book), sheet, len(sheet), output, LISTING_MOST)
     return output.raw[:length].decode("ascii")

@@ -6,23 +6,44 @@ use Prim.Native.Nat.{ℕ, _≤_, _<_}
 use borrow.Author.Tests.{lt-ltb, le-ltb}
 use lib.Dec.{ltb}
 use lib.ListN.{length, take, drop}
+use native.Mathlib.Omega.{arith}
+use Rattle.method.specs.declared.Searched.{Searched}
+use Rattle.method.specs.declared.Searched.the-variants.{Refused, Answered}
 use Rattle.text.specs.declared.Text.{Text}
+use Rattle.text.specs.Lines.{number-line, pair-line}
 use Rattle.text.specs.Texts.{text-limit, Holds}
-use Rattle.exports.specs.Buffers.{bytes-after}
+use Rattle.listing.specs.Lines.{head-lines, listing-of, outcome-listing}
+use Rattle.search_listing.specs.Searches.{search-outcome, search-shares, search-listing}
+use Rattle.exports.specs.Buffers.{bytes-after, bytes-put}
 
 module _ {l : List ℕ} {t : Text} (h : Holds l t) (old : List ℕ) where
-  -- what a listing's length and the buffer's bytes afterwards must be
-  abbrev pub Lists : (new : List ℕ) → Type 0
-  Lists new = ((t .len ≡ length l) × (t .len ≤ text-limit)) × (new ≡ bytes-after l old)
+  -- what the count and the buffer's bytes afterwards must be
+  abbrev pub Lists : (count : ℕ) → (new : List ℕ) → Type 0
+  Lists n new = (n ≡ bytes-put l old) × (new ≡ bytes-after l old)
 
-  pub left-alone : length old < t .len → Lists old
-  unfolding bytes-after
+  pub most : length l ≤ text-limit
+  most = rw (h .length-is) at (h .fits)
+
+  pub left-alone : length old < t .len → Lists 0 old
+  unfolding bytes-after bytes-put
   left-alone k =
       let e : ltb (length old) (length l) ≡ true = rw (← h .length-is) (lt-ltb (length old) (t .len) k) in
-      ((h .length-is, h .fits), rw e)
+      (rw e, rw e)
 
-  pub put : t .len ≤ length old → {new : List ℕ} → new ≡ take (t .len) (t .bytes) ++ drop (t .len) old → Lists new
-  unfolding bytes-after
+  pub put : t .len ≤ length old → {new : List ℕ} → new ≡ take (t .len) (t .bytes) ++ drop (t .len) old → Lists (t .len) new
+  unfolding bytes-after bytes-put
   put k e =
       let f : ltb (length old) (length l) ≡ false = rw (← h .length-is) (le-ltb (length old) (t .len) k) in
-      ((h .length-is, h .fits), rw (f, ← h .length-is, ← h .bytes-are) e)
+      (rw f (h .length-is), rw (f, ← h .length-is, ← h .bytes-are) e)
+
+-- ---- No listing is empty: its first line starts with a word
+not-empty : (b s : List ℕ) (r : Searched) (slots : List ℕ) → 1 ≤ length (outcome-listing b s r slots)
+unfolding outcome-listing listing-of head-lines number-line pair-line
+not-empty b s (Refused n) slots = omega arith
+not-empty b s (Answered a) slots = omega arith
+
+-- all that is promised of a listing that was to be put into a buffer
+pub listed : (b s : List ℕ) {t : Text} (h : Holds (search-listing b s) t) (old : List ℕ) {n : ℕ} {new : List ℕ} → Lists h old n new → {R : Type 0} → R →
+    ((n ≡ bytes-put (search-listing b s) old) × ((1 ≤ length (search-listing b s)) × (length (search-listing b s) ≤ text-limit))) × ((new ≡ bytes-after (search-listing b s) old) × R)
+unfolding search-listing
+listed b s h old g r = ((g .0, (not-empty b s (search-outcome b s) (search-shares b s), most h old)), (g .1, r))

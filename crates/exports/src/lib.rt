@@ -17,9 +17,9 @@ ghost use Rattle.card_format.specs.Checks.{write-refusal, check-refusal};
 ghost use Rattle.card_format.specs.Filing.{filing, Filing-right};
 ghost use Rattle.card_format.specs.Checking.{Check-right};
 ghost use Rattle.method.specs.Promise.{Outcome-right};
-ghost use Rattle.search_listing.specs.Searches.{search-listing};
+ghost use Rattle.search_listing.specs.Searches.{search-outcome, search-shares, search-listing};
 ghost use Rattle.exported_types.specs.Replies.{reply-of, card-reply-of};
-ghost use Rattle.exports.specs.Buffers.{bytes-after};
+ghost use Rattle.exports.specs.Buffers.{bytes-after, bytes-put};
 ghost use Rattle.cells.specs.Cells.{sheet-values};
 ghost use Rattle.cells.specs.Promise.{Conversion-right};
 ghost use Rattle.scale_sheet.specs.Sheets.{scale-sheet};
@@ -84,17 +84,18 @@ fn put_bytes(from: [u8; text::MOST_BYTES], count: usize, to: &mut [u8])
     }
 }
 
-// ENTRY. The listing of a search for other languages: its length, at most 4,096. The listing is put into the first bytes of
-// `output`, and later bytes are as they were; a buffer shorter than the listing is left as it was.
+// ENTRY. The listing of a search for other languages, put into the first bytes of `output`: how many bytes it has. Later bytes are as
+// they were. A buffer shorter than the listing is left as it was, and 0 is given back. No listing is empty or longer than 4,096 bytes.
 #[no_mangle]
 pub extern "C" fn dofitrano_listing(book: &[u8], sheet: &[u8], output: &mut [u8]) -> usize
-    ensures { λ r. ⌜ (r ≡ length (search-listing (now (book .entry)) (now (sheet .entry)))) × (r ≤ text-limit) ⌝ }
+    ensures { λ r. ⌜ (r ≡ bytes-put (search-listing (now (book .entry)) (now (sheet .entry))) (now (output .entry))) × ((1 ≤ length (search-listing (now (book .entry)) (now (sheet .entry)))) × (length (search-listing (now (book .entry)) (now (sheet .entry))) ≤ text-limit)) ⌝ }
     ensures { λ _. ⌜ now (output .exit) ≡ bytes-after (search-listing (now (book .entry)) (now (sheet .entry))) (now (output .entry)) ⌝ }
+    ensures { λ _. ⌜ Outcome-right (now (book .entry)) (now (sheet .entry)) (search-outcome (now (book .entry)) (now (sheet .entry))) (search-shares (now (book .entry)) (now (sheet .entry))) ⌝ }
 {
     let text = search_listing::search_listing(book, sheet);
     let count = text.len;
     if output.len() < count {
-        return count;
+        return 0;
     }
     let bytes = text.bytes;
     put_bytes(bytes, count, output);

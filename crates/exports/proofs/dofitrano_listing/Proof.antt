@@ -1,5 +1,5 @@
 -- `exports::dofitrano_listing` meets its contract.
-use Rattle.exports.proofs.Putting.{left-alone, put}
+use Rattle.exports.proofs.Putting.{left-alone, put, listed}
 use borrow.Author.Needs.{needs}
 use Rattle.exports.proofs.dofitrano_listing.Statement.{statement}
 use Rattle.exports.proofs.dofitrano_listing.Tie as tie
@@ -8,7 +8,7 @@ search-listing-requires : tie.Need-search-listing-requires
 search-listing-requires c κs = search needs
 
 returns : tie.Need-returns
-returns c = left-alone (c .before .search-listing .ensures .0) _ (c .if1 .taken)
+returns c = let given = c .before .search-listing .ensures in listed _ _ (given .0) _ (left-alone (given .0) _ (c .if1 .taken)) (given .1)
 
 put-bytes-requires : tie.Need-put-bytes-requires
 put-bytes-requires c κs = search needs
@@ -17,7 +17,10 @@ same-length : tie.Need-same-length
 same-length c = search needs
 
 returns-2 : tie.Need-returns-2
-returns-2 c = put (c .before .before .before .before .before .before .search-listing .ensures .0) _ (c .before .before .before .before .before .if1 .left) (c .before .before .put-bytes .ensures)
+returns-2 c =
+    let at-if1 = c .before .before .before .before .before in
+    let given = at-if1 .before .search-listing .ensures in
+    listed _ _ (given .0) _ (put (given .0) _ (at-if1 .if1 .left) (c .before .before .put-bytes .ensures)) (given .1)
 
 pub dofitrano-listing-spec : {M : Type 1} → statement M
 dofitrano-listing-spec =
