@@ -1,9 +1,10 @@
 #!/usr/bin/env python3
-"""Lists the definitions that the contract of each entry rests on, and compares the list with docs/trust.md.
+"""Lists the entries, and the definitions that the contract of each rests on, and compares the lists with the pages.
 
-An entry is a function whose comment starts with ENTRY. A definition counts where the contract or the signature of an entry writes
+An entry is a function that a customer may call with anything; its comment starts with ENTRY. README.md, CONTRIBUTING.md and docs/trust.md
+have the list of entries, docs/trust.md also the definitions. A definition counts where the contract or the signature of an entry writes
 its name, or where a definition that counts does. A name is followed through the `use` lines of its file. Names of the toolchain's
-libraries are listed and not followed. With --write the list is put into the page.
+libraries are listed and not followed. With --write the lists are put into the pages.
 """
 import functools
 import os
@@ -11,8 +12,10 @@ import re
 import sys
 
 ROOT = os.path.dirname(os.path.dirname(os.path.abspath(__file__)))
-PAGE = os.path.join(ROOT, "docs", "trust.md")
 BEGIN = "<!-- made by tests/trust.py --write -->\n"
+# The list of entries on a page stands between these.
+LIST = re.compile(r"(<!-- the entries, by tests/trust.py --write -->\n).*?(<!-- end of the entries -->\n)", re.S)
+LISTED = ("README.md", "CONTRIBUTING.md", "docs/trust.md")
 
 # A signature in specs/, with its depth and its name; and a type in src/.
 DECLARES = re.compile(r"^( *)(?:(?:unfoldable|abbrev|pub) )*(?:(?:record|data) )?([^\s(){}:]+)(?: [^:]*)? :")
@@ -181,16 +184,36 @@ def page():
     return sums + lists + "%d lines in %d files:\n\n" % (lines(rest), len(rest)) + table(rest)
 
 
+def entry_list():
+    """The entries, a line for each crate that has some."""
+    crates = {}
+    for name, source, _ in entries():
+        crates.setdefault(source.path.split("/")[1], []).append("`%s`" % name)
+    return "".join("- `%s`: %s\n" % (crate, ", ".join(names)) for crate, names in crates.items())
+
+
+def made_of(path):
+    """What a page has to be."""
+    text = LIST.sub(lambda found: found[1] + entry_list() + found[2], read(path))
+    return text.partition(BEGIN)[0] + BEGIN + page() if BEGIN in text else text
+
+
 def main(arguments):
-    with open(PAGE, encoding="utf-8") as file:
-        stored = file.read()
-    made = stored.partition(BEGIN)[0] + BEGIN + page()
-    if arguments == ["--write"]:
-        with open(PAGE, "w", encoding="utf-8") as file:
-            file.write(made)
-    elif made != stored:
-        print("docs/trust.md is not what `python3 tests/trust.py --write` makes of it")
+    faults = 0
+    for path in LISTED:
+        made = made_of(path)
+        if not LIST.search(made):
+            print("%s has no list of the entries" % path)
+            faults += 1
+        if arguments == ["--write"]:
+            with open(os.path.join(ROOT, path), "w", encoding="utf-8") as file:
+                file.write(made)
+        elif made != read(path):
+            print("%s is not what `python3 tests/trust.py --write` makes of it" % path)
+            faults += 1
+    if faults:
         return 1
+    print("entries: %d" % len(list(entries())))
     print("the entries rest on: files %s, definitions %s, lines %s" % re.search(r"all of them" + 3 * r" \| (\d+)", made).groups())
     return 0
 

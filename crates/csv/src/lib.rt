@@ -1,6 +1,6 @@
 // CSV text read byte by byte: what each byte says of the fields and lines, and what the bytes of a field say of a number.
 //
-// Entries, which ask nothing of their caller: read_byte, ending, Cell::empty, progress, separator, mark_size.
+// Helpers for other crates that ask nothing of their caller: read_byte, ending, Cell::empty, progress, separator, mark_size.
 // Cell::with_byte has a requirement, which its callers prove.
 ghost use mathlib.Core.Path.{_≡_};
 ghost use Rattle.csv.specs.Tokens.{start-step, plain-step, quoted-step, closing-step, return-step, step, ending, look, first-line-has, separator, mark-size};
@@ -140,7 +140,7 @@ fn return_byte(separator: u8, b: u8) -> Step
     start_byte(separator, b)
 }
 
-// ENTRY. What a byte says, after those before it.
+// What a byte says, after those before it.
 pub fn read_byte(separator: u8, mode: Mode, b: u8) -> Step
     ensures { λ r. ⌜ r ≡ step separator mode b ⌝ }
 {
@@ -153,7 +153,7 @@ pub fn read_byte(separator: u8, mode: Mode, b: u8) -> Step
     }
 }
 
-// ENTRY. What the end of the text says.
+// What the end of the text says.
 pub fn ending(mode: Mode) -> u32
     ensures { λ r. ⌜ r ≡ ending mode ⌝ }
 {
@@ -291,7 +291,7 @@ fn is_negative(negative: bool, b: u8) -> bool
 }
 
 impl Cell {
-    // ENTRY. A field without bytes.
+    // A field without bytes.
     pub fn empty() -> Cell
         ensures { λ r. ⌜ r ≡ no-bytes ⌝ }
     {
@@ -321,7 +321,7 @@ impl Cell {
         }
     }
 
-    // ENTRY. Whether the field is a whole number.
+    // Whether the field is a whole number.
     pub fn is_number(self) -> bool
         ensures { λ r. ⌜ r ≡ is-number self ⌝ }
     {
@@ -336,7 +336,7 @@ impl Cell {
     }
 }
 
-// ENTRY. How many bytes of a word a field has begun with, where it had `n` before this byte; more than the word has where it is another.
+// How many bytes of a word a field has begun with, where it had `n` before this byte; more than the word has where it is another.
 pub fn progress(word: &[u8], n: usize, b: u8) -> usize
     ensures { λ r. ⌜ r ≡ progress (now (word .entry)) n b ⌝ }
 {
@@ -390,7 +390,7 @@ fn first_line_has(csv: &[u8], mark: u8) -> bool
     known == 2
 }
 
-// ENTRY. The separator of a CSV.
+// The separator of a CSV.
 pub fn separator(csv: &[u8]) -> u8
     ensures { λ r. ⌜ r ≡ separator (now (csv .entry)) ⌝ }
 {
@@ -406,7 +406,7 @@ pub fn separator(csv: &[u8]) -> u8
     b','
 }
 
-// ENTRY. How many bytes a byte-order mark takes, 0 where there is none.
+// How many bytes a byte-order mark takes, 0 where there is none.
 pub fn mark_size(csv: &[u8]) -> usize
     ensures { λ r. ⌜ r ≡ mark-size (now (csv .entry)) ⌝ }
 {

@@ -1,6 +1,6 @@
 // The fields of a CSV by place: how many rows it has, what stands in each field, the line of a row.
 //
-// Place::start is an entry, which asks nothing of its caller. Helpers for other crates, whose callers prove what they require: Place::moved,
+// Place::start asks nothing of its caller. Helpers for other crates, whose callers prove what they require: Place::moved,
 // last_place, put_cell, line_of, width.
 ghost use mathlib.Core.Path.{_≡_};
 ghost use Prim.Native.Nat.{_≤_, _<_};
@@ -25,7 +25,7 @@ pub struct Place {
 }
 
 impl Place {
-    // ENTRY. The place of the first token.
+    // The place of the first token.
     pub fn start() -> Place
         ensures { λ r. ⌜ r ≡ start ⌝ }
     {

@@ -49,7 +49,8 @@ fn tell_unopened(path: &[u8]) {
 }
 
 // Reads a file into a buffer. One with more bytes than the buffer fills it. A file that cannot be opened, or whose reading fails on
-// the way, is not there and counts as empty, and standard error says so.
+// the way, is not there and counts as empty, and standard error says so. Left free: which bytes are read, those of the buffer behind the
+// count, and all of them after a read that failed.
 pub fn content_of(path: &[u8], buffer: &mut [u8]) -> Content
     ensures { λ r. ⌜ Counts (r .len) (now (buffer .exit)) ⌝ }
 {

@@ -1,6 +1,6 @@
 // A fleet given as CSV: a line of column names, a line of units or none, a line a boat. Its values, or the first fault with its place.
 //
-// Entries, which ask nothing of their caller: Table::start, read_fleet. Table::after has a requirement, which its callers prove.
+// Helpers for other crates that ask nothing of their caller: Table::start, read_fleet. Table::after has a requirement, which its callers prove.
 ghost use mathlib.Core.Path.{_≡_};
 ghost use Prim.Native.Nat.{_+_, _<_};
 ghost use Rattle.fleet_table.specs.Table.{start, faulty, with-text, number-fault, name-fault, field-fault, limit, units-after, field-ended, end-fault, columns-after, boats-after, word-after, whole-line-ended, line-ended, finished, consumed, after};
@@ -81,7 +81,7 @@ fn word_after(columns: usize) -> usize
 }
 
 impl Table {
-    // ENTRY. Nothing was read.
+    // Nothing was read.
     pub fn start() -> Table
         ensures { λ r. ⌜ r ≡ start ⌝ }
     {

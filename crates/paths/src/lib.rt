@@ -1,6 +1,6 @@
 // Paths of files as text. A path has at most 4,095 bytes: where one would be longer the text is empty, which names no file.
 //
-// Entries, which ask nothing of their caller: path_in, temporary_path.
+// Helpers for other crates that ask nothing of their caller: path_in, temporary_path.
 ghost use mathlib.Core.List.{_++_};
 ghost use Rattle.text.specs.Texts.{Holds};
 ghost use Rattle.paths.specs.Paths.{bounded, path-in, temporary-path};
@@ -25,7 +25,7 @@ fn joined(first: &[u8], second: &[u8], third: &[u8]) -> Text
     two.with_bytes(third)
 }
 
-// ENTRY. The path of a file in a folder. The current folder has no name.
+// The path of a file in a folder. The current folder has no name.
 pub fn path_in(folder: &[u8], name: &[u8]) -> Text
     ensures { λ r. ⌜ Holds (path-in (now (folder .entry)) (now (name .entry))) r ⌝ }
 {
@@ -35,7 +35,7 @@ pub fn path_in(folder: &[u8], name: &[u8]) -> Text
     joined(folder, b"/", name)
 }
 
-// ENTRY. The path of the new file by which another is replaced, with X for each letter that the system chooses.
+// The path of the new file by which another is replaced, with X for each letter that the system chooses.
 pub fn temporary_path(path: &[u8]) -> Text
     ensures { λ r. ⌜ Holds (temporary-path (now (path .entry))) r ⌝ }
 {

@@ -1,6 +1,6 @@
 // The number that refuses a fleet book or a sheet, or 0. docs/formats.md has the numbers.
 //
-// Entries, which ask nothing of their caller: book_refusal, sheet_refusal_in, sheet_refusal, files_refusal.
+// Helpers for other crates that ask nothing of their caller: book_refusal, sheet_refusal_in, sheet_refusal, files_refusal.
 ghost use mathlib.Core.Path.{_≡_};
 ghost use mathlib.Core.Bool.{_||_};
 ghost use Prim.Native.Nat.{_≤_};
