@@ -653,8 +653,8 @@ fn one_case(rng: &mut Random) -> Compared {
         2 | 3 => compare_write_card(rng),
         4..=6 => compare_check_card(rng),
         7 => compare_listing(rng),
-        8 => cells::compare_values(rng),
-        9 => cells::compare_sheet(rng),
+        8 => scale_cells::compare_values(rng),
+        9 => scale_cells::compare_sheet(rng),
         _ => pairs::compare_better_card(rng),
     }
 }

@@ -12,8 +12,8 @@ use Rattle.files.specs.Bytes.{number}
 use Rattle.method.specs.declared.Answer.{Answer}
 use Rattle.card_format.specs.Format.{card-fields}
 use Rattle.card_input.proofs.Reading.{back-at}
-use Rattle.card_choice.specs.declared.Choice.{Choice}
-use Rattle.card_choice.specs.Choices.{nearer, numbered, bare-choice, part-of, place-of}
+use Rattle.better_card_promise.specs.declared.Choice.{Choice}
+use Rattle.better_card_promise.specs.Choices.{nearer, numbered, bare-choice, part-of, place-of}
 
 -- the square of a number of 32 bits fits 64
 square-fits : (w : ℕ) → w < 2 ^ 32 → w * w < 2 ^ 64

@@ -8,9 +8,9 @@ ghost use lib.ListN.{length};
 ghost use Rattle.method.specs.Answers.{outcome};
 ghost use Rattle.card_format.specs.Format.{card-fields, card-answer};
 ghost use Rattle.card_format.specs.Checks.{check-refusal};
-ghost use Rattle.card_choice.specs.Choices.{better-refusal, nearer, numbered, better-part, better-place, part-of, place-of, bare-choice, no-choice, choice};
-ghost use Rattle.card_choice.specs.Promise.{Better-right};
-use card_choice::Choice;
+ghost use Rattle.better_card_promise.specs.Choices.{better-refusal, nearer, numbered, better-part, better-place, part-of, place-of, bare-choice, no-choice, choice};
+ghost use Rattle.better_card_promise.specs.Promise.{Better-right};
+use better_card_promise::Choice;
 use method::Answer;
 use method::Searched;
 
@@ -28,7 +28,7 @@ fn nearer(a: Answer, b: Answer) -> bool
 {
     let v = a.weight as u64;
     let w = b.weight as u64;
-    wide::product_below(a.distance, w * w, b.distance, v * v)
+    wide_products::product_below(a.distance, w * w, b.distance, v * v)
 }
 
 // A refusal by `n`: no bytes of the first card.

@@ -12,10 +12,10 @@ use Rattle.listing.proofs.Outcomes.{same-refusal}
 use Rattle.text.specs.Texts.{Holds}
 use Rattle.text.specs.declared.Text.{Text}
 use Rattle.card_listing.specs.Cards.{card-listing}
-use Rattle.card_choice.specs.declared.Choice.{Choice}
-use Rattle.card_choice.specs.Choices.{better-refusal, choice, part-of}
-use Rattle.card_choice.specs.Promise.{Better-right}
-use Rattle.card_choice.proofs.Choosing.{accepted, refusal-is}
+use Rattle.better_card_promise.specs.declared.Choice.{Choice}
+use Rattle.better_card_promise.specs.Choices.{better-refusal, choice, part-of}
+use Rattle.better_card_promise.specs.Promise.{Better-right}
+use Rattle.better_card_promise.proofs.Choosing.{accepted, refusal-is}
 use Rattle.better_listing.specs.Listings.{better-listing, part-listing}
 
 module _ (b s w slots : List ℕ) {n : ℕ} {t : Text} where

@@ -8,7 +8,7 @@ use Rattle.method.specs.Answers.{outcome}
 use Rattle.card_format.specs.Format.{card-shares, card-answer}
 use Rattle.listing.specs.Lines.{refused-line, outcome-listing}
 use Rattle.card_listing.specs.Cards.{card-listing}
-use Rattle.card_choice.specs.Choices.{better-refusal, better}
+use Rattle.better_card_promise.specs.Choices.{better-refusal, better}
 
 -- of the better card's answer and shares, or of the number that refuses the files or a card
 unfoldable pub better-listing : (book sheet first second : List ℕ) → List ℕ

@@ -5,10 +5,10 @@ ghost use mathlib.Core.Path.{_≡_};
 ghost use Prim.Native.Nat.{_+_, _≤_};
 ghost use lib.ListN.{length};
 ghost use Rattle.text.specs.Texts.{Holds};
-ghost use Rattle.card_choice.specs.Choices.{numbered, part-of, choice};
-ghost use Rattle.card_choice.specs.Promise.{Better-right};
+ghost use Rattle.better_card_promise.specs.Choices.{numbered, part-of, choice};
+ghost use Rattle.better_card_promise.specs.Promise.{Better-right};
 ghost use Rattle.better_listing.specs.Listings.{part-listing, better-listing};
-use card_choice::Choice;
+use better_card_promise::Choice;
 use method::Searched;
 use text::Text;
 

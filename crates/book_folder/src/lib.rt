@@ -14,13 +14,13 @@ pub fn file_book(folder: &[u8]) {
     let mut output = [0u8; 40000];
     let made = csv_book::csv_book(&csv[..n], &mut output);
     if made.fault != 0 {
-        file_io::tell_text(fault_text::fleet_fault(&csv[..n], made));
+        file_io::tell_text(csv_book_text::fleet_fault(&csv[..n], made));
         return;
     }
     let path = paths::path_in(folder, b"fleet.wbk");
     let bytes = path.bytes;
     let name = file_io::first_bytes(&bytes, path.len);
     if file_io::replace_or_tell(name, file_io::first_bytes(&output, made.len)) {
-        file_io::print(fault_text::book_lines(made));
+        file_io::print(csv_book_text::book_lines(made));
     }
 }

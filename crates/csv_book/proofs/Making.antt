@@ -18,19 +18,19 @@ use Rattle.sheet_output.proofs.Values.{length-values-bytes}
 use Rattle.buffers.proofs.Writing.{front-taken}
 use Rattle.book_output.specs.Output.{book-trailer}
 use Rattle.book_output.proofs.Back.{book-trailer-length}
-use Rattle.fleet_table.specs.declared.Table.{Table}
-use Rattle.fleet_reader.specs.Fleet.{fleet-values, last-table, last-line}
-use Rattle.fleet_rows.specs.Rows.{fleet-rows, Whole, Faultless-whole}
-use Rattle.fleet_rows.proofs.Counting.{faultless-whole}
-use Rattle.fleet_rows.specs.Texts.{Values-said}
-use Rattle.fleet_rows.proofs.Texts.{values-said}
-use Rattle.csv_round_trip.specs.Writing.{Fleet, fleet-csv}
-use Rattle.csv_round_trip.specs.Back.{Fleet-fits, Read-back, Fleet-reads-back}
-use Rattle.csv_round_trip.proofs.Back.{fleet-reads-back}
-use Rattle.fleet_rows.proofs.Rows as fleet
-use Rattle.csv_front.specs.declared.Written.{Written}
-use Rattle.csv_front.specs.Front.{front-text, file-front, with-front, written-of}
-use Rattle.csv_front.proofs.Fronts.{file-front-short}
+use Rattle.csv_fleet_tokens.specs.declared.Table.{Table}
+use Rattle.csv_fleet_reader.specs.Fleet.{fleet-values, last-table, last-line}
+use Rattle.csv_fleet_rows.specs.Rows.{fleet-rows, Whole, Faultless-whole}
+use Rattle.csv_fleet_rows.proofs.Counting.{faultless-whole}
+use Rattle.csv_fleet_rows.specs.Texts.{Values-said}
+use Rattle.csv_fleet_rows.proofs.Texts.{values-said}
+use Rattle.csv_fleet_round_trip.specs.Writing.{Fleet, fleet-csv}
+use Rattle.csv_fleet_round_trip.specs.Back.{Fleet-fits, Read-back, Fleet-reads-back}
+use Rattle.csv_fleet_round_trip.proofs.Back.{fleet-reads-back}
+use Rattle.csv_fleet_rows.proofs.Rows as fleet
+use Rattle.csv_front_text.specs.declared.Written.{Written}
+use Rattle.csv_front_text.specs.Front.{front-text, file-front, with-front, written-of}
+use Rattle.csv_front_text.proofs.Fronts.{file-front-short}
 use Rattle.csv_book.specs.declared.Made.{Made}
 use Rattle.csv_book.specs.Books.{bare-book, csv-book, nothing-made, made-by, book-made, output-by}
 use Rattle.csv_book.specs.Promise.{Book-accepted, Book-right-by, Book-right}

@@ -6,10 +6,10 @@ use lib.Dec.{ltb}
 use lib.ListN.{length}
 use Rattle.buffers.specs.Placed.{placed}
 use Rattle.book_output.specs.Output.{book-bytes}
-use Rattle.fleet_reader.specs.Fleet.{last-table, last-line}
-use Rattle.fleet_rows.specs.Rows.{fleet-rows}
-use Rattle.csv_front.specs.declared.Front.the-variants.{Nothing}
-use Rattle.csv_front.specs.Front.{file-front, with-front}
+use Rattle.csv_fleet_reader.specs.Fleet.{last-table, last-line}
+use Rattle.csv_fleet_rows.specs.Rows.{fleet-rows}
+use Rattle.csv_front_text.specs.declared.Front.the-variants.{Nothing}
+use Rattle.csv_front_text.specs.Front.{file-front, with-front}
 use Rattle.csv_book.specs.declared.Made.{Made}
 use Rattle.files.specs.Limits.{file-limit}
 

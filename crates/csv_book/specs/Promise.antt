@@ -5,11 +5,11 @@ use Prim.Native.Nat.{ℕ, zero, suc, _≤_}
 use lib.ListN.{length}
 use Rattle.files.specs.Book.{boats, columns, rows, book-refusal}
 use Rattle.files.specs.Limits.{file-limit}
-use Rattle.fleet_reader.specs.Fleet.{fleet-values}
-use Rattle.fleet_rows.specs.Rows.{fleet-rows}
-use Rattle.fleet_rows.specs.Texts.{fleet-texts, Each-says}
-use Rattle.csv_round_trip.specs.Writing.{Boat, Fleet, fleet-csv}
-use Rattle.csv_round_trip.specs.Back.{Fleet-fits}
+use Rattle.csv_fleet_reader.specs.Fleet.{fleet-values}
+use Rattle.csv_fleet_rows.specs.Rows.{fleet-rows}
+use Rattle.csv_fleet_rows.specs.Texts.{fleet-texts, Each-says}
+use Rattle.csv_fleet_round_trip.specs.Writing.{Boat, Fleet, fleet-csv}
+use Rattle.csv_fleet_round_trip.specs.Back.{Fleet-fits}
 use Rattle.csv_book.specs.declared.Made.{Made}
 
 -- b is a fleet book that is not refused, its rows are exactly those of the CSV, and each of their values is the number that the figures of its field say

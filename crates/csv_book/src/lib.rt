@@ -5,9 +5,9 @@ ghost use mathlib.Core.Path.{_≡_};
 ghost use lib.ListN.{length, take};
 ghost use Rattle.csv_book.specs.Books.{nothing-made, book-made, output-by};
 ghost use Rattle.csv_book.specs.Promise.{Book-right};
-use csv_front::Front;
+use csv_front_text::Front;
 
-// What is wrong, besides what fleet_table and csv name: more than 200,000 bytes of CSV, a buffer of fewer than 40,000 bytes.
+// What is wrong, besides what csv_fleet_tokens and csv name: more than 200,000 bytes of CSV, a buffer of fewer than 40,000 bytes.
 pub const BIG: u32 = 10;
 
 pub const ROOM: u32 = 11;
@@ -52,7 +52,7 @@ pub fn csv_book(csv: &[u8], output: &mut [u8]) -> Made
         return nothing(BIG, 0, 0, 0, 0);
     }
     let mut book = [0u8; 32780];
-    let fleet = fleet_reader::read_fleet(csv, &mut book);
+    let fleet = csv_fleet_reader::read_fleet(csv, &mut book);
     let table = fleet.table;
     if table.fault != 0 {
         return nothing(
@@ -66,7 +66,7 @@ pub fn csv_book(csv: &[u8], output: &mut [u8]) -> Made
     let body = 2 * fleet.values;
     book_output::put_book_trailer(&mut book, body, table.boats, table.columns);
     let len = body + 12;
-    let written = csv_front::put_with_front(csv, output, &book[..len]);
+    let written = csv_front_text::put_with_front(csv, output, &book[..len]);
     let front = written.front;
     Made {
         fault: 0,

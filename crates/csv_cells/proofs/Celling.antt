@@ -14,7 +14,7 @@ use Rattle.csv.specs.declared.Mode.{Mode}
 use Rattle.csv.specs.declared.Mode.the-variants.{Start, Plain, Quoted, Closing, Return}
 use Rattle.csv.specs.declared.Step.{Step}
 use Rattle.csv.specs.Tokens.{step, ending, tokens, separator, mark-size, csv-tokens}
-use Rattle.fleet_reader.proofs.Reading.{next-tokens, last-token}
+use Rattle.csv_fleet_reader.proofs.Reading.{next-tokens, last-token}
 use Rattle.csv_fields.specs.Fields.{byte-if}
 use Rattle.csv_fields.proofs.Fielding.{both, few-one}
 use Rattle.csv_cells.specs.declared.Place.{Place}

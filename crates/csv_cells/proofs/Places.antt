@@ -8,7 +8,7 @@ use Rattle.csv.specs.declared.Mode.{Mode}
 use Rattle.csv.specs.declared.Mode.the-variants.{Start}
 use Rattle.csv.specs.declared.Step.{Step}
 use Rattle.csv.specs.Tokens.{step, ending, tokens, separator, mark-size, csv-tokens}
-use Rattle.fleet_reader.proofs.Reading.{mark-inside, next-tokens, last-token}
+use Rattle.csv_fleet_reader.proofs.Reading.{mark-inside, next-tokens, last-token}
 use Rattle.csv_cells.specs.declared.Place.{Place}
 use Rattle.csv_cells.specs.Cells.{start, moved, place-from, last-place, line-at, line-from, line-of}
 use Rattle.csv_cells.proofs.Steps.{moved-near}

@@ -11,7 +11,7 @@ use Rattle.csv.specs.declared.Mode.{Mode}
 use Rattle.csv.specs.declared.Mode.the-variants.{Start}
 use Rattle.csv.specs.declared.Step.{Step}
 use Rattle.csv.specs.Tokens.{step, tokens, separator, mark-size, csv-tokens}
-use Rattle.fleet_reader.proofs.Reading.{next-tokens}
+use Rattle.csv_fleet_reader.proofs.Reading.{next-tokens}
 use Rattle.csv_fields.specs.Fields.{byte-if}
 use Rattle.csv_fields.proofs.Fielding.{both}
 use Rattle.csv_cells.specs.declared.Place.{Place}

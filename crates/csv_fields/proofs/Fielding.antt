@@ -14,10 +14,10 @@ use Rattle.csv.specs.declared.Mode.{Mode}
 use Rattle.csv.specs.declared.Mode.the-variants.{Start, Plain, Quoted, Closing, Return}
 use Rattle.csv.specs.declared.Step.{Step}
 use Rattle.csv.specs.Tokens.{step, ending, tokens, separator, mark-size, csv-tokens}
-use Rattle.fleet_table.specs.declared.Table.{Table}
-use Rattle.fleet_table.specs.Table.{start, after}
-use Rattle.fleet_reader.specs.Fleet.{next-number}
-use Rattle.fleet_reader.proofs.Reading.{after-slow, mark-inside, next-tokens, last-token}
+use Rattle.csv_fleet_tokens.specs.declared.Table.{Table}
+use Rattle.csv_fleet_tokens.specs.Table.{start, after}
+use Rattle.csv_fleet_reader.specs.Fleet.{next-number}
+use Rattle.csv_fleet_reader.proofs.Reading.{after-slow, mark-inside, next-tokens, last-token}
 use Rattle.csv_fields.specs.Fields.{is-at, byte-if, field-byte, field-from, field-text}
 
 -- ---- whether a token is a byte of the field

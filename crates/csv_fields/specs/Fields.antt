@@ -5,9 +5,9 @@ use Prim.Native.Nat.{ℕ, _+_}
 use lib.Dec.{ltb, eqb}
 use lib.ListN.{length}
 use Rattle.csv.specs.Tokens.{csv-tokens}
-use Rattle.fleet_table.specs.declared.Table.{Table}
-use Rattle.fleet_table.specs.Table.{start, after}
-use Rattle.fleet_reader.specs.Fleet.{next-number}
+use Rattle.csv_fleet_tokens.specs.declared.Table.{Table}
+use Rattle.csv_fleet_tokens.specs.Table.{start, after}
+use Rattle.csv_fleet_reader.specs.Fleet.{next-number}
 
 -- whether a token is a byte of field f of line l, where it stands in line n and the table is t. Line 0 is the line of the column names
 unfoldable pub is-at : (l f n : ℕ) → Table → (k : ℕ) → Bool

@@ -5,11 +5,11 @@ ghost use mathlib.Core.Path.{_≡_};
 ghost use mathlib.Core.Bool.{true};
 ghost use Prim.Native.Nat.{_+_, _≤_, _<_};
 ghost use lib.ListN.{length};
-ghost use Rattle.fleet_table.specs.Table.{after};
+ghost use Rattle.csv_fleet_tokens.specs.Table.{after};
 ghost use Rattle.buffers.specs.Placed.{placed};
 ghost use Rattle.csv_fields.specs.Fields.{is-at, byte-if, field-text};
 use csv::Mode;
-use fleet_table::Table;
+use csv_fleet_tokens::Table;
 
 // Whether a token is a byte of a field: `line` and `field` say which, `at` is the token's line, and `fault` what the table has after it.
 fn is_at(line: usize, field: usize, at: usize, table: Table, token: u32, fault: u32) -> bool
@@ -67,7 +67,7 @@ pub fn put_field(csv: &[u8], line: usize, field: usize, output: &mut [u8]) -> us
         let next = table.after(token);
         let there = is_at(line, field, at, table, token, next.fault);
         n = put_byte(output, n, there, token);
-        at = fleet_reader::next_number(at, next.fault, token);
+        at = csv_fleet_reader::next_number(at, next.fault, token);
         table = next;
         mode = step.mode;
         i += 1;

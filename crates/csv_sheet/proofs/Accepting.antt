@@ -21,17 +21,17 @@ use Rattle.sheet_output.specs.Front.{Same-with-front, Sheet-takes-front}
 use Rattle.sheet_output.proofs.Back.{edition-reads-back}
 use Rattle.sheet_output.proofs.Front.{sheet-takes-front}
 use Rattle.buffers.proofs.Writing.{front-taken}
-use Rattle.fleet_table.specs.declared.Table.{Table}
-use Rattle.fleet_reader.specs.Fleet.{last-table}
-use Rattle.csv_front.specs.declared.Front.the-variants.{Nothing}
+use Rattle.csv_fleet_tokens.specs.declared.Table.{Table}
+use Rattle.csv_fleet_reader.specs.Fleet.{last-table}
+use Rattle.csv_front_text.specs.declared.Front.the-variants.{Nothing}
 use Rattle.csv_book.specs.declared.Made as book
 use Rattle.csv_book.specs.Books.{csv-book}
 use Rattle.csv_book.proofs.Making.{book-accepted}
-use Rattle.sheet_rows.specs.declared.Finding.{Finding}
-use Rattle.sheet_rows.specs.Rows.{sheet-names, rows-fault}
-use Rattle.sheet_rows.proofs.Soundness.{sound}
-use Rattle.column_match.specs.declared.Mismatch.{Mismatch}
-use Rattle.column_match.specs.Match.{mismatch}
+use Rattle.csv_sheet_rows.specs.declared.Finding.{Finding}
+use Rattle.csv_sheet_rows.specs.Rows.{sheet-names, rows-fault}
+use Rattle.csv_sheet_rows.proofs.Soundness.{sound}
+use Rattle.csv_column_match.specs.declared.Mismatch.{Mismatch}
+use Rattle.csv_column_match.specs.Match.{mismatch}
 use Rattle.csv_sheet.specs.declared.Made.{Made}
 use Rattle.csv_sheet.specs.Sheets.{cell-at, row-for, value-at, target-of, factor-at, places, has-factors, factors-of, steps-of, tolerance-for, tolerance-of, asked-at, asked, sheet-at, nothing-made, total-fault, made-by, made-of-columns, made-of-rows, made-for-fleet, sheet-made, output-at, output-by}
 use Rattle.csv_sheet.specs.Ready.{Ready}

@@ -12,11 +12,11 @@ use Rattle.frank_wolfe.specs.Vectors.{ones}
 use Rattle.files.specs.Bytes.{in-range, all-in-range}
 use Rattle.files.specs.Limits.{step-limit}
 use Rattle.csv.specs.declared.Cell.{Cell}
-use Rattle.fleet_rows.proofs.Counting.{signed-in}
-use Rattle.sheet_rows.specs.Kinds.{kind-at}
-use Rattle.sheet_rows.specs.Rows.{rows-fault}
-use Rattle.sheet_rows.specs.Sound.{Sound}
-use Rattle.sheet_rows.proofs.Soundness.{sound}
+use Rattle.csv_fleet_rows.proofs.Counting.{signed-in}
+use Rattle.csv_sheet_rows.specs.Kinds.{kind-at}
+use Rattle.csv_sheet_rows.specs.Rows.{rows-fault}
+use Rattle.csv_sheet_rows.specs.Sound.{Sound}
+use Rattle.csv_sheet_rows.proofs.Soundness.{sound}
 use Rattle.csv_sheet.specs.Sheets.{cell-at, row-for, value-at, target-of, has-factors, factor-at, factors-of, steps-of, tolerance-by, tolerance-for}
 use Rattle.csv_sheet.specs.Ready.{Ready}
 

@@ -10,15 +10,15 @@ use Rattle.frank_wolfe.specs.Vectors.{sum}
 use Rattle.files.specs.Bytes.{between}
 use Rattle.buffers.specs.Placed.{placed}
 use Rattle.buffers.proofs.Writing.{front-taken}
-use Rattle.fleet_reader.specs.Fleet.{last-table}
-use Rattle.fleet_rows.specs.Rows.{Whole, Faultless-whole}
-use Rattle.fleet_rows.proofs.Counting.{faultless-whole}
-use Rattle.sheet_rows.specs.Rows.{sheet-names, rows-fault}
-use Rattle.column_match.specs.declared.Mismatch.{Mismatch}
-use Rattle.column_match.specs.Match.{position, positions, mismatch}
-use Rattle.column_match.specs.Matched.{Matched, Without-mismatch-matched}
-use Rattle.column_match.proofs.Positions.{positions-long, position-at}
-use Rattle.column_match.proofs.Matching.{without-mismatch-matched}
+use Rattle.csv_fleet_reader.specs.Fleet.{last-table}
+use Rattle.csv_fleet_rows.specs.Rows.{Whole, Faultless-whole}
+use Rattle.csv_fleet_rows.proofs.Counting.{faultless-whole}
+use Rattle.csv_sheet_rows.specs.Rows.{sheet-names, rows-fault}
+use Rattle.csv_column_match.specs.declared.Mismatch.{Mismatch}
+use Rattle.csv_column_match.specs.Match.{position, positions, mismatch}
+use Rattle.csv_column_match.specs.Matched.{Matched, Without-mismatch-matched}
+use Rattle.csv_column_match.proofs.Positions.{positions-long, position-at}
+use Rattle.csv_column_match.proofs.Matching.{without-mismatch-matched}
 use Rattle.csv_sheet.specs.declared.Made.{Made}
 use Rattle.csv_sheet.specs.Sheets.{places, factors-of, steps-of, tolerance-for, sheet-at, nothing-made, total-fault, made-by, made-at, made-of-columns, output-at, output-by}
 use Rattle.csv_sheet.specs.Ready.{Ready}

@@ -10,9 +10,9 @@ use Rattle.files.specs.Sheet.{Sheet, sheet, sheet-refusal, files-refusal}
 use Rattle.csv_numbers.specs.Numbers.{Says-value}
 use Rattle.csv_book.specs.Books.{csv-book}
 use Rattle.csv_cells.specs.Cells.{cell-text}
-use Rattle.sheet_rows.specs.Kinds.{kind-at}
-use Rattle.sheet_rows.specs.Rows.{sheet-names}
-use Rattle.column_match.specs.Matched.{Matched}
+use Rattle.csv_sheet_rows.specs.Kinds.{kind-at}
+use Rattle.csv_sheet_rows.specs.Rows.{sheet-names}
+use Rattle.csv_column_match.specs.Matched.{Matched}
 use Rattle.csv_sheet.specs.Sheets.{row-for, places, tolerance-by, asked}
 use Rattle.csv_sheet.specs.declared.Made.{Made}
 

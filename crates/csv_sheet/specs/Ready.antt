@@ -3,7 +3,7 @@ use mathlib.Core.Path.{_≡_}
 use mathlib.Core.List.{List}
 use Prim.Native.Nat.{ℕ, _≤_, _<_}
 use lib.ListN.{length, getD}
-use Rattle.sheet_rows.specs.Rows.{sheet-names, rows-fault}
+use Rattle.csv_sheet_rows.specs.Rows.{sheet-names, rows-fault}
 
 pub record Ready (ps csv : List ℕ) : Type 0 where
   pub short : length csv ≤ 39000

@@ -13,11 +13,11 @@ use Rattle.csv.specs.Cells.{signed, read}
 use Rattle.csv.specs.declared.Cell.{Cell}
 use Rattle.buffers.specs.Placed.{placed}
 use Rattle.sheet_output.specs.Output.{edition-bytes}
-use Rattle.fleet_reader.specs.Fleet.{last-table}
+use Rattle.csv_fleet_reader.specs.Fleet.{last-table}
 use Rattle.csv_cells.specs.Cells.{cell-text}
-use Rattle.sheet_rows.specs.Kinds.{kind-at, row-of}
-use Rattle.sheet_rows.specs.Rows.{sheet-names, last-row, rows-fault}
-use Rattle.column_match.specs.Match.{positions, mismatch}
+use Rattle.csv_sheet_rows.specs.Kinds.{kind-at, row-of}
+use Rattle.csv_sheet_rows.specs.Rows.{sheet-names, last-row, rows-fault}
+use Rattle.csv_column_match.specs.Match.{positions, mismatch}
 use Rattle.csv_sheet.specs.declared.Made.{Made}
 
 -- ---- what the CSVs ask for

@@ -7,15 +7,15 @@ ghost use lib.ListN.{length, take};
 ghost use Rattle.files.specs.Limits.{file-limit};
 ghost use Rattle.buffers.specs.Placed.{placed};
 ghost use Rattle.sheet_output.specs.Output.{values-bytes, edition-bytes};
-ghost use Rattle.fleet_reader.specs.Fleet.{last-table};
-ghost use Rattle.sheet_rows.specs.Rows.{rows-fault};
+ghost use Rattle.csv_fleet_reader.specs.Fleet.{last-table};
+ghost use Rattle.csv_sheet_rows.specs.Rows.{rows-fault};
 ghost use Rattle.csv_sheet.specs.Sheets.{row-for, target-of, has-factors, factor-at, factors-of, steps-of, tolerance-for, tolerance-of, sheet-of, sheet-at, nothing-made, made-at, made-of-columns, sheet-made, output-at, output-by};
 ghost use Rattle.csv_sheet.specs.Ready.{Ready};
 ghost use Rattle.csv_sheet.specs.Promise.{Sheet-right};
 use buffers::put;
-use fleet_table::Table;
+use csv_fleet_tokens::Table;
 
-// What is wrong, besides what sheet_rows, csv_cells and column_match name: more than 39,000 bytes of CSV, a buffer of fewer than 40,000
+// What is wrong, besides what csv_sheet_rows, csv_cells and csv_column_match name: more than 39,000 bytes of CSV, a buffer of fewer than 40,000
 // bytes, a fleet's CSV with a fault, factors that do not total 1 to 64, a tolerance above 1,024,000,000.
 pub const BIG: u32 = 10;
 
@@ -63,7 +63,7 @@ fn fleet_table(fleet: &[u8]) -> Table
     ensures { λ r. ⌜ r ≡ last-table (now (fleet .entry)) ⌝ }
 {
     let mut rows = [0u8; 32768];
-    let read = fleet_reader::read_fleet(fleet, &mut rows);
+    let read = csv_fleet_reader::read_fleet(fleet, &mut rows);
     let table = read.table;
     table
 }
@@ -73,8 +73,8 @@ fn row_for(csv: &[u8], kind: u32) -> usize
     requires { ⌜ length (now csv) ≤ 200000 ⌝ }
     ensures { λ r. ⌜ r ≡ row-for kind (now (csv .entry)) ⌝ }
 {
-    let last = sheet_rows::last_row(csv);
-    sheet_rows::row_of(csv, kind, last)
+    let last = csv_sheet_rows::last_row(csv);
+    csv_sheet_rows::row_of(csv, kind, last)
 }
 
 // Puts the hull's values at these places, 2 bytes each, from the first byte on.
@@ -83,15 +83,15 @@ fn put_target(csv: &[u8], places: &[u8], output: &mut [u8])
     requires { ⌜ 2 * length (now places) ≤ length (now output) ⌝ }
     ensures { λ _. ⌜ now (output .exit) ≡ placed (now (output .entry)) 0 (values-bytes (target-of (now (places .entry)) (now (csv .entry)))) ⌝ }
 {
-    let row = row_for(csv, sheet_rows::HULL);
+    let row = row_for(csv, csv_sheet_rows::HULL);
     let mut i = 0;
     while i < places.len() {
-        let cell = sheet_rows::cell_at(csv, row, places[i] as usize);
+        let cell = csv_sheet_rows::cell_at(csv, row, places[i] as usize);
         put(
             output,
             2 * i,
             2,
-            fleet_reader::value_bits(cell.negative, cell.magnitude),
+            csv_fleet_reader::value_bits(cell.negative, cell.magnitude),
         );
         i += 1;
     }
@@ -105,7 +105,7 @@ fn factor_at(csv: &[u8], row: usize, field: usize) -> u32
     if row == 0 {
         return 1;
     }
-    let cell = sheet_rows::cell_at(csv, row, field);
+    let cell = csv_sheet_rows::cell_at(csv, row, field);
     cell.magnitude
 }
 
@@ -115,7 +115,7 @@ fn put_factors(csv: &[u8], places: &[u8], output: &mut [u8])
     requires { ⌜ length (now places) ≤ length (now output) ⌝ }
     ensures { λ _. ⌜ now (output .exit) ≡ placed (now (output .entry)) 0 (factors-of (now (places .entry)) (now (csv .entry))) ⌝ }
 {
-    let row = row_for(csv, sheet_rows::FACTORS);
+    let row = row_for(csv, csv_sheet_rows::FACTORS);
     let mut i = 0;
     while i < places.len() {
         output[i] = factor_at(csv, row, places[i] as usize) as u8;
@@ -127,7 +127,7 @@ fn steps_of(csv: &[u8]) -> u32
     requires { ⌜ length (now csv) ≤ 200000 ⌝ }
     ensures { λ r. ⌜ r ≡ steps-of (now (csv .entry)) ⌝ }
 {
-    let cell = sheet_rows::cell_at(csv, row_for(csv, sheet_rows::STEPS), 1);
+    let cell = csv_sheet_rows::cell_at(csv, row_for(csv, csv_sheet_rows::STEPS), 1);
     cell.magnitude
 }
 
@@ -138,10 +138,10 @@ fn tolerance_for(csv: &[u8], total: usize) -> u64
     requires { ⌜ total ≤ 64 ⌝ }
     ensures { λ r. ⌜ r ≡ tolerance-for total (now (csv .entry)) ⌝ }
 {
-    let row = row_for(csv, sheet_rows::TOLERANCE);
-    let cell = sheet_rows::cell_at(csv, row, 1);
+    let row = row_for(csv, csv_sheet_rows::TOLERANCE);
+    let cell = csv_sheet_rows::cell_at(csv, row, 1);
     let number = cell.magnitude as u64;
-    if sheet_rows::kind_at(csv, row) == sheet_rows::EACH {
+    if csv_sheet_rows::kind_at(csv, row) == csv_sheet_rows::EACH {
         return number * number * total as u64;
     }
     number
@@ -165,7 +165,7 @@ fn put_sheet(
 {
     let columns = places.len();
     put_target(csv, places, output);
-    if row_for(csv, sheet_rows::FACTORS) == 0 {
+    if row_for(csv, csv_sheet_rows::FACTORS) == 0 {
         sheet_output::put_sheet_trailer(output, 2 * columns, columns, steps, tolerance);
         return 2 * columns + 16;
     }
@@ -249,13 +249,13 @@ fn make_of_columns(fleet: &[u8], columns: usize, csv: &[u8], output: &mut [u8]) 
     ensures { λ r. ⌜ r ≡ made-of-columns (now (fleet .entry)) (now (csv .entry)) ⌝ }
     ensures { λ r. ⌜ now (output .exit) ≡ output-by (r .fault) (now (fleet .entry)) (now (csv .entry)) (now (output .entry)) ⌝ }
 {
-    let names = sheet_rows::columns(csv);
-    let found = column_match::find_mismatch(fleet, columns, csv, names);
+    let names = csv_sheet_rows::columns(csv);
+    let found = csv_column_match::find_mismatch(fleet, columns, csv, names);
     if found.fault != 0 {
         return nothing(found.fault, 0, 0, found.column);
     }
     let mut places = [0u8; 64];
-    column_match::put_positions(fleet, columns, csv, names, &mut places);
+    csv_column_match::put_positions(fleet, columns, csv, names, &mut places);
     make_at(csv, &places[..columns], output)
 }
 
@@ -278,7 +278,7 @@ pub fn csv_sheet(fleet: &[u8], csv: &[u8], output: &mut [u8]) -> Made
     if table.fault != 0 {
         return nothing(FLEET, 0, 0, 0);
     }
-    let finding = sheet_rows::rows_fault(csv);
+    let finding = csv_sheet_rows::rows_fault(csv);
     if finding.fault != 0 {
         return nothing(finding.fault, finding.line, finding.row, finding.field);
     }

@@ -24,8 +24,8 @@ use Rattle.sheet_output.proofs.Back.{sheet-trailer-length, sheet-reads-back}
 use Rattle.buffers.proofs.Writing.{front-taken}
 use Rattle.method.specs.Problem.{problem}
 use Rattle.method.specs.Plain.{plain-problem}
-use Rattle.plain_twin.specs.Repeating.{repeated, plain-of}
-use Rattle.plain_twin.proofs.Repeating.{length-repeated}
+use Rattle.repeated_columns.specs.Repeating.{repeated, plain-of}
+use Rattle.repeated_columns.proofs.Repeating.{length-repeated}
 use Rattle.book_output.specs.Output.{rows-bytes, book-trailer, book-bytes}
 use Rattle.book_output.specs.Back.{Rows-fit, Book-reads-back}
 use Rattle.book_output.proofs.Back.{book-trailer-length, book-reads-back}

@@ -12,7 +12,7 @@ use lib.IntN.{ℤ, pos}
 use Rattle.files.specs.Bytes.{in-range, all-in-range}
 use Rattle.files.specs.Book.{all-rows-in-range}
 use Rattle.files.proofs.Refusal.{and-true}
-use Rattle.plain_twin.specs.Repeating.{repeated}
+use Rattle.repeated_columns.specs.Repeating.{repeated}
 use Rattle.derived_files.specs.Places.{places, picked}
 
 -- ---- places are columns

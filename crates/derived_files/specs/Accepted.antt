@@ -10,7 +10,7 @@ use Rattle.files.specs.Sheet.{sheet, files-refusal}
 use Rattle.files.specs.Fits.{Sheet-fits}
 use Rattle.method.specs.Problem.{problem}
 use Rattle.method.specs.Plain.{plain-problem}
-use Rattle.plain_twin.specs.Repeating.{plain-of}
+use Rattle.repeated_columns.specs.Repeating.{plain-of}
 use Rattle.book_output.specs.Back.{Book-of}
 use Rattle.sheet_output.specs.Back.{Sheet-of}
 use Rattle.derived_files.specs.Derived.{derived-rows, derived-book, derived, derived-sheet}

@@ -5,7 +5,7 @@ use lib.IntN.{ℤ}
 use Rattle.frank_wolfe.specs.Vectors.{ones, sum}
 use Rattle.files.specs.Book.{rows}
 use Rattle.files.specs.Sheet.{Sheet, sheet}
-use Rattle.plain_twin.specs.Repeating.{repeated}
+use Rattle.repeated_columns.specs.Repeating.{repeated}
 use Rattle.book_output.specs.Output.{book-bytes}
 use Rattle.sheet_output.specs.Output.{sheet-bytes}
 

@@ -7,10 +7,10 @@ use Rattle.method.specs.Promise.{Outcome-right}
 use Rattle.card_format.specs.declared.Written.{Written}
 use Rattle.card_format.specs.Checking.{Check-right}
 use Rattle.card_format.specs.Filing.{Filing-right}
-use Rattle.cells.specs.declared.ScaleCell.{ScaleCell}
-use Rattle.cells.specs.declared.SheetValues.{SheetValues}
-use Rattle.cells.specs.Cells.{sheet-values}
-use Rattle.cells.specs.Promise.{Conversion-right}
+use Rattle.scale_cells.specs.declared.ScaleCell.{ScaleCell}
+use Rattle.scale_cells.specs.declared.SheetValues.{SheetValues}
+use Rattle.scale_cells.specs.Cells.{sheet-values}
+use Rattle.scale_cells.specs.Promise.{Conversion-right}
 use Rattle.scale_sheet.specs.declared.ScaleSheet.{ScaleSheet}
 use Rattle.scale_sheet.specs.Sheets.{scale-sheet}
 use Rattle.scale_sheet.specs.Promise.{Sheet-right}

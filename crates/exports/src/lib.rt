@@ -20,18 +20,18 @@ ghost use Rattle.method.specs.Promise.{Outcome-right};
 ghost use Rattle.search_listing.specs.Searches.{search-outcome, search-shares, search-listing};
 ghost use Rattle.exported_types.specs.Replies.{reply-of, card-reply-of};
 ghost use Rattle.exports.specs.Buffers.{bytes-after, bytes-put};
-ghost use Rattle.cells.specs.Cells.{sheet-values};
-ghost use Rattle.cells.specs.Promise.{Conversion-right};
+ghost use Rattle.scale_cells.specs.Cells.{sheet-values};
+ghost use Rattle.scale_cells.specs.Promise.{Conversion-right};
 ghost use Rattle.scale_sheet.specs.Sheets.{scale-sheet};
 ghost use Rattle.scale_sheet.specs.Promise.{Sheet-right};
-ghost use Rattle.cell_lists.specs.Lists.{flat-cells};
-ghost use Rattle.card_choice.specs.Choices.{numbered, part-of, choice};
-ghost use Rattle.card_choice.specs.Promise.{Better-right};
+ghost use Rattle.scale_cell_lists.specs.Lists.{flat-cells};
+ghost use Rattle.better_card_promise.specs.Choices.{numbered, part-of, choice};
+ghost use Rattle.better_card_promise.specs.Promise.{Better-right};
 ghost use Rattle.text.specs.Texts.{text-limit};
-use card_choice::Choice;
-use cells::SheetValues;
+use better_card_promise::Choice;
 use exported_types::CardReply;
 use exported_types::Reply;
+use scale_cells::SheetValues;
 use scale_sheet::ScaleSheet;
 
 // ENTRY. The search for other languages: the reply of `search` for these files and this share list, and its slots afterwards.
@@ -114,8 +114,8 @@ pub extern "C" fn dofitrano_sheet_values(
     ensures { λ r. ⌜ r ≡ sheet-values (now (book .entry)) (flat-cells (now (kinds .entry)) (now (first .entry)) (now (second .entry)) (now (units .entry))) ⌝ }
     ensures { λ r. ⌜ Conversion-right (now (book .entry)) (flat-cells (now (kinds .entry)) (now (first .entry)) (now (second .entry)) (now (units .entry))) r ⌝ }
 {
-    let cells = cell_lists::cells_of(kinds, first, second, units);
-    cell_conversion::sheet_values(book, cells)
+    let cells = scale_cell_lists::cells_of(kinds, first, second, units);
+    scale_conversion::sheet_values(book, cells)
 }
 
 // ENTRY. The sheet of scale cells for other languages: that of `scale_sheet` for the cells of four lists.
@@ -132,7 +132,7 @@ pub extern "C" fn dofitrano_scale_sheet(
     ensures { λ r. ⌜ r ≡ scale-sheet (now (book .entry)) (flat-cells (now (kinds .entry)) (now (first .entry)) (now (second .entry)) (now (units .entry))) steps tolerance ⌝ }
     ensures { λ r. ⌜ Sheet-right (now (book .entry)) (flat-cells (now (kinds .entry)) (now (first .entry)) (now (second .entry)) (now (units .entry))) steps tolerance r ⌝ }
 {
-    let cells = cell_lists::cells_of(kinds, first, second, units);
+    let cells = scale_cell_lists::cells_of(kinds, first, second, units);
     scale_sheet::scale_sheet(book, cells, steps, tolerance)
 }
 

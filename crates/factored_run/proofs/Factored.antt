@@ -17,8 +17,8 @@ use Rattle.method.specs.Problem.{Problem, fixed, weight, problem}
 use Rattle.method.specs.Plain.{plain-problem}
 use Rattle.method.specs.Answers.{run-answer, run-iterate}
 use Rattle.method.specs.Bounds.{answer-of}
-use Rattle.plain_twin.specs.Repeating.{plain-of, Plain-twin, Same-runs}
-use Rattle.plain_twin.proofs.Repeating.{plain-twin}
+use Rattle.repeated_columns.specs.Repeating.{plain-of, Plain-twin, Same-runs}
+use Rattle.repeated_columns.proofs.Repeating.{plain-twin}
 use Rattle.buffers.specs.Placed.{placed}
 use Rattle.buffers.proofs.Writing.{front-inside, front-taken}
 use Rattle.derived_files.specs.Derived.{derived-book, derived-sheet}

@@ -9,15 +9,15 @@ use lib.Dec.{eqb}
 use lib.ListN.{length, take, drop, length-take}
 use Rattle.files.specs.Bytes.{number, value, same}
 use Rattle.files.proofs.Letters.{same-eq}
-use Rattle.fleet_table.specs.Table.{UNIT}
+use Rattle.csv_fleet_tokens.specs.Table.{UNIT}
 use Rattle.files.specs.Book.{boats, columns, rows-offset}
 use Rattle.files.specs.Sheet.{sheet, sheet-columns, files-refusal}
 use Rattle.text.specs.Decimal.{decimal}
 use Rattle.text.specs.Texts.{Holds, Adds}
 use Rattle.text.specs.declared.Text.{Text}
 use Rattle.text.proofs.Texts.{adds-both, adds-to-empty}
-use Rattle.line_parts.specs.Parts.{THEN, COLON, COLUMN, RANGE-WORDS, part}
-use Rattle.csv_round_trip.specs.Writing.{figures}
+use Rattle.message_parts.specs.Parts.{THEN, COLON, COLUMN, RANGE-WORDS, part}
+use Rattle.csv_fleet_round_trip.specs.Writing.{figures}
 use Rattle.csv_cells.specs.Cells.{last-place, cell-text, width}
 use Rattle.csv_cells.specs.declared.Place.{Place}
 use Rattle.refusal_details.specs.Details.{BOOK, SHEET, BOAT, SHEET-HAS, COLUMNS-BOOK, book-front, first-boat, names-all, names-csv, boat-name, column-name, called, first-out, out-words, book-values, value-line, target-line, columns-line, line-of, detail}

@@ -10,9 +10,9 @@ use Rattle.files.specs.Bytes.{values, same, in-range, body}
 use Rattle.files.specs.Book.{boats, columns, rows-offset}
 use Rattle.files.specs.Sheet.{sheet, sheet-columns, files-refusal}
 use Rattle.text.specs.Decimal.{decimal}
-use Rattle.line_parts.specs.Parts.{THEN, COLON, COLUMN, RANGE-WORDS, part}
-use Rattle.fleet_table.specs.Table.{UNIT}
-use Rattle.csv_round_trip.specs.Writing.{figures}
+use Rattle.message_parts.specs.Parts.{THEN, COLON, COLUMN, RANGE-WORDS, part}
+use Rattle.csv_fleet_tokens.specs.Table.{UNIT}
+use Rattle.csv_fleet_round_trip.specs.Writing.{figures}
 use Rattle.csv_cells.specs.Cells.{last-place, cell-text, width}
 
 -- ---- the words

@@ -11,7 +11,7 @@ ghost use Rattle.files.specs.Book.{columns, Book-whole, book-refusal};
 ghost use Rattle.files.specs.Sheet.{sheet-refusal};
 ghost use Rattle.files.specs.Sheet as Sheets;
 ghost use Rattle.text.specs.Texts.{text-limit, Holds, Adds};
-ghost use Rattle.csv_round_trip.specs.Writing.{figures};
+ghost use Rattle.csv_fleet_round_trip.specs.Writing.{figures};
 ghost use Rattle.csv_cells.specs.Cells.{cell-text};
 ghost use Rattle.refusal_details.specs.Details.{first-boat, names-all, names-csv, called, first-out, out-words, book-values, value-line, target-line, columns-line, detail};
 use text::Text;
@@ -73,7 +73,7 @@ fn with_called(text: Text, csv: &[u8], row: usize, field: usize, word: &[u8], k:
         let told = begun.with_bytes(word);
         return told.with_number(k as u64 + 1);
     }
-    line_parts::with_part(text, &name[..n])
+    message_parts::with_part(text, &name[..n])
 }
 
 // The row of the first boat in a CSV: the second, or the third where the second has units.

@@ -19,10 +19,10 @@ use Rattle.files.specs.Fits.{Book-fits}
 use Rattle.files.proofs.Accepted.{book-accepted}
 use Rattle.files.proofs.Refusal.{between-true, book-passed}
 use Rattle.files.specs.Limits.{step-limit}
-use Rattle.cells.specs.declared.ScaleCell.{ScaleCell}
-use Rattle.cells.specs.Cells.{cell-value, read-cells, scale-refusal, values-after, sheet-values}
-use Rattle.cells.specs.Promise.{Values-accepted, Values-right}
-use Rattle.cells.proofs.Values.{scale-accepted, read-length, read-in-range, conversion-right}
+use Rattle.scale_cells.specs.declared.ScaleCell.{ScaleCell}
+use Rattle.scale_cells.specs.Cells.{cell-value, read-cells, scale-refusal, values-after, sheet-values}
+use Rattle.scale_cells.specs.Promise.{Values-accepted, Values-right}
+use Rattle.scale_cells.proofs.Values.{scale-accepted, read-length, read-in-range, conversion-right}
 use Rattle.buffers.specs.Placed.{placed}
 use Rattle.buffers.proofs.Placing.{placed-next, placed-length}
 use Rattle.sheet_output.specs.Output.{values-bytes, sheet-trailer, sheet-bytes}

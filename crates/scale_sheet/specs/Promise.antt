@@ -8,9 +8,9 @@ use Rattle.frank_wolfe.specs.Vectors.{ones}
 use Rattle.files.specs.Book.{columns}
 use Rattle.files.specs.Sheet.{sheet, files-refusal}
 use Rattle.files.specs.Limits.{step-limit}
-use Rattle.cells.specs.declared.ScaleCell.{ScaleCell}
-use Rattle.cells.specs.Cells.{scale-refusal, sheet-values}
-use Rattle.cells.specs.Promise.{Values-accepted, Values-refused}
+use Rattle.scale_cells.specs.declared.ScaleCell.{ScaleCell}
+use Rattle.scale_cells.specs.Cells.{scale-refusal, sheet-values}
+use Rattle.scale_cells.specs.Promise.{Values-accepted, Values-refused}
 use Rattle.scale_sheet.specs.declared.ScaleSheet.{ScaleSheet}
 use Rattle.scale_sheet.specs.Sheets.{refused-sheet}
 

@@ -9,8 +9,8 @@ use Rattle.files.specs.Bytes.{between}
 use Rattle.files.specs.Book.{columns}
 use Rattle.files.specs.Sheet.{Sheet}
 use Rattle.files.specs.Limits.{step-limit}
-use Rattle.cells.specs.declared.ScaleCell.{ScaleCell}
-use Rattle.cells.specs.Cells.{cell-value, read-cells, scale-refusal}
+use Rattle.scale_cells.specs.declared.ScaleCell.{ScaleCell}
+use Rattle.scale_cells.specs.Cells.{cell-value, read-cells, scale-refusal}
 use Rattle.sheet_output.specs.Output.{sheet-bytes}
 use Rattle.scale_sheet.specs.declared.ScaleSheet.{ScaleSheet}
 

@@ -4,7 +4,7 @@
 ghost use mathlib.Core.Path.{_≡_};
 ghost use Rattle.scale_sheet.specs.Sheets.{scale-sheet, refused-sheet};
 ghost use Rattle.scale_sheet.specs.Promise.{Sheet-right};
-use cells::ScaleCell;
+use scale_cells::ScaleCell;
 
 // The most steps that a sheet may ask for.
 const MOST_STEPS: usize = files::MOST_STEPS as usize;
@@ -34,7 +34,7 @@ pub fn scale_sheet(book: &[u8], cells: [ScaleCell; 64], steps: u32, tolerance: u
     ensures { λ r. ⌜ r ≡ scale-sheet (now (book .entry)) cells steps tolerance ⌝ }
     ensures { λ r. ⌜ Sheet-right (now (book .entry)) cells steps tolerance r ⌝ }
 {
-    let found = cell_conversion::sheet_values(book, cells);
+    let found = scale_conversion::sheet_values(book, cells);
     if found.refusal != 0 {
         return refused(found.refusal);
     }

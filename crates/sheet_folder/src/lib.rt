@@ -8,10 +8,10 @@ fn tell_fault(fleet: &[u8], csv: &[u8], made: Made) {
     if fault == csv_sheet::FLEET {
         let mut output = [0u8; 40000];
         let book = csv_book::csv_book(fleet, &mut output);
-        file_io::tell_text(fault_text::fleet_fault(fleet, book));
+        file_io::tell_text(csv_book_text::fleet_fault(fleet, book));
         return;
     }
-    file_io::tell_text(sheet_text::sheet_fault(fleet, csv, made));
+    file_io::tell_text(csv_sheet_text::sheet_fault(fleet, csv, made));
 }
 
 // Files the sheet of two CSVs in a folder as sheet.wsh, and prints its columns, factors, steps, tolerance and front text.
@@ -26,7 +26,7 @@ fn file_made(folder: &[u8], fleet: &[u8], csv: &[u8]) {
     let bytes = path.bytes;
     let name = file_io::first_bytes(&bytes, path.len);
     if file_io::replace_or_tell(name, file_io::first_bytes(&output, made.len)) {
-        file_io::print(sheet_text::sheet_lines(made));
+        file_io::print(csv_sheet_text::sheet_lines(made));
     }
 }
 

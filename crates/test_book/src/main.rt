@@ -12,9 +12,9 @@ fn made_of(csv: &[u8]) {
     if made.fault != 0 {
         test_printing::line(b"line", made.line as u64);
         test_printing::line(b"field", made.field as u64);
-        file_io::print(fault_text::fleet_fault(csv, made));
+        file_io::print(csv_book_text::fleet_fault(csv, made));
     } else {
-        file_io::print(fault_text::book_lines(made));
+        file_io::print(csv_book_text::book_lines(made));
     }
     test_printing::line(b"bytes", made.len as u64);
     test_printing::line(b"sum", test_buffers::checksum(&output));
@@ -49,7 +49,7 @@ fn limits() {
     made_of(&zeros);
     let mut output = [1u8; 39999];
     let made = csv_book::csv_book(b"a,b\nc,1\n", &mut output);
-    file_io::print(fault_text::fleet_fault(b"", made));
+    file_io::print(csv_book_text::fleet_fault(b"", made));
     test_printing::line(b"sum", test_buffers::checksum(&output));
 }
 

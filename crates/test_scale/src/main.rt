@@ -1,9 +1,9 @@
 // Drawn scale cells turned into sheet values and into sheets. The expected output is made by tests/expected/test_scale.py.
 mod draws;
 
-use cells::ScaleCell;
-use cells::SheetValues;
 use libc::STDOUT_FILENO;
+use scale_cells::ScaleCell;
+use scale_cells::SheetValues;
 use scale_sheet::ScaleSheet;
 use test_buffers::between;
 
@@ -57,7 +57,7 @@ fn print_made(made: ScaleSheet) {
 
 // The values and the sheet of one book and its cells.
 fn run(book: &[u8], cells: [ScaleCell; 64], steps: u32, tolerance: u32) {
-    print_found(cell_conversion::sheet_values(book, cells));
+    print_found(scale_conversion::sheet_values(book, cells));
     print_made(scale_sheet::scale_sheet(book, cells, steps, tolerance));
 }
 

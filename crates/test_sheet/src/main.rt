@@ -12,9 +12,9 @@ fn made_of(fleet: &[u8], csv: &[u8]) {
     if made.fault != 0 {
         test_printing::line(b"line", made.line as u64);
         test_printing::line(b"field", made.field as u64);
-        file_io::print(sheet_text::sheet_fault(fleet, csv, made));
+        file_io::print(csv_sheet_text::sheet_fault(fleet, csv, made));
     } else {
-        file_io::print(sheet_text::sheet_lines(made));
+        file_io::print(csv_sheet_text::sheet_lines(made));
     }
     test_printing::line(b"bytes", made.len as u64);
     test_printing::line(b"sum", test_buffers::checksum(&output));
@@ -53,7 +53,7 @@ fn limits() {
     let mut output = [1u8; 39999];
     let csv = b",b\nd,1\nsteps,1\ntolerance,1\n";
     let made = csv_sheet::csv_sheet(fleet, csv, &mut output);
-    file_io::print(sheet_text::sheet_fault(fleet, csv, made));
+    file_io::print(csv_sheet_text::sheet_fault(fleet, csv, made));
     test_printing::line(b"sum", test_buffers::checksum(&output));
 }
 

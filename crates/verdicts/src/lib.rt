@@ -18,7 +18,7 @@ fn is_far(limit: u64, e: u64, g: u64) -> bool
         return false;
     }
     let d = e - g;
-    wide::product_below(limit, e, d, d)
+    wide_products::product_below(limit, e, d, d)
 }
 
 // Whether the test says Beyond. Where the former does, so does the sharper: only where it does not are products of 128 bits compared.

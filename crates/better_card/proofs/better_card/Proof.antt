@@ -1,7 +1,7 @@
 -- `better_card::better_card` meets its contract.
 use denote.Ref.{ptr}
 use Rattle.files.proofs.Numbers.{all-bytes-known}
-use Rattle.card_choice.proofs.Choosing.{handed}
+use Rattle.better_card_promise.proofs.Choosing.{handed}
 use borrow.Author.Needs.{needs}
 use Rattle.better_card.proofs.better_card.Statement.{statement}
 use Rattle.better_card.proofs.better_card.Tie as tie

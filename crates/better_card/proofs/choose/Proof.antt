@@ -1,7 +1,7 @@
 -- `better_card::choose` meets its contract.
 use mathlib.Core.Path.{_∙_}
 use Rattle.files.proofs.Numbers.{all-bytes-known}
-use Rattle.card_choice.proofs.Choosing.{promised, first-refused, second-refused, first-inside, second-inside, first-chosen, second-chosen}
+use Rattle.better_card_promise.proofs.Choosing.{promised, first-refused, second-refused, first-inside, second-inside, first-chosen, second-chosen}
 use borrow.Author.Needs.{needs}
 use Rattle.better_card.proofs.choose.Statement.{statement}
 use Rattle.better_card.proofs.choose.Tie as tie

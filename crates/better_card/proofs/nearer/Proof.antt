@@ -6,7 +6,7 @@ use Rattle.better_card.proofs.nearer.Statement.{statement}
 use Rattle.better_card.proofs.nearer.Tie as tie
 use Rattle.better_card.proofs.nearer.Reads as reads
 use Rattle.better_card.proofs.nearer.Lts as lts
-use Rattle.wide.proofs.product_below.Reads as product-below-reads
+use Rattle.wide_products.proofs.product_below.Reads as product-below-reads
 
 cast-v : tie.Need-cast-v
 cast-v c = search needs

@@ -1,6 +1,6 @@
 -- `better_card::refused` meets its contract.
 use mathlib.Core.Path.{refl}
-use Rattle.card_choice.specs.Choices.{no-choice}
+use Rattle.better_card_promise.specs.Choices.{no-choice}
 use Rattle.better_card.proofs.refused.Statement.{statement}
 use Rattle.better_card.proofs.refused.Tie as tie
 use Rattle.better_card.proofs.refused.Reads as reads

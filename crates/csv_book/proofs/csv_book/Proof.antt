@@ -5,8 +5,8 @@ use Prim.Native.Nat.{_≤_}
 use native.Mathlib.Omega.{arith}
 use lib.ListN.{length}
 use lib.Seq.{length-take-le}
-use Rattle.fleet_table.specs.declared.Table.{Table}
-use Rattle.fleet_reader.specs.Fleet.{last-table}
+use Rattle.csv_fleet_tokens.specs.declared.Table.{Table}
+use Rattle.csv_fleet_reader.specs.Fleet.{last-table}
 use Rattle.csv_book.proofs.Making.{few-values, bare-put, no-room, too-big, with-fault, with-book}
 use Rattle.csv_book.proofs.csv_book.Statement.{statement}
 use Rattle.csv_book.proofs.csv_book.Tie as tie

@@ -4,7 +4,7 @@ use native.Mathlib.Omega.{arith}
 use Prim.Native.Nat.{_-_}
 use lib.ListN.{length}
 use mathlib.Core.Path.{ap}
-use Rattle.fleet_table.specs.declared.Table.{Table}
+use Rattle.csv_fleet_tokens.specs.declared.Table.{Table}
 use Rattle.csv_fields.proofs.Fielding.{Fielding, fielding-start, fielding-more, fielding-end, at-byte}
 use Rattle.csv_fields.proofs.put_field.Statement.{statement}
 use Rattle.csv_fields.proofs.put_field.Tie as tie

@@ -1,8 +1,8 @@
 -- `csv_sheet::csv_sheet` meets its contract: a law of `Accepting` for each return.
 use borrow.Author.Needs.{needs}
 use mathlib.Core.Path.{sym, ap, _∙_}
-use Rattle.fleet_table.specs.declared.Table.{Table}
-use Rattle.sheet_rows.specs.declared.Finding.{Finding}
+use Rattle.csv_fleet_tokens.specs.declared.Table.{Table}
+use Rattle.csv_sheet_rows.specs.declared.Finding.{Finding}
 use Rattle.csv_sheet.proofs.Accepting.{no-room, too-big, fleet-big, fleet-faulty, rows-faulty, made}
 use Rattle.csv_sheet.proofs.csv_sheet.Statement.{statement}
 use Rattle.csv_sheet.proofs.csv_sheet.Tie as tie

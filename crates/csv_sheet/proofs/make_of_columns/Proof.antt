@@ -5,10 +5,10 @@ use Prim.Native.Nat.{_≤_}
 use native.Mathlib.Omega.{arith}
 use lib.ListN.{length, take}
 use lib.Seq.{length-take-le}
-use Rattle.fleet_reader.specs.Fleet.{last-table}
-use Rattle.sheet_rows.specs.Rows.{sheet-names}
-use Rattle.column_match.specs.declared.Mismatch.{Mismatch}
-use Rattle.column_match.specs.Match.{mismatch}
+use Rattle.csv_fleet_reader.specs.Fleet.{last-table}
+use Rattle.csv_sheet_rows.specs.Rows.{sheet-names}
+use Rattle.csv_column_match.specs.declared.Mismatch.{Mismatch}
+use Rattle.csv_column_match.specs.Match.{mismatch}
 use Rattle.csv_sheet.specs.Sheets.{places}
 use Rattle.csv_sheet.proofs.Making.{whole, ready, places-taken, columns-out, columns-match}
 use Rattle.csv_sheet.proofs.make_of_columns.Statement.{statement}

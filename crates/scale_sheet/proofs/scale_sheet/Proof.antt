@@ -7,8 +7,8 @@ use native.Mathlib.Omega.{arith}
 use lib.ListN.{length}
 use Rattle.files.specs.Bytes.{between}
 use Rattle.files.specs.Limits.{step-limit}
-use Rattle.cells.specs.declared.SheetValues.{SheetValues}
-use Rattle.cells.specs.Cells.{scale-refusal, sheet-values}
+use Rattle.scale_cells.specs.declared.SheetValues.{SheetValues}
+use Rattle.scale_cells.specs.Cells.{scale-refusal, sheet-values}
 use Rattle.scale_sheet.proofs.Making.{Passed, cells-refused, steps-refused, tolerance-refused, book, few, front-in-range, trailer-room, made-sheet}
 use Rattle.scale_sheet.proofs.scale_sheet.Statement.{statement}
 use Rattle.scale_sheet.proofs.scale_sheet.Tie as tie
