@@ -2,6 +2,7 @@
 pub mod States
 pub mod Steps
 pub mod Measuring
+pub mod Moves
 pub mod Mixed
 pub mod Answering
 pub mod First

@@ -1,4 +1,4 @@
--- The needs of `measured`: its callees' results put together are the definition's answer. Assumes nothing.
+-- The needs of `answered` and `measured`: their callees' results put together are the definition's answer. Assumes nothing.
 use mathlib.Core.Path.{_≡_, ap, _∙_}
 use mathlib.Core.List.{List}
 use Prim.Native.Nat.{ℕ}
@@ -17,32 +17,39 @@ use Rattle.verdicts.specs.Sizes.{Judgeable}
 use Rattle.method.specs.declared.Test.{Test}
 use Rattle.method.specs.declared.Answer.{Answer}
 use Rattle.method.specs.declared.Verdict.{Verdict}
-use Rattle.sums.specs.Operands.{Gap-sized}
 use Rattle.iteration.specs.declared.Layout.{Layout}
-use Rattle.iteration.specs.Measures.{gap-by, measure, Measurable}
+use Rattle.iteration.specs.Measures.{gap-by, answer-by, measure, Answerable, Measurable}
 
-natural-pos : {g : ℕ} {z : ℤ} → pos g ≡ z → g ≡ natural z
+pub natural-pos : {g : ℕ} {z : ℤ} → pos g ≡ z → g ≡ natural z
 unfolding natural
 natural-pos e = ap natural e
 
-pub least-kept : {r : List ℤ} {w : ℕ} {least : ℤ} {s : List ℕ} {l : Layout} → Measurable r w least s l → toZ w64 (ofZ w64 least) ≡ least
-least-kept m = read w64 33269760000000 (omega (arith, m .sized .second, m .sized .few-shares)) tt
+module _ {e w : ℕ} {target-score least : ℤ} {s : List ℕ} (m : Answerable e w target-score least s) where
+  -- the scores as a callee reads them
+  pub target-score-kept : toZ w64 (ofZ w64 target-score) ≡ target-score
+  target-score-kept = read w64 33269760000000 (omega (arith, m .sized .first, m .sized .few-shares)) tt
 
-module _ {r : List ℤ} {w : ℕ} {least : ℤ} {s : List ℕ} {l : Layout} (m : Measurable r w least s l) {e : ℕ} {a x y : ℤ}
-    (ee : e ≡ squared-norm (take (l .columns) r)) (ea : a ≡ inner (take (l .columns) r) (values (l .columns) (drop (l .target) s))) (ex : x ≡ a) (ey : y ≡ toZ w64 (ofZ w64 least)) where
-  pub gap-sized : Gap-sized e w x y
-  gap-sized = rw (ee, ex, ea, ey, least-kept m) (m .sized)
+  pub least-kept : toZ w64 (ofZ w64 least) ≡ least
+  least-kept = read w64 33269760000000 (omega (arith, m .sized .second, m .sized .few-shares)) tt
 
-  module _ {g : ℕ} (eg : pos g ≡ pos e +ℤ pos w *ℤ (x -ℤ y)) where
-    gap-is : g ≡ natural (gap-by w (take (l .columns) r) (values (l .columns) (drop (l .target) s)) least)
-    gap-is = natural-pos (eg ∙ rw (ee, ex, ea, ey, least-kept m))
+  module _ {g : ℕ} (eg : pos g ≡ pos e +ℤ pos w *ℤ (toZ w64 (ofZ w64 target-score) -ℤ toZ w64 (ofZ w64 least))) {τ : ℕ} (et : τ ≡ sheet s .tolerance) where
+    gap-is : g ≡ natural (gap-by w e target-score least)
+    gap-is = natural-pos (eg ∙ rw (target-score-kept, least-kept))
 
-    module _ {τ : ℕ} (et : τ ≡ sheet s .tolerance) where
-      pub judgeable : Judgeable τ w e g
-      judgeable = rw (et, ee, gap-is) (m .judged)
+    pub judgeable : Judgeable τ w e g
+    judgeable = rw (et, gap-is) (m .judged)
 
-      pub answer-is : (test : Test) (t : ℕ) {v : Verdict} → v ≡ verdict test τ w e g →
-          _≡_ {A = Answer} (record { steps = t; weight = w; distance = e; gap = g; verdict = v })
-          (measure test t w (sheet s .tolerance) (take (l .columns) r) (values (l .columns) (drop (l .target) s)) least)
-      unfolding measure
-      answer-is test t ev = rw (ev, et, ee, gap-is)
+    pub answer-is : (test : Test) (t : ℕ) {v : Verdict} → v ≡ verdict test τ w e g →
+        _≡_ {A = Answer} (record { steps = t; weight = w; distance = e; gap = g; verdict = v }) (answer-by test t w (sheet s .tolerance) e target-score least)
+    unfolding answer-by
+    answer-is test t ev = rw (ev, et, gap-is)
+
+-- the answer of a residual
+module _ {r : List ℤ} {w : ℕ} {least : ℤ} {s : List ℕ} {l : Layout} (m : Measurable r w least s l) {e : ℕ} {a x : ℤ}
+    (ee : e ≡ squared-norm (take (l .columns) r)) (ea : a ≡ inner (take (l .columns) r) (values (l .columns) (drop (l .target) s))) (ex : x ≡ a) where
+  pub measured-asks : Answerable e w x (toZ w64 (ofZ w64 least)) s
+  measured-asks = rw (ee, ex, ea, least-kept (m .numbers)) (m .numbers)
+
+  pub measured-is : (test : Test) (t τ : ℕ) {y : Answer} → y ≡ answer-by test t w τ e x (toZ w64 (ofZ w64 least)) →
+      y ≡ measure test t w τ (take (l .columns) r) (values (l .columns) (drop (l .target) s)) least
+  measured-is test t τ f = f ∙ rw (ee, ex, ea, least-kept (m .numbers))

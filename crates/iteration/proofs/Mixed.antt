@@ -25,9 +25,7 @@ use Rattle.method.proofs.Argmin.{argmin-below, among-row, least-score}
 use Rattle.method.proofs.Shares.{Mixed, mixed-length}
 use Rattle.method.proofs.Mixtures.{length-residual, gap-by-distance, gap-is, score-most, distance-most, gap-most}
 use Rattle.method.proofs.Plain.{well-formed, in-range}
-use Rattle.sums.specs.Operands.{Gap-sized}
-use Rattle.verdicts.specs.Sizes.{Judgeable}
-use Rattle.iteration.specs.Measures.{gap-by, measure}
+use Rattle.iteration.specs.Measures.{gap-by, answer-by, measure, Answerable}
 use Rattle.iteration.proofs.States.{sheet-fits}
 
 module _ (b s : List ℕ) (ok : files-refusal b s ≡ 0) {t : ℕ} {x : Iterate} (some : 1 ≤ t) (few : t ≤ step-limit) (m : Mixed (plain-problem b s) t x) where
@@ -54,15 +52,15 @@ module _ (b s : List ℕ) (ok : files-refusal b s ≡ 0) {t : ℕ} {x : Iterate}
   unfolding plain-problem
   residual-long = length-residual (well-formed b s ok) t x long
 
-  norm-is : weighted-norm (ones (columns b)) r ≡ squared-norm r
+  pub norm-is : weighted-norm (ones (columns b)) r ≡ squared-norm r
   norm-is = norm-ones (columns b) r residual-long
 
-  target-score : weighted (ones (columns b)) r u ≡ inner r u
-  target-score = weighted-ones (columns b) r u residual-long
+  pub target-inner : weighted (ones (columns b)) r u ≡ inner r u
+  target-inner = weighted-ones (columns b) r u residual-long
 
-  gap-integer : gap-by w r u (minimum scores) ≡ pos (gap (plain-problem b s) t x)
+  gap-integer : gap-by w (squared-norm r) (inner r u) (minimum scores) ≡ pos (gap (plain-problem b s) t x)
   unfolding plain-problem distance
-  gap-integer = rw (← norm-is, ← target-score) (sym (gap-by-distance (well-formed b s ok) t x long some-weight) ∙ gap-is (well-formed b s ok) some-weight m)
+  gap-integer = rw (← norm-is, ← target-inner) (sym (gap-by-distance (well-formed b s ok) t x long some-weight) ∙ gap-is (well-formed b s ok) some-weight m)
 
   pub least-size : natAbs (minimum (M.scores (ones (columns b)) r (rows b))) ≤ 512000000 * w
   unfolding plain-problem
@@ -75,27 +73,25 @@ module _ (b s : List ℕ) (ok : files-refusal b s ≡ 0) {t : ℕ} {x : Iterate}
   unfolding plain-problem distance
   square = rw (← norm-is) (lt-of-le-of-lt (distance-most (well-formed b s ok) (in-range b s ok) m) (weight-fits (weight-most few) (le-refl 1024000000)))
 
-  pub mixed-sized : Gap-sized (squared-norm r) w (inner r u) (minimum (M.scores (ones (columns b)) r (rows b)))
-  unfolding plain-problem
-  mixed-sized =
+  pub mixed-answerable : Answerable (squared-norm r) w (inner r u) (minimum (M.scores (ones (columns b)) r (rows b))) s
+  unfolding plain-problem natural
+  mixed-answerable =
       record {
-        distance = square;
-        few-shares = weight-most few;
-        first = rw (← target-score) (score-most (well-formed b s ok) (in-range b s ok) m u (in-range b s ok .target-bounded));
-        second = least-size;
-        sign = rw gap-integer (≤→≤ℤ {m = 0} {n = gap (plain-problem b s) t x} (omega arith));
+        whole = sheet-fits b s ok .at-least;
+        sized = record {
+          distance = square;
+          few-shares = weight-most few;
+          first = rw (← target-inner) (score-most (well-formed b s ok) (in-range b s ok) m u (in-range b s ok .target-bounded));
+          second = least-size;
+          sign = rw gap-integer (≤→≤ℤ {m = 0} {n = gap (plain-problem b s) t x} (omega arith));
+        };
+        judged = rw gap-integer (record {
+          limit = weight-fits (weight-most few) (sheet-fits b s ok .most-tolerance);
+          distance = square;
+          gap = lt-of-le-of-lt (gap-most (well-formed b s ok) (in-range b s ok) m some-weight) (weight-fits (weight-most few) (le-refl 1024000000));
+        });
       }
 
-  pub mixed-judged : Judgeable (sheet s .tolerance) w (squared-norm r) (natural (gap-by w r u (minimum (M.scores (ones (columns b)) r (rows b)))))
-  unfolding plain-problem natural
-  mixed-judged =
-      rw gap-integer
-      (record {
-        limit = weight-fits (weight-most few) (sheet-fits b s ok .most-tolerance);
-        distance = square;
-        gap = lt-of-le-of-lt (gap-most (well-formed b s ok) (in-range b s ok) m some-weight) (weight-fits (weight-most few) (le-refl 1024000000));
-      })
-
   pub mixed-answer : (test : Test) → measure test t w (sheet s .tolerance) r u (minimum (M.scores (ones (columns b)) r (rows b))) ≡ answer-at test (plain-problem b s) t x
-  unfolding plain-problem measure answer-at distance natural
+  unfolding plain-problem answer-by answer-at distance natural
   mixed-answer test = rw (gap-integer, norm-is)

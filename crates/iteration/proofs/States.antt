@@ -2,35 +2,42 @@
 use mathlib.Core.Path.{_≡_, refl, sym, ap, ap₂, _∙_}
 use mathlib.Core.List.{List, [], _∷_, _++_}
 use Prim.Native.Nat.{ℕ, zero, suc, _+_, _*_, _-_, _≤_, _<_}
-use native.Mathlib.Nat.{suc-mul, mul-le-mul-right}
+use native.Mathlib.Nat.{suc-mul, mul-le-mul-right, le-refl, lt-of-le-of-lt}
 use native.Mathlib.Omega.{arith}
-use lib.IntN.{ℤ, pos, natAbs, _+ℤ_, _*ℤ_, +ℤ-idl}
+use lib.IntN.{ℤ, pos, natAbs, _+ℤ_, _-ℤ_, _*ℤ_, +ℤ-idl}
 use lib.ListN.{length, getD, take, drop, set, replicate}
 use lib.Seq.{take-at, drop-at, getD-take}
-use Rattle.integers.proofs.Filling.{replicate-parts}
+use Rattle.integers.proofs.Solver.{con, _⊕_, _⊗_, _⊝_, x₀, x₁, x₂, x₃, x₄, x₅, solve}
+use Rattle.integers.proofs.Order.{≤→≤ℤ}
+use Rattle.integers.proofs.Bounds.{read}
+use mir.Syntax.{w32, w64}
+use mir.Val.{toZ, ofZ}
 use Rattle.files.specs.Bytes.{values}
 use Rattle.files.specs.Book.{boats, columns, rows, rows-from, rows-offset}
 use Rattle.files.specs.Sheet.{sheet, target-offset, files-refusal}
 use Rattle.files.specs.Fits.{Book-fits, Sheet-fits}
 use Rattle.files.proofs.Accepted.{files-accepted}
 use Rattle.files.proofs.Access.{rows-at, row-at, target-at}
-use Rattle.files.specs.Limits.{total-limit, entry-limit}
-use Rattle.frank_wolfe.specs.Vectors.{add, subtract, scale, weighted, ones, sum}
-use Rattle.frank_wolfe.proofs.Vectors.{length-scale, length-subtract, weighted-symmetric, weighted-add, weighted-scale, weighted-zero, scale-one}
-use Rattle.method.specs.Problem.{share}
+use Rattle.files.specs.Limits.{step-limit, total-limit, entry-limit}
+use Rattle.frank_wolfe.specs.Vectors.{add, subtract, scale, weighted, weighted-norm, ones, sum}
+use Rattle.frank_wolfe.proofs.Vectors.{length-scale, length-subtract, weighted-symmetric, weighted-add, weighted-subtract, weighted-scale, weighted-zero, norm-weighted, scale-one}
+use Rattle.method.specs.Problem.{fixed, share, weight}
 use Rattle.method.specs.Plain.{plain-problem}
 use Rattle.method.specs.Iterates as M
-use Rattle.method.specs.Iterates.{iterate, direction, active-argmin, pick, with-shares, step, start, row, residual}
+use Rattle.method.specs.Iterates.{iterate, direction, active-argmin, pick, with-shares, step, start, row, residual, distance, natural}
+use Rattle.method.proofs.Weights.{weight-zero, weight-more, weight-most, weight-fits}
 use Rattle.method.proofs.Argmin.{argmin-at, among-row, score-at, length-scores}
 use Rattle.method.proofs.Picks.{active-none, pick-below}
 use Rattle.method.proofs.Entries as E
 use Rattle.method.proofs.Shares.{residual-step, residual-start}
-use Rattle.method.proofs.Plain.{in-range, few-ones, residual-length}
+use Rattle.method.proofs.Mixtures.{score-most, distance-most}
+use Rattle.method.proofs.Plain.{well-formed, in-range, mixed, few-ones, residual-length}
 use Rattle.sums.specs.Operands.{Bounded, Span, Grid, Movable, Rows-bounded, Rescorable}
 use Rattle.scoring.specs.Scores.{least-of, pick-of}
 use Rattle.scoring.specs.declared.Least.{Least}
 use Rattle.iteration.specs.declared.State.{State}
-use Rattle.iteration.specs.States.{iterate-of, scores-of, pick-at, boat-difference, boat-products, fresh-state, Holds}
+use Rattle.iteration.specs.States.{iterate-of, scores-of, boat-difference, boat-products, target-product, Holds}
+use Rattle.iteration.specs.Moves.{moved-distance, next-state, Steppable}
 
 -- ---- Scores are linear in the vector that they are taken with
 
@@ -39,14 +46,42 @@ unfolding M.scores
 scores-zero fs c [] = refl
 scores-zero fs c (v ∷ rs) = ap₂ (λ p q. p ∷ q) (weighted-symmetric fs (replicate c (pos 0)) v ∙ weighted-zero fs v c) (scores-zero fs c rs)
 
+-- <r + k d, x> = <r, x> + k <d, x>
+weighted-moved : (fs : List ℕ) (r d : List ℤ) (k : ℕ) (x : List ℤ) → length r ≡ length d → weighted fs (add r (scale k d)) x ≡ weighted fs r x +ℤ pos k *ℤ weighted fs d x
+weighted-moved fs r d k x e =
+    weighted-symmetric fs (add r (scale k d)) x ∙ weighted-add fs x r (scale k d) (e ∙ sym (length-scale k d))
+    ∙ ap₂ (λ p q. p +ℤ q) (weighted-symmetric fs x r) (weighted-scale fs x k d ∙ ap (λ p. pos k *ℤ p) (weighted-symmetric fs x d))
+
+-- <r + k d, r + k d>, where d = v - u
+norm-moved : (fs : List ℕ) (r v u : List ℤ) (k : ℕ) → length r ≡ length v → length v ≡ length u →
+    moved-distance (weighted-norm fs r) k (weighted fs r v) (weighted fs r u) (weighted fs (subtract v u) v) (weighted fs (subtract v u) u) ≡ pos (weighted-norm fs (add r (scale k (subtract v u))))
+unfolding moved-distance
+norm-moved fs r v u k e f =
+    let d = subtract v u in
+    let n = add r (scale k (subtract v u)) in
+    let long : length r ≡ length (subtract v u) = e ∙ sym (length-subtract v u f) in
+    let rd : weighted fs r (subtract v u) ≡ weighted fs r v -ℤ weighted fs r u = weighted-subtract fs r v u f in
+    let dd : weighted fs (subtract v u) (subtract v u) ≡ weighted fs (subtract v u) v -ℤ weighted fs (subtract v u) u = weighted-subtract fs (subtract v u) v u f in
+    let rn : weighted fs n r ≡ pos (weighted-norm fs r) +ℤ pos k *ℤ (weighted fs r v -ℤ weighted fs r u) =
+    weighted-moved fs r d k r long ∙ ap₂ (λ p q. p +ℤ pos k *ℤ q) (sym (norm-weighted fs r)) (weighted-symmetric fs d r ∙ rd) in
+    let dn : weighted fs n d ≡ (weighted fs r v -ℤ weighted fs r u) +ℤ pos k *ℤ (weighted fs d v -ℤ weighted fs d u) =
+    weighted-moved fs r d k d long ∙ ap₂ (λ p q. p +ℤ pos k *ℤ q) rd dd in
+    solve (pos (weighted-norm fs r) ∷ pos k ∷ weighted fs r v ∷ weighted fs r u ∷ weighted fs d v ∷ weighted fs d u ∷ [])
+    (x₀ ⊕ x₁ ⊗ (con (pos 2) ⊗ (x₂ ⊝ x₃) ⊕ x₁ ⊗ (x₄ ⊝ x₅))) (x₀ ⊕ x₁ ⊗ (x₂ ⊝ x₃) ⊕ x₁ ⊗ (x₂ ⊝ x₃ ⊕ x₁ ⊗ (x₄ ⊝ x₅))) tt
+    ∙ sym (norm-weighted fs n ∙ weighted-symmetric fs n n ∙ weighted-moved fs r d k n long
+    ∙ ap₂ (λ p q. p +ℤ pos k *ℤ q) (weighted-symmetric fs r n ∙ rn) (weighted-symmetric fs d n ∙ dn))
+
 scores-add : (fs : List ℕ) (r d : List ℤ) (k : ℕ) (rs : List (List ℤ)) → length r ≡ length d → M.scores fs (add r (scale k d)) rs ≡ add (M.scores fs r rs) (scale k (M.scores fs d rs))
 unfolding M.scores add scale
 scores-add fs r d k [] e = refl
 scores-add fs r d k (v ∷ rs) e =
-    ap₂ (λ p q. p ∷ q)
-    (weighted-symmetric fs (add r (scale k d)) v ∙ weighted-add fs v r (scale k d) (e ∙ sym (length-scale k d))
-    ∙ ap₂ (λ p q. p +ℤ q) (weighted-symmetric fs v r) (weighted-scale fs v k d ∙ ap (λ p. pos k *ℤ p) (weighted-symmetric fs v d)))
-    (scores-add fs r d k rs e)
+    ap₂ (λ p q. p ∷ q) (weighted-moved fs r d k v e) (scores-add fs r d k rs e)
+
+norm-zero : (fs : List ℕ) (c : ℕ) → weighted-norm fs (replicate c (pos 0)) ≡ 0
+unfolding weighted-norm
+norm-zero [] c = refl
+norm-zero (f ∷ fs) zero = refl
+norm-zero (f ∷ fs) (suc c) = let h : weighted-norm fs (replicate c (pos 0)) ≡ 0 = norm-zero fs c in omega arith
 
 pub zeros-add : (n : ℕ) (ps : List ℤ) → length ps ≡ n → add (replicate n (pos 0)) ps ≡ ps
 unfolding add
@@ -173,15 +208,17 @@ module _ (b s : List ℕ) (ok : files-refusal b s ≡ 0) where
 
   -- ---- The fresh state
 
-  pub fresh-holds : {p : Least} → p ≡ least-of (boat-products b s 0) → Holds b s 0 (fresh-state p)
-  unfolding plain-problem iterate start direction pick active-argmin least-of fresh-state
-  fresh-holds e =
+  pub fresh-holds : {p : Least} → p ≡ least-of (boat-products b s 0) → {z : ℤ} → z ≡ p .score → Holds b s 0 (record { steps = 0; weight = 0; distance = 0; «target_score» = pos 0; best = p .boat; least = z })
+  unfolding plain-problem iterate start direction pick active-argmin least-of distance
+  fresh-holds e ez =
       let z : residual (plain-problem b s) 0 (start (plain-problem b s)) ≡ replicate (columns b) (pos 0) = residual-start (plain-problem b s) (sheet-fits .target-length) in
       record {
         steps-are = refl;
-        residual-is = rw z (replicate-parts (columns b) 64 (pos 0) (book-fits .most-columns));
+        weight-is = sym (weight-zero fixed);
+        distance-is = rw z (sym (norm-zero (ones (columns b)) (columns b)));
+        target-score-is = rw z (sym (weighted-symmetric (ones (columns b)) (replicate (columns b) (pos 0)) (sheet s .target) ∙ weighted-zero (ones (columns b)) (sheet s .target) (columns b)));
         best-is = ap (λ (x : Least). x .boat) e ∙ sym (active-none 0 _ _ (length (rows b)) _);
-        least-is = ap (λ (x : Least). x .score) e ∙ argmin-at (boat-products b s 0);
+        least-is = ez ∙ ap (λ (x : Least). x .score) e ∙ argmin-at (boat-products b s 0);
       }
 
   -- ---- The next state
@@ -192,19 +229,88 @@ module _ (b s : List ℕ) (ok : files-refusal b s ≡ 0) where
       rw (H .best-is)
       (rw (book-fits .row-count) at (pick-below (plain-problem b s) (direction (plain-problem b s) t (iterate-of b s t)) (iterate-of b s t) (omega (arith, book-fits .row-count, book-fits .some-boats))))
 
-  pub next-holds : {t : ℕ} {x : State} → Holds b s t x → {r : List ℤ} →
-      r ≡ add (residual (plain-problem b s) t (iterate-of b s t)) (scale (suc t) (subtract (row (rows b) (x .best)) (sheet s .target))) ++ replicate (64 - columns b) (pos 0) →
-      {p : Least} → p ≡ pick-of (iterate-of b s (suc t) .shares) (scores-of b s (suc t)) → {z : ℤ} → z ≡ p .score →
-      Holds b s (suc t) (record { steps = suc t; residual = r; best = p .boat; least = z })
-  unfolding plain-problem share pick iterate pick-of
-  next-holds {t} {x} H e ep ez =
-      record {
-        steps-are = refl;
-        residual-is = e ∙ rw (H .best-is) (ap (λ (l : List ℤ). l ++ replicate (64 - columns b) (pos 0))
-            (sym (residual-step (plain-problem b s) t (direction (plain-problem b s) t (iterate-of b s t)) (iterate-of b s t))));
-        best-is = ap (λ (y : Least). y .boat) ep;
-        least-is = ez ∙ ap (λ (y : Least). y .score) ep;
-      }
+  target-size : (i : ℕ) → i < boats b → natAbs (target-product b s i) ≤ 512000000
+  unfolding plain-problem
+  target-size i h =
+      let m : natAbs (weighted (ones (columns b)) (subtract (row (rows b) i) (sheet s .target)) (sheet s .target)) ≤ sum (ones (columns b)) * (4000 * 2000) =
+      E.weighted-bound (ones (columns b)) 4000 2000 (subtract (row (rows b) i) (sheet s .target)) (sheet s .target) (record { each = difference-bounded i h }) (in-range b s ok .target-bounded) in
+      omega (arith, m, few-ones b s ok)
+
+  -- r′ = r + k (v - u)
+  pub residual-next : {t : ℕ} {x : State} → Holds b s t x →
+      residual (plain-problem b s) (suc t) (iterate-of b s (suc t)) ≡ add (residual (plain-problem b s) t (iterate-of b s t)) (scale (suc t) (boat-difference b s (x .best)))
+  unfolding plain-problem share iterate
+  residual-next {t} H = rw (H .best-is) (residual-step (plain-problem b s) t (direction (plain-problem b s) t (iterate-of b s t)) (iterate-of b s t))
+
+  -- a step from t steps, of the boat picked, with its score and its products
+  module _ {t : ℕ} {x : State} (H : Holds b s t x) {score own target : ℤ}
+      (es : score ≡ weighted (ones (columns b)) (residual (plain-problem b s) t (iterate-of b s t)) (row (rows b) (x .best)))
+      (eo : own ≡ getD (boat-products b s (x .best)) (x .best) (pos 0)) (et : target ≡ target-product b s (x .best)) where
+    abbrev r : List ℤ
+    r = residual (plain-problem b s) t (iterate-of b s t)
+
+    row-long : length (row (rows b) (x .best)) ≡ columns b
+    unfolding row
+    row-long = book-fits .row-length (x .best) (best-below H)
+
+    distance-next : moved-distance (x .distance) (suc t) score (x .«target_score») own target ≡ pos (distance (plain-problem b s) (suc t) (iterate-of b s (suc t)))
+    unfolding plain-problem distance
+    distance-next =
+        rw (H .distance-is, H .target-score-is, es, eo, et, score-at (ones (columns b)) (boat-difference b s (x .best)) (rows b) (x .best), residual-next H)
+        (norm-moved (ones (columns b)) r (row (rows b) (x .best)) (sheet s .target) (suc t) (residual-length b s ok t ∙ sym row-long) (row-long ∙ sym (sheet-fits .target-length)))
+
+    target-score-next : x .«target_score» +ℤ pos (suc t) *ℤ target ≡ weighted (ones (columns b)) (residual (plain-problem b s) (suc t) (iterate-of b s (suc t))) (sheet s .target)
+    target-score-next =
+        rw (H .target-score-is, et, residual-next H)
+        (sym (weighted-moved (ones (columns b)) r (boat-difference b s (x .best)) (suc t) (sheet s .target) (residual-length b s ok t ∙ sym (length-difference (x .best) (best-below H)))))
+
+    module _ (few : t < step-limit) where
+      sized : Steppable x score own target
+      unfolding plain-problem
+      sized =
+          let k : x .steps + 1 ≡ suc t = omega (arith, H .steps-are) in
+          let m = score-most (well-formed b s ok) (in-range b s ok) (mixed b s ok t) in
+          let w : weight fixed t ≤ total-limit = weight-most (omega arith) in
+          record {
+            few-shares = rw (H .weight-is) w;
+            moves = rw k (record {
+              distance = rw (H .distance-is) (lt-of-le-of-lt (distance-most (well-formed b s ok) (in-range b s ok) (mixed b s ok t)) (weight-fits w (le-refl 1024000000)));
+              score-size = rw es (omega (arith, m (row (rows b) (x .best)) (in-range b s ok .rows-bounded _ (among-row (rows b) (x .best) (omega (arith, book-fits .row-count, best-below H))))));
+              target-score-size = rw (H .target-score-is) (omega (arith, m (sheet s .target) (in-range b s ok .target-bounded)));
+              own-size = rw eo (product-size (x .best) (best-below H) (x .best) (best-below H));
+              target-size = rw et (target-size (x .best) (best-below H));
+              sign = rw distance-next (≤→≤ℤ {m = 0} {n = distance (plain-problem b s) (suc t) (iterate-of b s (suc t))} (omega arith));
+            });
+          }
+
+      -- as `next` reads them
+      score-read : toZ w64 (ofZ w64 score) ≡ score
+      score-read = read w64 33269760000000 (sized .moves .score-size) tt
+
+      own-read : toZ w32 (ofZ w32 own) ≡ own
+      own-read = read w32 512000000 (sized .moves .own-size) tt
+
+      target-read : toZ w32 (ofZ w32 target) ≡ target
+      target-read = read w32 512000000 (sized .moves .target-size) tt
+
+      pub steppable : Steppable x (toZ w64 (ofZ w64 score)) (toZ w32 (ofZ w32 own)) (toZ w32 (ofZ w32 target))
+      steppable = rw (score-read, own-read, target-read) sized
+
+      pub next-holds : {p : Least} → p ≡ pick-of (iterate-of b s (suc t) .shares) (scores-of b s (suc t)) →
+          {y : State} → y ≡ next-state x (toZ w64 (ofZ w64 score)) (toZ w32 (ofZ w32 own)) (toZ w32 (ofZ w32 target)) p → Holds b s (suc t) y
+      unfolding plain-problem pick pick-of next-state natural
+      next-holds {p} ep {y} ey =
+          let k : x .steps + 1 ≡ suc t = omega (arith, H .steps-are) in
+          let f : y ≡ next-state x score own target p = rw (score-read, own-read, target-read) at ey in
+          rw f
+          (record {
+            steps-are = k;
+            weight-is = rw (H .weight-is, k) (sym (weight-more t));
+            distance-is = rw k (ap natural distance-next);
+            target-score-is = rw k target-score-next;
+            best-is = ap (λ (y : Least). y .boat) ep;
+            least-is = ap (λ (y : Least). y .score) ep;
+          })
 
   -- the shares of the next iterate
   pub next-shares : {t : ℕ} {x : State} → Holds b s t x → set (iterate-of b s t .shares) (x .best) (getD (iterate-of b s t .shares) (x .best) 0 + suc t) ≡ iterate-of b s (suc t) .shares
@@ -214,12 +320,11 @@ module _ (b s : List ℕ) (ok : files-refusal b s ≡ 0) where
   -- the scores move with the residual
   pub next-scores : {t : ℕ} {x : State} → Holds b s t x →
       add (M.scores (ones (columns b)) (residual (plain-problem b s) t (iterate-of b s t)) (rows b)) (scale (suc t) (boat-products b s (x .best))) ≡ scores-of b s (suc t)
-  unfolding plain-problem share iterate direction
+  unfolding direction
   next-scores {t} {x} H =
-      rw (H .best-is)
-      (sym (scores-add (ones (columns b)) (residual (plain-problem b s) t (iterate-of b s t)) (subtract (row (rows b) (pick-at b s t)) (sheet s .target)) (suc t) (rows b)
-      (residual-length b s ok t ∙ sym (length-difference (pick-at b s t) (rw (H .best-is) at (best-below H)))))
-      ∙ ap (λ r. M.scores (ones (columns b)) r (rows b)) (sym (residual-step (plain-problem b s) t (direction (plain-problem b s) t (iterate-of b s t)) (iterate-of b s t))))
+      sym (scores-add (ones (columns b)) (residual (plain-problem b s) t (iterate-of b s t)) (boat-difference b s (x .best)) (suc t) (rows b)
+      (residual-length b s ok t ∙ sym (length-difference (x .best) (best-below H))))
+      ∙ ap (λ r. M.scores (ones (columns b)) r (rows b)) (sym (residual-next H))
 
   -- at the first step they are the boat's products
   pub first-scores : {x : State} → Holds b s 0 x → boat-products b s (x .best) ≡ scores-of b s 1

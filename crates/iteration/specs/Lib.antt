@@ -1,3 +1,4 @@
 -- The definitions of this crate.
 pub mod States
+pub mod Moves
 pub mod Measures

@@ -1,17 +1,16 @@
 -- Where the files' values stand, and what a state of the search holds. Assumes nothing.
 use mathlib.Core.Path.{_≡_}
-use mathlib.Core.List.{List, _++_}
-use Prim.Native.Nat.{ℕ, _-_}
-use lib.ListN.{replicate}
-use lib.IntN.{ℤ, pos}
+use mathlib.Core.List.{List}
+use Prim.Native.Nat.{ℕ}
+use lib.IntN.{ℤ}
 use Rattle.files.specs.Book.{boats, columns, rows, rows-offset}
 use Rattle.files.specs.Sheet.{sheet, target-offset}
+use Rattle.method.specs.Problem.{fixed, weight}
 use Rattle.method.specs.Plain.{plain-problem}
 use Rattle.method.specs.Iterates as M
-use Rattle.method.specs.Iterates.{Iterate, iterate, direction, pick, row}
+use Rattle.method.specs.Iterates.{Iterate, iterate, direction, pick, row, residual, distance}
 use Rattle.method.specs.Minimum.{minimum}
-use Rattle.frank_wolfe.specs.Vectors.{subtract, ones}
-use Rattle.scoring.specs.declared.Least.{Least}
+use Rattle.frank_wolfe.specs.Vectors.{subtract, weighted, ones}
 use Rattle.iteration.specs.declared.Layout.{Layout}
 use Rattle.iteration.specs.declared.State.{State}
 
@@ -38,13 +37,15 @@ boat-difference b s i = subtract (row (rows b) i) (sheet s .target)
 abbrev pub boat-products : (b s : List ℕ) → (boat : ℕ) → List ℤ
 boat-products b s i = M.scores (ones (columns b)) (boat-difference b s i) (rows b)
 
--- the state before the first step, which picks p
-unfoldable pub fresh-state : (p : Least) → State
-fresh-state p = record { steps = 0; residual = replicate 64 (pos 0); best = p .boat; least = p .score }
+-- and with the target
+abbrev pub target-product : (b s : List ℕ) → (boat : ℕ) → ℤ
+target-product b s i = weighted (ones (columns b)) (boat-difference b s i) (sheet s .target)
 
--- the state x holds the residual of the iterate after t steps, and the boat that the next step picks, with its score, which is the least
+-- the state x holds W, E and the target's score of the iterate after t steps, and the boat that the next step picks, with its score, which is the least
 pub record Holds (b s : List ℕ) (t : ℕ) (x : State) : Type 0 where
   pub steps-are : x .steps ≡ t
-  pub residual-is : x .residual ≡ M.residual (plain-problem b s) t (iterate-of b s t) ++ replicate (64 - columns b) (pos 0)
+  pub weight-is : x .weight ≡ weight fixed t
+  pub distance-is : x .distance ≡ distance (plain-problem b s) t (iterate-of b s t)
+  pub target-score-is : x .«target_score» ≡ weighted (ones (columns b)) (residual (plain-problem b s) t (iterate-of b s t)) (sheet s .target)
   pub best-is : x .best ≡ pick-at b s t
   pub least-is : x .least ≡ minimum (scores-of b s t)

@@ -3,19 +3,19 @@
 // All functions are helpers for other crates, whose callers prove what they require.
 ghost use mathlib.Core.Path.{_≡_};
 ghost use mathlib.Core.List.{_++_};
-ghost use Prim.Native.Nat.{_+_, _-_, _≤_, _<_};
+ghost use Prim.Native.Nat.{_-_, _≤_, _<_};
 ghost use lib.ListN.{length, take, drop, replicate};
 ghost use lib.IntN.{pos};
 ghost use Rattle.files.specs.Book.{boats, columns};
 ghost use Rattle.files.specs.Sheet.{files-refusal};
 ghost use Rattle.files.specs.Bytes.{values};
 ghost use Rattle.method.specs.declared.Test.the-variants.{Sharper};
-ghost use Rattle.method.specs.Problem.{fixed, weight};
 ghost use Rattle.method.specs.Plain.{plain-problem};
 ghost use Rattle.method.specs.Answers.{answer-at};
-ghost use Rattle.scoring.specs.Scores.{least-of, pick-of};
-ghost use Rattle.iteration.specs.States.{file-layout, boat-difference, boat-products, iterate-of, scores-of, pick-at, fresh-state, Holds};
-ghost use Rattle.iteration.specs.Measures.{measure, tolerance-of, Measurable, Answerable};
+ghost use Rattle.scoring.specs.Scores.{least-of};
+ghost use Rattle.iteration.specs.States.{file-layout, boat-difference, boat-products, target-product, iterate-of, pick-at, Holds};
+ghost use Rattle.iteration.specs.Moves.{moved-distance, Moves, next-state, Steppable};
+ghost use Rattle.iteration.specs.Measures.{answer-by, measure, tolerance-of, Answerable, Measurable};
 use method::Answer;
 use method::Test;
 use scoring::Least;
@@ -55,19 +55,22 @@ fn difference_of(boat: usize, book: &[u8], sheet: &[u8], layout: Layout) -> [i16
     sums::difference(book, row, sheet, target, columns)
 }
 
-// The products <v - u, w> of a boat's row v less the target with every row w, in the first slots of `to`.
-pub fn products_of(boat: usize, book: &[u8], sheet: &[u8], layout: Layout, to: &mut [i32])
+// The products <v - u, w> of a boat's row v less the target u with every row w, in the first slots of `to`, and that with the target.
+pub fn products_of(boat: usize, book: &[u8], sheet: &[u8], layout: Layout, to: &mut [i32]) -> i32
     requires { ⌜ files-refusal (now book) (now sheet) ≡ 0 ⌝ }
     requires { ⌜ layout ≡ file-layout (now book) (now sheet) ⌝ }
     requires { ⌜ boat < boats (now book) ⌝ }
     requires { ⌜ boats (now book) ≤ length (now to) ⌝ }
     ensures { λ _. ⌜ now (to .exit) ≡ boat-products (now (book .entry)) (now (sheet .entry)) boat ++ drop (boats (now (book .entry))) (now (to .entry)) ⌝ }
+    ensures { λ x. ⌜ x ≡ target-product (now (book .entry)) (now (sheet .entry)) boat ⌝ }
 {
     let rows = layout.rows;
+    let target = layout.target;
     let boats = layout.boats;
     let columns = layout.columns;
     let d = difference_of(boat, book, sheet, layout);
     scoring::products(&d, book, rows, boats, columns, to);
+    sums::narrow_inner(&d, sheet, target, columns)
 }
 
 // The least of a boat's products. Of boat 0 it gives the first pick, before which no boat holds shares.
@@ -84,11 +87,25 @@ pub fn least_product_of(boat: usize, book: &[u8], sheet: &[u8], layout: Layout) 
     scoring::least_product(&d, book, rows, boats, columns)
 }
 
-// A run after some steps: the residual r = y - W u, one entry a column and 0 in later slots, and the boat that the next step
-// picks, with its score. The shares and the scores of the other boats are kept beside it.
+// E of the residual r + k d, where d is a row v less the target u, from E of r: E + 2 k (<r, v> - <r, u>) + k² (<d, v> - <d, u>).
+fn distance_after(e: u64, k: u32, score: i64, target_score: i64, own: i32, target: i32) -> u64
+    requires { do ⌜ k ≤ (← ⟦State::MOST_STEPS⟧) ⌝ }
+    requires { ⌜ Moves e k score «target_score» own target ⌝ }
+    ensures { λ r. ⌜ pos r ≡ moved-distance e k score «target_score» own target ⌝ }
+{
+    let z = k as i64;
+    let slope = 2 * (score - target_score);
+    let curve = z * (own as i64 - target as i64);
+    (e as i64 + z * (slope + curve)) as u64
+}
+
+// A run after some steps: W, E and the score <r, u> of the target under the residual r = y - W u, and the boat that the next
+// step picks, with its score. The shares and the scores of the boats are kept beside it.
 pub struct State {
     pub steps: u32,
-    pub residual: [i32; 64],
+    pub weight: u32,
+    pub distance: u64,
+    pub target_score: i64,
     pub best: usize,
     pub least: i64,
 }
@@ -97,41 +114,65 @@ impl State {
     // A run takes at most as many steps as a sheet may ask for, 360.
     pub const MOST_STEPS: u32 = files::MOST_STEPS;
 
-    // No step taken, r = 0. `first` is the boat that the first step picks.
-    pub fn fresh(first: Least) -> State
-        ensures { λ r. ⌜ r ≡ fresh-state first ⌝ }
+    // No step taken, r = 0, and the boat that the first step picks.
+    pub fn fresh(book: &[u8], sheet: &[u8], layout: Layout) -> State
+        requires { ⌜ files-refusal (now book) (now sheet) ≡ 0 ⌝ }
+        requires { ⌜ layout ≡ file-layout (now book) (now sheet) ⌝ }
+        ensures { λ r. ⌜ Holds (now (book .entry)) (now (sheet .entry)) 0 r ⌝ }
     {
+        let first = least_product_of(0, book, sheet, layout);
         State {
             steps: 0,
-            residual: [0i32; 64],
+            weight: 0,
+            distance: 0,
+            target_score: 0,
             best: first.boat,
             least: first.score,
         }
     }
 
-    // Step k: the boat picked gets k shares more, and the residual moves. `pick` is the boat that the step after it picks.
-    pub fn next(self, book: &[u8], sheet: &[u8], layout: Layout, pick: Least) -> State
-        requires { ⌜ files-refusal (now book) (now sheet) ≡ 0 ⌝ }
-        requires { ⌜ layout ≡ file-layout (now book) (now sheet) ⌝ }
-        requires { ⌜ Holds (now book) (now sheet) (self .steps) self ⌝ }
+    // Step k: the boat picked gets k shares more, and the residual moves by k d, where d is its row less the target. `score` is its score
+    // under r before the step, `own` the product of d with its row, `target` that with the target; `pick` is the boat that the step after it picks.
+    pub fn next(self, score: i64, own: i32, target: i32, pick: Least) -> State
         requires { do ⌜ self .steps < (← ⟦State::MOST_STEPS⟧) ⌝ }
-        requires { ⌜ pick ≡ pick-of (iterate-of (now book) (now sheet) (self .steps + 1) .shares) (scores-of (now book) (now sheet) (self .steps + 1)) ⌝ }
-        ensures { λ r. ⌜ Holds (now (book .entry)) (now (sheet .entry)) (self .steps + 1) r ⌝ }
+        requires { ⌜ Steppable self score own target ⌝ }
+        ensures { λ r. ⌜ r ≡ next-state self score own target pick ⌝ }
     {
-        let rows = layout.rows;
-        let target = layout.target;
-        let columns = layout.columns;
-        let best = self.best;
         let k = self.steps + 1;
-        let r = self.residual;
-        let at = rows + 2 * (best * columns);
-        let residual = sums::moved(r, book, at, sheet, target, columns, k);
+        let target_score = self.target_score;
+        let distance = distance_after(self.distance, k, score, target_score, own, target);
         State {
             steps: k,
-            residual,
+            weight: self.weight + k,
+            distance,
+            target_score: target_score + k as i64 * target as i64,
             best: pick.boat,
             least: pick.score,
         }
+    }
+}
+
+// The answer of total w, distance E and the target's score after so many steps, with the least of the boats' scores, judged by the test.
+fn answered(
+    test: Test,
+    steps: u32,
+    w: u32,
+    e: u64,
+    target_score: i64,
+    least: i64,
+    sheet: &[u8],
+) -> Answer
+    requires { ⌜ Answerable e w «target_score» least (now sheet) ⌝ }
+    ensures { λ x. ⌜ x ≡ answer-by test steps w (tolerance-of (now (sheet .entry))) e «target_score» least ⌝ }
+{
+    let g = sums::gap_of(e, w, target_score, least);
+    let verdict = verdicts::judge(test, files::tolerance(sheet), w, e, g);
+    Answer {
+        steps,
+        weight: w,
+        distance: e,
+        gap: g,
+        verdict,
     }
 }
 
@@ -152,15 +193,7 @@ pub fn measured(
     let target = layout.target;
     let e = sums::squared_norm(r, columns);
     let target_score = sums::inner_at(r, sheet, target, columns);
-    let g = sums::gap_of(e, w, target_score, least);
-    let verdict = verdicts::judge(test, files::tolerance(sheet), w, e, g);
-    Answer {
-        steps,
-        weight: w,
-        distance: e,
-        gap: g,
-        verdict,
-    }
+    answered(test, steps, w, e, target_score, least, sheet)
 }
 
 // The answer after the first step, which picks this boat. No state is made, for a run that ends here.
@@ -181,20 +214,18 @@ pub fn first_answer(boat: usize, book: &[u8], sheet: &[u8], layout: Layout) -> A
 
 impl State {
     // The answer after the steps taken.
-    pub fn answer(self, sheet: &[u8], layout: Layout) -> Answer
-        requires { ⌜ Answerable self (now sheet) layout ⌝ }
-        ensures { λ x. ⌜ x ≡ measure Sharper (self .steps) (weight fixed (self .steps)) (tolerance-of (now (sheet .entry))) (take (layout .columns) (self .residual)) (values (layout .columns) (drop (layout .target) (now (sheet .entry)))) (self .least) ⌝ }
+    pub fn answer(self, sheet: &[u8]) -> Answer
+        requires { ⌜ Answerable (self .distance) (self .weight) (self .«target_score») (self .least) (now sheet) ⌝ }
+        ensures { λ x. ⌜ x ≡ answer-by Sharper (self .steps) (self .weight) (tolerance-of (now (sheet .entry))) (self .distance) (self .«target_score») (self .least) ⌝ }
     {
-        let t = self.steps;
-        let r = self.residual;
-        measured(
+        answered(
             Test::Sharper,
-            t,
-            totals::total_after(t),
-            &r,
+            self.steps,
+            self.weight,
+            self.distance,
+            self.target_score,
             self.least,
             sheet,
-            layout,
         )
     }
 }

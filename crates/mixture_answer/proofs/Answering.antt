@@ -34,8 +34,8 @@ use Rattle.scoring.specs.Scores.{least-of}
 use Rattle.iteration.specs.declared.Layout.{Layout}
 use Rattle.iteration.specs.States.{file-layout}
 use Rattle.iteration.specs.Measures.{measure, Measurable}
-use Rattle.iteration.proofs.Mixed.{least-size, mixed-sized, mixed-judged, mixed-answer}
-use Rattle.iteration.proofs.States.{book-fits, sheet-fits, target-span, target-is, grid, bounded-front}
+use Rattle.iteration.proofs.Mixed.{least-size, mixed-answerable, mixed-answer}
+use Rattle.iteration.proofs.States.{book-fits, target-span, target-is, grid, bounded-front}
 
 pub all-rows : (b s : List ℕ) → files-refusal b s ≡ 0 → {l : Layout} → l ≡ file-layout b s → Grid b (l .rows) (l .boats) (l .columns)
 unfolding file-layout
@@ -92,11 +92,9 @@ module _ (b s : List ℕ) (ok : files-refusal b s ≡ 0) {l : Layout} (e : l ≡
         measurable =
             rw (e, least-read)
             (record {
-              whole = sheet-fits b s ok .at-least;
               target = target-span b s ok;
               entries = rw e at entries;
-              sized = rw (residual-is, target-is b s ok) (mixed-sized b s ok some few mixed);
-              judged = rw (residual-is, target-is b s ok) (mixed-judged b s ok some few mixed);
+              numbers = rw (residual-is, target-is b s ok) (mixed-answerable b s ok some few mixed);
             })
 
         pub answered : (test : Test) {a : Answer} →

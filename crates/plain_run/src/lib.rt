@@ -35,15 +35,14 @@ pub fn run(book: &[u8], sheet: &[u8], shares: &mut [u16]) -> Answer
     let layout = iteration::layout_of(book, sheet);
     let boats = layout.boats;
     clear(shares, boats);
-    let pick = iteration::least_product_of(0, book, sheet, layout);
-    let boat = pick.boat;
+    let start = State::fresh(book, sheet, layout);
+    let boat = start.best;
     let answer = iteration::first_answer(boat, book, sheet, layout);
     let verdict = answer.verdict;
     if verdicts::stops(files::steps(sheet), 1, verdict) {
         run_loop::add_shares(shares, boat, 1);
         return answer;
     }
-    let start = State::fresh(pick);
     if boats <= 16 {
         let mut scores = [0i64; 16];
         let mut memory = [0i32; 1024];

@@ -1,18 +1,20 @@
 -- What a run keeps from step to step: shares, scores and the memory of products follow the state. Assumes nothing.
 use mathlib.Core.Path.{_≡_, refl, sym, ap, _∙_}
 use mathlib.Core.List.{List, _++_}
-use Prim.Native.Nat.{ℕ, suc, _+_, _*_, _-_, _≤_, _<_}
+use Prim.Native.Nat.{ℕ, suc, _+_, _*_, _-_, _%_, _≤_, _<_}
 use native.Mathlib.Nat.{le-of-lt}
 use native.Mathlib.Omega.{arith}
 use native.Mathlib.Numerals.{add-one}
 use lib.IntN.{ℤ, pos}
 use lib.ListN.{length, getD, set, take, drop, replicate, length-append, length-replicate, take-append-drop}
-use lib.Seq.{getD-take, take-at, drop-at, set-append-left, length-front, length-take-le}
+use lib.Seq.{getD-take, getD-drop, take-at, drop-at, set-append-left, length-front, length-take-le}
+use mir.Syntax.{w32, w64}
+use mir.Val.{toZ, ofZ}
 use Rattle.integers.proofs.Filling.{replicate-parts}
 use Rattle.files.specs.Book.{boats, columns, rows}
 use Rattle.files.specs.Sheet.{files-refusal}
 use Rattle.files.specs.Limits.{step-limit, total-limit}
-use Rattle.frank_wolfe.specs.Vectors.{add, scale, ones}
+use Rattle.frank_wolfe.specs.Vectors.{add, scale, weighted, ones}
 use Rattle.method.specs.Problem.{fixed, weight}
 use Rattle.method.specs.Plain.{plain-problem}
 use Rattle.method.specs.Iterates.{iterate, start, residual, direction, row}
@@ -26,11 +28,12 @@ use Rattle.scoring.specs.Scores.{least-of, pick-of, Pickable}
 use Rattle.scoring.specs.declared.Least.{Least}
 use Rattle.iteration.specs.declared.Layout.{Layout}
 use Rattle.iteration.specs.declared.State.{State}
-use Rattle.iteration.specs.States.{file-layout, iterate-of, scores-of, pick-at, boat-products, fresh-state, Holds}
-use Rattle.iteration.proofs.States.{book-fits, sheet-fits, best-below, rescorable, fresh-holds, next-shares, next-scores, scores-zero}
-use Rattle.run_loop.specs.Runs.{Going, Shares-at, Scores-at, Products, Remembered, Memory, memory-of, remembering, memory-after}
+use Rattle.iteration.specs.States.{file-layout, iterate-of, scores-of, boat-products, Holds}
+use Rattle.iteration.specs.Moves.{next-state, Steppable}
+use Rattle.iteration.proofs.States.{book-fits, sheet-fits, best-below, rescorable, steppable, next-holds, next-shares, next-scores, scores-zero}
+use Rattle.run_loop.specs.Runs.{Going, Shares-at, Scores-at, Products, Remembered, Target, Aimed, Memory, memory-of, remembering, memory-after}
 use Rattle.run_loop.proofs.Runs.{going-start}
-use Rattle.run_loop.proofs.Memory.{remembers-nothing}
+use Rattle.run_loop.proofs.Memory.{remembers-nothing, aims-nothing}
 
 take-replicate : {A : Type 0} (n m : ℕ) (a : A) → n ≤ m → take n (replicate m a) ≡ replicate n a
 take-replicate n m a h = rw (replicate-parts n m a h) (take-at (replicate n a) (replicate (m - n) a) n (length-replicate n a))
@@ -176,40 +179,38 @@ module _ (b s : List ℕ) (ok : files-refusal b s ≡ 0) where
   unfolding file-layout
   boats-fit e h = rw e h
 
-  -- the boat that the first step picks
-  pub picks : {p : Least} → p ≡ least-of (boat-products b s 0) → p .boat ≡ pick-at b s 0
-  unfolding fresh-state
-  picks e = fresh-holds b s ok e .best-is
-
-  pub first-held : {p : Least} → p ≡ least-of (boat-products b s 0) → {x : State} → x ≡ fresh-state p → Holds b s 0 x
-  first-held e f = rw f (fresh-holds b s ok e)
-
-  module _ {p : Least} (e : p ≡ least-of (boat-products b s 0)) {qs z : List ℕ} (q : Shared b s 0 qs z) where
-    pub first-room : (p .boat < length qs) × (getD qs (p .boat) 0 + 1 < 65536)
-    unfolding fresh-state
-    first-room = share-room (fresh-holds b s ok e) (omega arith) q
-
-    pub first-shares : {rs : List ℕ} → rs ≡ set qs (p .boat) (getD qs (p .boat) 0 + 1) → Shared b s 1 rs z
-    unfolding fresh-state
-    first-shares f = shares-next (fresh-holds b s ok e) (omega arith) q f
-
 pub behind : (front : List ℕ) {new z z′ : List ℕ} → new ≡ front ++ z → z ≡ z′ → new ≡ front ++ z′
 behind front f e = f ∙ ap (λ l. front ++ l) e
 
+pub counted : (x : State) (score own target : ℤ) (p : Least) {y : State} → y ≡ next-state x score own target p → y .steps ≡ x .steps + 1
+unfolding next-state
+counted x score own target p e = ap (λ (z : State). z .steps) e
+
+-- ---- A boat's own numbers
+
+pub own-score : {b s : List ℕ} {t : ℕ} {sc : List ℤ} → Scores-at b s t sc → {i : ℕ} → i < boats b →
+    getD sc i (pos 0) ≡ weighted (ones (columns b)) (residual (plain-problem b s) t (iterate-of b s t)) (row (rows b) i)
+own-score {b} {s} {t} {sc} S {i} h =
+    sym (getD-take (boats b) sc i (pos 0) h) ∙ ap (λ (z : List ℤ). getD z i (pos 0)) (S .are) ∙ score-at (ones (columns b)) (residual (plain-problem b s) t (iterate-of b s t)) (rows b) i
+
+pub own-product : {b s : List ℕ} {i : ℕ} {ps : List ℤ} → Products b s i ps → i < boats b → getD ps i (pos 0) ≡ getD (boat-products b s i) i (pos 0)
+own-product {b} {s} {i} {ps} P h = sym (getD-take (boats b) ps i (pos 0) h) ∙ ap (λ (z : List ℤ). getD z i (pos 0)) (P .are)
+
 -- ---- The loop of a run
 
-pub record Kept (b s : List ℕ) (x : State) (shares₀ shares : List ℕ) (scores₀ scores : List ℤ) (tags : List ℕ) (memory₀ memory : List ℤ) : Type 0 where
+pub record Kept (b s : List ℕ) (x : State) (shares₀ shares : List ℕ) (scores₀ scores : List ℤ) (tags : List ℕ) (targets memory₀ memory : List ℤ) : Type 0 where
   pub going : Going b s x
   pub shared : Shared b s (x .steps) shares (drop (boats b) shares₀)
   pub scored : Scores-at b s (x .steps) scores
   pub scores-long : length scores ≡ length scores₀
   pub scores-rest : drop (boats b) scores ≡ drop (boats b) scores₀
   pub remembered : Remembered b s tags memory
+  pub aimed : Aimed b s tags targets
   pub memory-long : length memory ≡ length memory₀
   pub memory-is : memory-of tags memory ≡ memory-after b s (x .steps) memory₀
 
 pub kept-start : (b s : List ℕ) → files-refusal b s ≡ 0 → {x : State} → Holds b s 0 x → {shares : List ℕ} → Shares-at b s 0 shares → {scores : List ℤ} → Scores-at b s 0 scores →
-    {memory : List ℤ} → 64 * boats b ≤ length memory → Kept b s x shares shares scores scores (replicate 64 0) memory memory
+    {memory : List ℤ} → 64 * boats b ≤ length memory → Kept b s x shares shares scores scores (replicate 64 0) (replicate 64 (pos 0)) memory memory
 unfolding memory-after
 kept-start b s ok {x} H {shares} q {scores} S room =
     record {
@@ -219,6 +220,7 @@ kept-start b s ok {x} H {shares} q {scores} S room =
       scores-long = refl;
       scores-rest = refl;
       remembered = remembers-nothing b s room;
+      aimed = aims-nothing b s;
       memory-long = refl;
       memory-is = rw (H .steps-are);
     }
@@ -226,8 +228,8 @@ kept-start b s ok {x} H {shares} q {scores} S room =
 pub shared-end : {b s : List ℕ} {t : ℕ} {qs z : List ℕ} → Shared b s t qs z → {rs : List ℕ} → iterate-of b s t .shares ≡ rs → qs ≡ rs ++ z
 shared-end {z = z} q e = q .is ∙ ap (λ (l : List ℕ). l ++ z) e
 
-module _ (b s : List ℕ) (ok : files-refusal b s ≡ 0) {x : State} {shares₀ shares : List ℕ} {scores₀ scores : List ℤ} {tags : List ℕ} {memory₀ memory : List ℤ}
-    (K : Kept b s x shares₀ shares scores₀ scores tags memory₀ memory) where
+module _ (b s : List ℕ) (ok : files-refusal b s ≡ 0) {x : State} {shares₀ shares : List ℕ} {scores₀ scores : List ℤ} {tags : List ℕ} {targets memory₀ memory : List ℤ}
+    (K : Kept b s x shares₀ shares scores₀ scores tags targets memory₀ memory) where
   pub few-here : x .steps < step-limit
   few-here = omega (arith, K .going .left, sheet-fits b s ok .most-steps)
 
@@ -253,6 +255,21 @@ module _ (b s : List ℕ) (ok : files-refusal b s ≡ 0) {x : State} {shares₀ 
 
     pub pick-here : {p : Least} → p ≡ pick-of (take (l .boats) qs) (take (l .boats) new) → p ≡ pick-of (iterate-of b s (x .steps + 1) .shares) (scores-of b s (x .steps + 1))
     pick-here h = pick-next b s ok g (K .going .held) few-here (K .scored) P f (shared-next q) h
+
+  -- ---- The step, with the score, the own product and the product with the target as the machine has them
+
+  module _ {l : Layout} (g : l ≡ file-layout b s) (ms : List ℤ) (P : Products b s (x .best) (drop (x .best % 64 * boats b) ms)) {us : List ℤ} (A : Target b s (x .best) us) where
+    own-is : getD ms (x .best % 64 * l .boats + x .best) (pos 0) ≡ getD (boat-products b s (x .best)) (x .best) (pos 0)
+    unfolding file-layout
+    own-is = rw g (sym (getD-drop (x .best % 64 * boats b) ms (x .best) (pos 0)) ∙ own-product P best-here)
+
+    pub steppable-here : Steppable x (toZ w64 (ofZ w64 (getD scores (x .best) (pos 0)))) (toZ w32 (ofZ w32 (getD ms (x .best % 64 * l .boats + x .best) (pos 0)))) (toZ w32 (ofZ w32 (getD us (x .best % 64) (pos 0))))
+    steppable-here = steppable b s ok (K .going .held) (own-score (K .scored) best-here) own-is (A .is) few-here
+
+    pub next-here : {p : Least} → p ≡ pick-of (iterate-of b s (x .steps + 1) .shares) (scores-of b s (x .steps + 1)) →
+        {y : State} → y ≡ next-state x (toZ w64 (ofZ w64 (getD scores (x .best) (pos 0)))) (toZ w32 (ofZ w32 (getD ms (x .best % 64 * l .boats + x .best) (pos 0)))) (toZ w32 (ofZ w32 (getD us (x .best % 64) (pos 0)))) p →
+        Holds b s (x .steps + 1) y
+    next-here ep ey = rw add-one (next-holds b s ok (K .going .held) (own-score (K .scored) best-here) own-is (A .is) few-here (rw add-one at ep) ey)
 
   -- ---- What is kept after the step, which leads to n steps
 

@@ -8,7 +8,7 @@ use native.Mathlib.Omega.{arith}
 use native.Mathlib.Numerals.{add-one}
 use borrow.Author.Tests.{ltb-true, ltb-false, eq-eqb, ne-eqb}
 use lib.Dec.{ltb}
-use lib.IntN.{ℤ}
+use lib.IntN.{ℤ, pos}
 use lib.ListN.{length, getD, set, take, drop, replicate, length-drop, length-set, take-append-drop}
 use borrow.Rule.Slice.PartMut.{putMid}
 use lib.Seq.{paste, drop-length, drop-append-le, take-append-le, take-at, drop-at, drop-drop, drop-paste, take-all, length-paste, length-take-le, getD-set-same, getD-set-other}
@@ -17,9 +17,9 @@ use mir.Val.{Fits}
 use Rattle.files.specs.Book.{boats}
 use Rattle.files.specs.Sheet.{files-refusal}
 use Rattle.iteration.specs.declared.Layout.{Layout}
-use Rattle.iteration.specs.States.{file-layout, boat-products}
+use Rattle.iteration.specs.States.{file-layout, boat-products, target-product}
 use Rattle.iteration.proofs.States.{book-fits, product-count}
-use Rattle.run_loop.specs.Runs.{Products, Remembered, memory-of, remembering}
+use Rattle.run_loop.specs.Runs.{Products, Remembered, Target, Aimed, memory-of, remembering}
 
 -- ---- A part of a list in which another part was replaced
 
@@ -52,6 +52,14 @@ module _ (d row : List ℤ) (at n p : ℕ) (hd : at + n ≤ length d) (hr : n �
       ∙ take-at (take n row) (drop (at + n) d) n (length-take-le n row hr)
 
 -- ---- Slots
+
+either : (j k : ℕ) {A : Type 0} → (j ≡ k → A) → ((j ≡ k → ⊥) → A) → A
+either j k {A} same differs = by (ltb j k) (ltb k j) refl refl
+  where
+    by : (t r : Bool) → ltb j k ≡ t → ltb k j ≡ r → A
+    by true r a c = differs (λ f. omega (arith, ltb-true j k a))
+    by false true a c = differs (λ f. omega (arith, ltb-true k j c))
+    by false false a c = same (omega (arith, ltb-false j k a, ltb-false k j c))
 
 -- two slots of n numbers do not overlap
 apart : (j k n : ℕ) → j < k → j * n + n ≤ k * n
@@ -86,6 +94,19 @@ module _ (b s : List ℕ) (ok : files-refusal b s ≡ 0) {tags : List ℕ} {memo
   pub slot-starts : {l : Layout} → l ≡ file-layout b s → i % 64 * l .boats ≤ length memory
   unfolding file-layout
   slot-starts e = rw e (omega (arith, slot-room))
+
+  -- the boat's own product in its slot
+  pub own-fits : {l : Layout} → l ≡ file-layout b s → Fits w64 (i % 64 * l .boats + i)
+  unfolding file-layout
+  own-fits e = rw e (record { fits = omega (arith, apart (i % 64) 64 (boats b) slot-below, book-fits b s ok .most-boats) })
+
+  pub own-bytes-fit : {l : Layout} → l ≡ file-layout b s → Fits w64 ((i % 64 * l .boats + i) * 4)
+  unfolding file-layout
+  own-bytes-fit e = rw e (record { fits = omega (arith, apart (i % 64) 64 (boats b) slot-below, book-fits b s ok .most-boats) })
+
+  pub own-inside : {l : Layout} → l ≡ file-layout b s → i % 64 * l .boats + i < length memory
+  unfolding file-layout
+  own-inside e = rw e (omega (arith, slot-room))
 
   pub slot-part : {l : Layout} → l ≡ file-layout b s → Products b s i (drop (i % 64 * boats b) memory) →
       Products b s i (take (length memory - i % 64 * l .boats) (drop (i % 64 * l .boats) memory))
@@ -131,7 +152,7 @@ module _ (b s : List ℕ) (ok : files-refusal b s ≡ 0) {tags : List ℕ} {memo
     known = (record { slots = length-set tags (i % 64) (i + 1) ∙ R .slots; room = omega (arith, m-long, R .room); products = every }, here)
       where
         every : (j q : ℕ) → j < 64 → getD (set tags (i % 64) (i + 1)) j 0 ≡ suc q → Products b s q (drop (j * boats b) m)
-        every j q hj e = by (ltb j (i % 64)) (ltb (i % 64) j) refl refl
+        every j q hj e = either j (i % 64) same differs
           where
             same : j ≡ i % 64 → Products b s q (drop (j * boats b) m)
             same f =
@@ -141,11 +162,6 @@ module _ (b s : List ℕ) (ok : files-refusal b s ≡ 0) {tags : List ℕ} {memo
 
             differs : (j ≡ i % 64 → ⊥) → Products b s q (drop (j * boats b) m)
             differs ne = elsewhere j q hj ne (R .products j q hj (sym (getD-set-other tags (i % 64) j (i + 1) 0 ne) ∙ e))
-
-            by : (t r : Bool) → ltb j (i % 64) ≡ t → ltb (i % 64) j ≡ r → Products b s q (drop (j * boats b) m)
-            by true r a c = differs (λ f. omega (arith, ltb-true j (i % 64) a))
-            by false true a c = differs (λ f. omega (arith, ltb-true (i % 64) j c))
-            by false false a c = same (omega (arith, ltb-false j (i % 64) a, ltb-false (i % 64) j c))
 
   whole-part : take (length memory - i % 64 * boats b) (drop (i % 64 * boats b) memory) ≡ drop (i % 64 * boats b) memory
   whole-part = take-all (length memory - i % 64 * boats b) (drop (i % 64 * boats b) memory) (rw length-drop (omega arith))
@@ -172,6 +188,29 @@ module _ (b s : List ℕ) (ok : files-refusal b s ≡ 0) {tags : List ℕ} {memo
       let k = known q in
       rw e (k .0, (k .1, rw (ne-eqb _ _ ne, q)))
 
+-- the products with the target
+module _ (b s : List ℕ) {tags : List ℕ} {targets : List ℤ} (A : Aimed b s tags targets) (long : length tags ≡ 64) (i : ℕ) where
+  pub kept-aim : getD tags (i % 64) 0 ≡ i + 1 → Aimed b s tags targets × Target b s i targets
+  kept-aim e = (A, record { is = A .each (i % 64) i (omega arith) (e ∙ add-one i) })
+
+  pub learnt-aim : {z : ℤ} → z ≡ target-product b s i → Aimed b s (set tags (i % 64) (i + 1)) (set targets (i % 64) z) × Target b s i (set targets (i % 64) z)
+  learnt-aim {z} ez = (record { slots = length-set targets (i % 64) z ∙ A .slots; each = every }, record { is = here })
+    where
+      here : getD (set targets (i % 64) z) (i % 64) (pos 0) ≡ target-product b s i
+      here = getD-set-same targets (i % 64) z (pos 0) (omega (arith, A .slots)) ∙ ez
+
+      every : (j q : ℕ) → j < 64 → getD (set tags (i % 64) (i + 1)) j 0 ≡ suc q → getD (set targets (i % 64) z) j (pos 0) ≡ target-product b s q
+      every j q hj e = either j (i % 64) same differs
+        where
+          same : j ≡ i % 64 → getD (set targets (i % 64) z) j (pos 0) ≡ target-product b s q
+          same f =
+              let g : i + 1 ≡ suc q = sym (getD-set-same tags (i % 64) (i + 1) 0 (omega (arith, long))) ∙ (rw f at e) in
+              let k : i ≡ q = omega arith in
+              rw (f, ← k) here
+
+          differs : (j ≡ i % 64 → ⊥) → getD (set targets (i % 64) z) j (pos 0) ≡ target-product b s q
+          differs ne = getD-set-other targets (i % 64) j z (pos 0) ne ∙ A .each j q hj (sym (getD-set-other tags (i % 64) j (i + 1) 0 ne) ∙ e)
+
 -- nothing is remembered at first
 zeros : (n j : ℕ) → _≡_ {A = ℕ} (getD (replicate n 0) j 0) 0
 zeros zero j = refl
@@ -180,6 +219,9 @@ zeros (suc n) (suc j) = zeros n j
 
 pub remembers-nothing : (b s : List ℕ) {memory : List ℤ} → 64 * boats b ≤ length memory → Remembered b s (replicate 64 0) memory
 remembers-nothing b s h = record { slots = refl; room = h; products = λ j i hj e. absurd (omega (arith, zeros 64 j, e)) }
+
+pub aims-nothing : (b s : List ℕ) → Aimed b s (replicate 64 0) (replicate 64 (pos 0))
+aims-nothing b s = record { slots = refl; each = λ j i hj e. absurd (omega (arith, zeros 64 j, e)) }
 
 -- memory for boats that are at most n has room for 64 of their rows
 pub room-for : (b s : List ℕ) (n : ℕ) {l : Layout} → l ≡ file-layout b s → l .boats ≤ n → 64 * boats b ≤ 64 * n

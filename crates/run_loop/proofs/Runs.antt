@@ -7,12 +7,8 @@ use native.Mathlib.Omega.{arith}
 use native.Mathlib.Numerals.{add-one}
 use borrow.Author.Tests.{ltb-true, ltb-false}
 use lib.Dec.{ltb}
-use lib.ListN.{take, drop}
-use Rattle.files.specs.Bytes.{values}
-use Rattle.files.specs.Book.{columns}
 use Rattle.files.specs.Sheet.{sheet, files-refusal}
 use Rattle.files.specs.Limits.{step-limit}
-use Rattle.method.specs.Problem.{fixed, weight}
 use Rattle.method.specs.Plain.{plain-problem}
 use Rattle.method.specs.Iterates.{iterate}
 use Rattle.method.specs.declared.Test.the-variants.{Sharper}
@@ -20,10 +16,9 @@ use Rattle.method.specs.Answers.{answer-at, stops, run-answer, run-iterate}
 use Rattle.method.specs.declared.Answer.{Answer}
 use Rattle.method.specs.declared.Verdict.{Verdict}
 use Rattle.method.proofs.Running.{Running, running-start, running-more, running-done, finished-answer, finished-iterate, stops-last}
-use Rattle.iteration.specs.declared.Layout.{Layout}
 use Rattle.iteration.specs.declared.State.{State}
-use Rattle.iteration.specs.States.{file-layout, iterate-of, Holds}
-use Rattle.iteration.specs.Measures.{measure, Answerable}
+use Rattle.iteration.specs.States.{iterate-of, Holds}
+use Rattle.iteration.specs.Measures.{answer-by, Answerable}
 use Rattle.iteration.proofs.States.{sheet-fits}
 use Rattle.iteration.proofs.Answering.{answerable, answer-right}
 use Rattle.run_loop.specs.Runs.{Going}
@@ -76,31 +71,29 @@ module _ (b s : List ℕ) (ok : files-refusal b s ≡ 0) where
     next-few : suc (x .steps) ≤ step-limit
     next-few = omega (arith, g .left, sheet-fits b s ok .most-steps)
 
-    module _ {l : Layout} (e : l ≡ file-layout b s) where
-      pub next-answerable : Answerable y s l
-      next-answerable = answerable b s ok next-held next-few e
+    pub next-answerable : Answerable (y .distance) (y .weight) (y .«target_score») (y .least) s
+    next-answerable = answerable b s ok next-held next-few
 
-      module _ {a : Answer}
-          (ea : a ≡ measure Sharper (y .steps) (weight fixed (y .steps)) (sheet s .tolerance) (take (l .columns) (y .residual)) (values (l .columns) (drop (l .target) s)) (y .least))
-          {k : ℕ} (ek : k ≡ sheet s .steps) {d : Bool} (ed : d ≡ stops k (y .steps) (a .verdict)) where
-        answer-is : a ≡ answer-at Sharper (plain-problem b s) (suc (x .steps)) (iterate-of b s (suc (x .steps)))
-        answer-is = ea ∙ answer-right b s ok next-held next-few e
+    module _ {a : Answer} (ea : a ≡ answer-by Sharper (y .steps) (y .weight) (sheet s .tolerance) (y .distance) (y .«target_score») (y .least))
+        {k : ℕ} (ek : k ≡ sheet s .steps) {d : Bool} (ed : d ≡ stops k (y .steps) (a .verdict)) where
+      answer-is : a ≡ answer-at Sharper (plain-problem b s) (suc (x .steps)) (iterate-of b s (suc (x .steps)))
+      answer-is = ea ∙ answer-right b s ok next-held next-few
 
-        stopped-is : d ≡ stops (sheet s .steps) (suc (x .steps)) (answer-at Sharper (plain-problem b s) (suc (x .steps)) (iterate-of b s (suc (x .steps))) .verdict)
-        stopped-is = ed ∙ rw (ek, next-held .steps-are, answer-is)
+      stopped-is : d ≡ stops (sheet s .steps) (suc (x .steps)) (answer-at Sharper (plain-problem b s) (suc (x .steps)) (iterate-of b s (suc (x .steps))) .verdict)
+      stopped-is = ed ∙ rw (ek, next-held .steps-are, answer-is)
 
-        pub going-more : d ≡ false → Going b s y
-        unfolding plain-problem iterate
-        going-more f =
-            let p : y .steps ≡ suc (x .steps) = next-held .steps-are in
-            record {
-              held = subst (λ n. Holds b s n y) (sym p) next-held;
-              left = rw p (not-last (sheet s .steps) (suc (x .steps)) _ (g .left) (sym stopped-is ∙ f));
-              undecided = rw p (running-more running (g .left) (sym stopped-is ∙ f) .decides);
-            }
+      pub going-more : d ≡ false → Going b s y
+      unfolding plain-problem iterate
+      going-more f =
+          let p : y .steps ≡ suc (x .steps) = next-held .steps-are in
+          record {
+            held = subst (λ n. Holds b s n y) (sym p) next-held;
+            left = rw p (not-last (sheet s .steps) (suc (x .steps)) _ (g .left) (sym stopped-is ∙ f));
+            undecided = rw p (running-more running (g .left) (sym stopped-is ∙ f) .decides);
+          }
 
-        pub going-done : d ≡ true → (a ≡ run-answer (plain-problem b s)) × ((iterate-of b s (y .steps) .shares ≡ run-iterate (plain-problem b s) .shares) × (y .steps ≡ run-answer (plain-problem b s) .steps))
-        unfolding plain-problem iterate answer-at
-        going-done f =
-            let d = running-done running (g .left) (sym stopped-is ∙ f) in
-            (answer-is ∙ finished-answer d, (rw (next-held .steps-are) (ap (λ z. z .shares) (finished-iterate d)), next-held .steps-are ∙ ap (λ (z : Answer). z .steps) (finished-answer d)))
+      pub going-done : d ≡ true → (a ≡ run-answer (plain-problem b s)) × ((iterate-of b s (y .steps) .shares ≡ run-iterate (plain-problem b s) .shares) × (y .steps ≡ run-answer (plain-problem b s) .steps))
+      unfolding plain-problem iterate answer-at
+      going-done f =
+          let d = running-done running (g .left) (sym stopped-is ∙ f) in
+          (answer-is ∙ finished-answer d, (rw (next-held .steps-are) (ap (λ z. z .shares) (finished-iterate d)), next-held .steps-are ∙ ap (λ (z : Answer). z .steps) (finished-answer d)))

@@ -6,7 +6,7 @@ use Prim.Native.Nat.{ℕ, zero, suc, _+_, _*_, _-_, _%_, _≤_, _<_}
 use lib.Dec.{eqb}
 use lib.ListN.{length, getD, set, take, drop, replicate}
 use lib.Seq.{paste}
-use lib.IntN.{ℤ}
+use lib.IntN.{ℤ, pos}
 use Rattle.files.specs.Book.{boats, columns, rows}
 use Rattle.files.specs.Sheet.{sheet}
 use Rattle.frank_wolfe.specs.Vectors.{ones}
@@ -14,7 +14,7 @@ use Rattle.method.specs.Plain.{plain-problem}
 use Rattle.method.specs.Iterates.{scores, residual}
 use Rattle.method.specs.Answers.{steps-from, steps-used}
 use Rattle.iteration.specs.declared.State.{State}
-use Rattle.iteration.specs.States.{iterate-of, pick-at, boat-products, Holds}
+use Rattle.iteration.specs.States.{iterate-of, pick-at, boat-products, target-product, Holds}
 
 -- the state holds an iterate that did not stop the run, and steps are left
 pub record Going (b s : List ℕ) (x : State) : Type 0 where
@@ -42,6 +42,15 @@ pub record Remembered (b s tags : List ℕ) (memory : List ℤ) : Type 0 where
   pub slots : length tags ≡ 64
   pub room : 64 * boats b ≤ length memory
   pub products : (j i : ℕ) → j < 64 → getD tags j 0 ≡ suc i → Products b s i (drop (j * boats b) memory)
+
+-- the boat's slot holds the product of its row less the target with the target
+pub record Target (b s : List ℕ) (boat : ℕ) (targets : List ℤ) : Type 0 where
+  pub is : getD targets (boat % 64) (pos 0) ≡ target-product b s boat
+
+-- each of 64 slots whose tag is a boat holds the product of that boat's row less the target with the target
+pub record Aimed (b s tags : List ℕ) (targets : List ℤ) : Type 0 where
+  pub slots : length targets ≡ 64
+  pub each : (j i : ℕ) → j < 64 → getD tags j 0 ≡ suc i → getD targets j (pos 0) ≡ target-product b s i
 
 -- ---- The memory of products by equations
 

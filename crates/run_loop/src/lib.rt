@@ -10,7 +10,7 @@ ghost use Rattle.method.specs.Answers.{run-answer, run-iterate};
 ghost use Rattle.files.specs.Book.{boats};
 ghost use Rattle.files.specs.Sheet.{files-refusal};
 ghost use Rattle.iteration.specs.States.{file-layout, scores-of, Holds};
-ghost use Rattle.run_loop.specs.Runs.{Shares-at, Scores-at, Products, Remembered, memory-of, remembering, memory-after};
+ghost use Rattle.run_loop.specs.Runs.{Shares-at, Scores-at, Products, Remembered, Target, Aimed, memory-of, remembering, memory-after};
 use iteration::Layout;
 use iteration::State;
 use method::Answer;
@@ -23,28 +23,34 @@ pub fn add_shares(shares: &mut [u16], boat: usize, k: u32)
     shares[boat] += k as u16;
 }
 
-// Puts a boat's products into its slot of the memory, unless they are there. `tags` has for each slot its boat, counted from 1.
+// Puts a boat's products into its slot of the memory, and that with the target into its slot of `targets`, unless they are there.
+// `tags` has for each slot its boat, counted from 1.
 fn remember(
     boat: usize,
     book: &[u8],
     sheet: &[u8],
     layout: Layout,
     tags: &mut [u16],
+    targets: &mut [i32],
     memory: &mut [i32],
 )
     requires { ⌜ files-refusal (now book) (now sheet) ≡ 0 ⌝ }
     requires { ⌜ layout ≡ file-layout (now book) (now sheet) ⌝ }
     requires { ⌜ boat < boats (now book) ⌝ }
     requires { ⌜ Remembered (now book) (now sheet) (now tags) (now memory) ⌝ }
+    requires { ⌜ Aimed (now book) (now sheet) (now tags) (now targets) ⌝ }
     ensures { λ _. ⌜ Remembered (now (book .entry)) (now (sheet .entry)) (now (tags .exit)) (now (memory .exit)) ⌝ }
     ensures { λ _. ⌜ Products (now (book .entry)) (now (sheet .entry)) boat (drop (boat % 64 * boats (now (book .entry))) (now (memory .exit))) ⌝ }
     ensures { λ _. ⌜ memory-of (now (tags .exit)) (now (memory .exit)) ≡ remembering (now (book .entry)) (now (sheet .entry)) boat (memory-of (now (tags .entry)) (now (memory .entry))) ⌝ }
+    ensures { λ _. ⌜ Aimed (now (book .entry)) (now (sheet .entry)) (now (tags .exit)) (now (targets .exit)) ⌝ }
+    ensures { λ _. ⌜ Target (now (book .entry)) (now (sheet .entry)) boat (now (targets .exit)) ⌝ }
 {
     let slot = boat % 64;
     let tag = (boat + 1) as u16;
     if tags[slot] != tag {
         let at = slot * layout.boats;
-        iteration::products_of(boat, book, sheet, layout, &mut memory[at..]);
+        let target = iteration::products_of(boat, book, sheet, layout, &mut memory[at..]);
+        targets[slot] = target;
         tags[slot] = tag;
     }
 }
@@ -74,17 +80,22 @@ pub fn run_from(
     let steps = files::steps(sheet);
     let boats = layout.boats;
     let mut tags = [0u16; 64];
+    let mut targets = [0i32; 64];
     let mut state = start;
     loop {
         let best = state.best;
         let k = state.steps + 1;
         add_shares(shares, best, k);
-        remember(best, book, sheet, layout, &mut tags, memory);
-        let at = best % 64 * boats;
+        remember(best, book, sheet, layout, &mut tags, &mut targets, memory);
+        let slot = best % 64;
+        let at = slot * boats;
+        let score = scores[best];
+        let own = memory[at + best];
+        let target = targets[slot];
         let least = scoring::rescored(scores, k, &memory[at..], boats);
         let pick = scoring::picked(least, scores, shares, boats);
-        state = state.next(book, sheet, layout, pick);
-        let answer = state.answer(sheet, layout);
+        state = state.next(score, own, target, pick);
+        let answer = state.answer(sheet);
         let verdict = answer.verdict;
         if verdicts::stops(steps, state.steps, verdict) {
             return answer;

@@ -7,18 +7,23 @@ use native.Mathlib.Numerals.{add-one}
 use lib.IntN.{ℤ, pos}
 use lib.ListN.{length, getD, set, take, drop, replicate, length-append}
 use lib.Seq.{take-at}
+use mir.Syntax.{w32, w64}
+use mir.Val.{toZ, ofZ}
 use Rattle.files.specs.Book.{boats}
 use Rattle.files.specs.Sheet.{sheet, files-refusal}
 use Rattle.files.specs.Limits.{step-limit}
 use Rattle.frank_wolfe.specs.Vectors.{add, scale}
+use Rattle.scoring.specs.declared.Least.{Least}
+use Rattle.scoring.specs.Scores.{pick-of}
 use Rattle.iteration.specs.declared.Layout.{Layout}
 use Rattle.iteration.specs.declared.State.{State}
-use Rattle.iteration.specs.States.{file-layout, boat-products, Holds}
+use Rattle.iteration.specs.States.{file-layout, boat-products, target-product, iterate-of, scores-of, Holds}
+use Rattle.iteration.specs.Moves.{next-state, Steppable}
 use Rattle.iteration.specs.Measures.{Answerable}
-use Rattle.iteration.proofs.States.{book-fits, sheet-fits, product-count}
+use Rattle.iteration.proofs.States.{book-fits, sheet-fits, product-count, best-below, steppable, next-holds}
 use Rattle.iteration.proofs.Answering.{answerable}
 use Rattle.run_loop.specs.Runs.{Shares-at, Scores-at, Products}
-use Rattle.run_loop.proofs.Keeping.{Shared, share-room, shares-next, shares-before, shares-at, shares-start, scores-start, scores-next}
+use Rattle.run_loop.proofs.Keeping.{Shared, share-room, shares-next, shares-before, shares-at, shares-start, scores-start, scores-next, own-score, own-product}
 
 -- what the loop over the steps keeps
 pub record Followed (b s : List ℕ) (x : State) (shares : List ℕ) (scores : List ℤ) : Type 0 where
@@ -54,6 +59,16 @@ module _ (b s : List ℕ) (ok : files-refusal b s ≡ 0) where
       {new : List ℤ} → new ≡ add (take (l .boats) sc) (scale (x .steps + 1) (take (l .boats) ps)) ++ drop (l .boats) sc → Scores-at b s (x .steps + 1) new
   scores-after e H few S P f = rw add-one (scores-next b s ok e H few S P f)
 
+  -- the state after a step
+  module _ {x : State} (H : Holds b s (x .steps) x) (few : x .steps < step-limit) {sc : List ℤ} (S : Scores-at b s (x .steps) sc) {ps : List ℤ} (P : Products b s (x .best) ps)
+      {target : ℤ} (et : target ≡ target-product b s (x .best)) where
+    pub steppable-now : Steppable x (toZ w64 (ofZ w64 (getD sc (x .best) (pos 0)))) (toZ w32 (ofZ w32 (getD ps (x .best) (pos 0)))) (toZ w32 (ofZ w32 target))
+    steppable-now = steppable b s ok H (own-score S (best-below b s ok H)) (own-product P (best-below b s ok H)) et few
+
+    pub state-after : {p : Least} → p ≡ pick-of (iterate-of b s (x .steps + 1) .shares) (scores-of b s (x .steps + 1)) →
+        {y : State} → y ≡ next-state x (toZ w64 (ofZ w64 (getD sc (x .best) (pos 0)))) (toZ w32 (ofZ w32 (getD ps (x .best) (pos 0)))) (toZ w32 (ofZ w32 target)) p → Holds b s (x .steps + 1) y
+    state-after ep ey = rw add-one (next-holds b s ok H (own-score S (best-below b s ok H)) (own-product P (best-below b s ok H)) et few (rw add-one at ep) ey)
+
   pub follow-start : {x : State} → Holds b s 0 x → Followed b s x (replicate 256 0) (replicate 256 (pos 0))
   follow-start {x} H =
       record {
@@ -73,8 +88,8 @@ module _ (b s : List ℕ) (ok : files-refusal b s ≡ 0) where
       next-held : Holds b s (suc (x .steps)) y
       next-held = rw add-one at H
 
-      pub follow-answerable : {l : Layout} → l ≡ file-layout b s → Answerable y s l
-      follow-answerable e = answerable b s ok next-held (omega (arith, few)) e
+      pub follow-answerable : Answerable (y .distance) (y .weight) (y .«target_score») (y .least) s
+      follow-answerable = answerable b s ok next-held (omega (arith, few))
 
       pub follow-more : {rs : List ℕ} → Shares-at b s (x .steps + 1) rs → length rs ≡ 256 → {new : List ℤ} → Scores-at b s (x .steps + 1) new → length new ≡ 256 → Followed b s y rs new
       follow-more Q m S n =

@@ -107,11 +107,13 @@ fn step(
     let k = state.steps + 1;
     let boats = layout.boats;
     let mut products = [0i32; 256];
-    iteration::products_of(best, book, sheet, layout, &mut products);
+    let target = iteration::products_of(best, book, sheet, layout, &mut products);
+    let score = scores[best];
+    let own = products[best];
     run_loop::add_shares(shares, best, k);
     let least = scoring::rescored(scores, k, &products, boats);
     let pick = scoring::picked(least, scores, shares, boats);
-    state.next(book, sheet, layout, pick)
+    state.next(score, own, target, pick)
 }
 
 // What was found of a book: the first step where the ratio is least, with its W, G and ratio in thousandths, and whether some step
@@ -187,7 +189,7 @@ fn follow(start: State, book: &[u8], sheet: &[u8], layout: Layout, diameter: u64
     };
     while state.steps < steps {
         state = step(state, book, sheet, layout, &mut shares, &mut scores);
-        found = with_step(found, state.answer(sheet, layout), steps, diameter);
+        found = with_step(found, state.answer(sheet), steps, diameter);
     }
     found
 }
@@ -260,8 +262,8 @@ fn followed(book: &[u8], sheet: &[u8], totals: Totals) -> Totals {
     }
     let layout = iteration::layout_of(book, sheet);
     let d = diameter(book, sheet, layout);
-    let pick = iteration::least_product_of(0, book, sheet, layout);
-    let found = follow(State::fresh(pick), book, sheet, layout, d);
+    let start = State::fresh(book, sheet, layout);
+    let found = follow(start, book, sheet, layout, d);
     report(found, files::steps(sheet), d);
     with_book(totals, found)
 }

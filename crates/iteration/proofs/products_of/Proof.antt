@@ -1,12 +1,15 @@
 -- `iteration::products_of` meets its contract.
-use Rattle.iteration.proofs.Steps.{products-asks, slots-right, slots-enough}
-use borrow.Author.Needs.{needs}
+use Rattle.iteration.proofs.Steps.{products-asks, target-asks, slots-right, target-right, slots-enough}
+use mathlib.Core.Path.{_∙_}
+use mir.Facts.{toZ-ofZ}
+use borrow.Author.Needs.{needs, sfits-of}
 use Rattle.iteration.proofs.products_of.Statement.{statement}
 use Rattle.iteration.proofs.products_of.Tie as tie
 use Rattle.iteration.proofs.products_of.Reads as reads
 use Rattle.iteration.proofs.products_of.Lts as lts
 use Rattle.iteration.proofs.difference_of.Reads as difference-of-reads
 use Rattle.scoring.proofs.products.Reads as products-reads
+use Rattle.sums.proofs.narrow_inner.Reads as narrow-inner-reads
 
 difference-of-requires : tie.Need-difference-of-requires
 difference-of-requires c κs = search needs
@@ -20,14 +23,27 @@ products-requires c κs =
     let p = products-asks _ _ (start .pre .0) (start .pre .1 .0) (start .pre .1 .1 .0) (c .before .before .difference-of .ensures) (search needs) in
     (p .0, (p .1 .0, (p .1 .1, slots-enough _ _ (start .pre .0) (start .pre .1 .0) (start .pre .1 .1 .1))))
 
+slice-aggregate-narrow-inner : tie.Need-slice-aggregate-narrow-inner
+slice-aggregate-narrow-inner c = search needs
+
+narrow-inner-requires : tie.Need-narrow-inner-requires
+narrow-inner-requires c κs =
+    let at-difference-of = c .before .before .before .before .before in
+    let start = at-difference-of .before .before .before in
+    target-asks _ _ (start .pre .0) (start .pre .1 .0) (start .pre .1 .1 .0) (at-difference-of .difference-of .ensures) (search needs)
+
 same-length : tie.Need-same-length
 same-length c = search needs
 
 returns : tie.Need-returns
 returns c =
-    let at-difference-of = c .before .before .before .before in
+    let at-difference-of = c .before .before .before .before .before .before in
     let start = at-difference-of .before .before .before in
-    slots-right _ _ (start .pre .0) (start .pre .1 .0) (start .pre .1 .1 .0) (at-difference-of .difference-of .ensures) _ (c .before .products .ensures)
+    let ok = start .pre .0 in
+    let l = start .pre .1 .0 in
+    let h = start .pre .1 .1 .0 in
+    let d = at-difference-of .difference-of .ensures in
+    (slots-right _ _ ok l h d _ (c .before .before .before .products .ensures), toZ-ofZ (sfits-of (c .narrow-inner .ok)) ∙ target-right _ _ ok l h d (c .narrow-inner .ensures))
 
 pub products-of-spec : {M : Type 1} → statement M
 products-of-spec =
@@ -36,5 +52,7 @@ products-of-spec =
     difference-of-requires
     slice-aggregate-products
     products-requires
+    slice-aggregate-narrow-inner
+    narrow-inner-requires
     same-length
     returns)

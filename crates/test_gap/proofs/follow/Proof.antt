@@ -44,7 +44,7 @@ answer-requires : tie.Need-answer-requires Inv-loop μ-loop
 answer-requires c κs =
     let at-loop = c .before .before .before .before .before .before .before in
     let start = at-loop .before .before .before .before in
-    follow-answerable _ _ (start .pre .0) (at-loop .loop .inv) (omega (arith, c .before .before .before .before .before .if1 .taken, at-loop .before .steps .ensures)) (c .before .before .step .ensures .0) (start .pre .1 .0)
+    follow-answerable _ _ (start .pre .0) (at-loop .loop .inv) (omega (arith, c .before .before .before .before .before .if1 .taken, at-loop .before .steps .ensures)) (c .before .before .step .ensures .0)
 
 loop-less : tie.Need-loop-less Inv-loop μ-loop
 loop-less c =

@@ -1,23 +1,18 @@
 -- `iteration::State::fresh` meets its contract.
-use mathlib.Core.Path.{_≡_}
-use lib.IntN.{ℤ, pos}
-use lib.ListN.{replicate}
 use mir.Facts.{toZ-ofZ}
 use borrow.Author.Needs.{needs}
-use Rattle.scoring.specs.declared.Least.{Least}
-use Rattle.iteration.specs.declared.State.{State}
-use Rattle.iteration.specs.States.{fresh-state}
+use Rattle.iteration.proofs.States.{book-fits, fresh-holds}
 use Rattle.iteration.proofs.State.fresh.Statement.{statement}
 use Rattle.iteration.proofs.State.fresh.Tie as tie
 use Rattle.iteration.proofs.State.fresh.Reads as reads
 use Rattle.iteration.proofs.State.fresh.Lts as lts
+use Rattle.iteration.proofs.least_product_of.Reads as least-product-of-reads
+
+least-product-of-requires : tie.Need-least-product-of-requires
+least-product-of-requires c κs = (c .before .before .pre .0, (c .before .before .pre .1, book-fits _ _ (c .before .before .pre .0) .some-boats))
 
 returns : tie.Need-returns
-unfolding fresh-state
-returns c = kept _ _ (toZ-ofZ (search (needs, c .struct-told .given)))
-  where
-    kept : (p : Least) (z : ℤ) → z ≡ p .score → _≡_ {A = State} (record { steps = 0; residual = replicate 64 (pos 0); best = p .boat; least = z }) (record { steps = 0; residual = replicate 64 (pos 0); best = p .boat; least = p .score })
-    kept p z e = rw e
+returns c = fresh-holds _ _ (c .before .before .before .before .pre .0) (c .before .least-product-of .ensures) (toZ-ofZ (search (needs, c .struct-told .given)))
 
 pub fresh-spec : {M : Type 1} → statement M
-fresh-spec = tie.close (tie.spec returns)
+fresh-spec = tie.close (tie.spec least-product-of-requires returns)
