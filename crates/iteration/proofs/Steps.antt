@@ -5,7 +5,7 @@ use Prim.Native.Nat.{ℕ, _+_, _*_, _-_, _≤_, _<_}
 use native.Mathlib.Omega.{arith}
 use lib.IntN.{ℤ, pos}
 use lib.ListN.{length, take, drop, replicate}
-use lib.Seq.{take-at}
+use lib.Seq.{take-at, drop-at}
 use mir.Syntax.{w64}
 use mir.Val.{Fits}
 use Rattle.files.specs.Bytes.{values}
@@ -14,7 +14,7 @@ use Rattle.files.specs.Sheet.{sheet, files-refusal}
 use Rattle.frank_wolfe.specs.Vectors.{subtract, inner, ones}
 use Rattle.frank_wolfe.proofs.Vectors.{weighted-ones}
 use Rattle.method.specs.Iterates as M
-use Rattle.sums.specs.Operands.{Bounded, Span, Grid, Rows-bounded}
+use Rattle.sums.specs.Operands.{Bounded, Padded, Span, Grid, Rows-bounded}
 use Rattle.scoring.specs.Scores.{least-of}
 use Rattle.scoring.specs.declared.Least.{Least}
 use Rattle.iteration.specs.declared.Layout.{Layout}
@@ -53,9 +53,16 @@ module _ (b s : List ℕ) (ok : files-refusal b s ≡ 0) {l : Layout} (e : l ≡
       front : take (columns b) d ≡ boat-difference b s i
       front = ap (take (columns b)) ed ∙ take-at (boat-difference b s i) (replicate (64 - columns b) (pos 0)) (columns b) (length-difference b s ok i h)
 
-      pub products-asks : length d ≡ 64 → Grid b (l .rows) (l .boats) (l .columns) × (Bounded 4000 (l .columns) d × Rows-bounded (rows-from (l .boats) (l .columns) (drop (l .rows) b)) (l .columns))
+      padded : length d ≡ 64 → Padded (columns b) d
+      padded n =
+          record {
+            entries = difference-front b s ok i h d n front;
+            zeros = ap (drop (columns b)) ed ∙ drop-at (boat-difference b s i) (replicate (64 - columns b) (pos 0)) (columns b) (length-difference b s ok i h);
+          }
+
+      pub products-asks : length d ≡ 64 → Grid b (l .rows) (l .boats) (l .columns) × (Padded (l .columns) d × Rows-bounded (rows-from (l .boats) (l .columns) (drop (l .rows) b)) (l .columns))
       unfolding file-layout
-      products-asks n = rw e (grid b s ok, (difference-front b s ok i h d n front, rows-bounded b s ok))
+      products-asks n = rw e (grid b s ok, (padded n, rows-bounded b s ok))
 
       products-right : M.scores (ones (l .columns)) (take (l .columns) d) (rows-from (l .boats) (l .columns) (drop (l .rows) b)) ≡ boat-products b s i
       unfolding file-layout
@@ -69,9 +76,9 @@ module _ (b s : List ℕ) (ok : files-refusal b s ≡ 0) {l : Layout} (e : l ≡
       pub least-right : {x : Least} → x ≡ least-of (M.scores (ones (l .columns)) (take (l .columns) d) (rows-from (l .boats) (l .columns) (drop (l .rows) b))) → x ≡ least-of (boat-products b s i)
       least-right f = f ∙ ap least-of products-right
 
-      pub target-asks : length d ≡ 64 → Span s (l .target) (l .columns) × (Bounded 4000 (l .columns) d × Bounded 2000 (l .columns) (values (l .columns) (drop (l .target) s)))
+      pub target-asks : length d ≡ 64 → Span s (l .target) (l .columns) × (Padded (l .columns) d × Bounded 2000 (l .columns) (values (l .columns) (drop (l .target) s)))
       unfolding file-layout
-      target-asks n = rw e (target-span b s ok, (difference-front b s ok i h d n front, differable b s ok i h .1))
+      target-asks n = rw e (target-span b s ok, (padded n, differable b s ok i h .1))
 
       pub target-right : {z : ℤ} → z ≡ inner (take (l .columns) d) (values (l .columns) (drop (l .target) s)) → z ≡ target-product b s i
       unfolding file-layout

@@ -70,7 +70,7 @@ pub fn products_of(boat: usize, book: &[u8], sheet: &[u8], layout: Layout, to: &
     let columns = layout.columns;
     let d = difference_of(boat, book, sheet, layout);
     scoring::products(&d, book, rows, boats, columns, to);
-    sums::narrow_inner(&d, sheet, target, columns)
+    sums::padded_inner(&d, sheet, target, columns)
 }
 
 // The least of a boat's products. Of boat 0 it gives the first pick, before which no boat holds shares.

@@ -9,7 +9,7 @@ ghost use Rattle.files.specs.Book.{rows-from};
 ghost use Rattle.files.specs.Limits.{entry-limit};
 ghost use Rattle.frank_wolfe.specs.Vectors.{add, scale, ones};
 ghost use Rattle.method.specs.Iterates.{scores};
-ghost use Rattle.sums.specs.Operands.{Bounded, Grid, Rows-bounded, Score-sized, Rescorable};
+ghost use Rattle.sums.specs.Operands.{Bounded, Padded, Grid, Rows-bounded, Score-sized, Rescorable};
 ghost use Rattle.scoring.specs.Scores.{least-of, pick-of, Pickable};
 
 // A boat of least score, and its score.
@@ -40,10 +40,10 @@ pub fn least_score(r: &[i32], book: &[u8], at: usize, boats: usize, columns: usi
     Least { boat, score }
 }
 
-// <d, v> for each of the rows v at `at`, in the first slots of `to`.
+// <d, v> for each of the rows v at `at`, in the first slots of `to`. d is 0 behind the columns.
 pub fn products(d: &[i16], book: &[u8], at: usize, boats: usize, columns: usize, to: &mut [i32])
     requires { ⌜ Grid (now book) at boats columns ⌝ }
-    requires { ⌜ Bounded 4000 columns (now d) ⌝ }
+    requires { ⌜ Padded columns (now d) ⌝ }
     requires { ⌜ Rows-bounded (rows-from boats columns (drop at (now book))) columns ⌝ }
     requires { ⌜ boats ≤ length (now to) ⌝ }
     ensures { λ _. ⌜ now (to .exit) ≡ scores (ones columns) (take columns (now (d .entry))) (rows-from boats columns (drop at (now (book .entry)))) ++ drop boats (now (to .entry)) ⌝ }
@@ -51,7 +51,7 @@ pub fn products(d: &[i16], book: &[u8], at: usize, boats: usize, columns: usize,
     let mut row = at;
     let mut i = 0;
     while i < boats {
-        to[i] = sums::narrow_inner(d, book, row, columns);
+        to[i] = sums::padded_inner(d, book, row, columns);
         row += 2 * columns;
         i += 1;
     }
@@ -60,16 +60,16 @@ pub fn products(d: &[i16], book: &[u8], at: usize, boats: usize, columns: usize,
 // One pass over the rows at `at`, as least_score makes it, for a small vector d.
 pub fn least_product(d: &[i16], book: &[u8], at: usize, boats: usize, columns: usize) -> Least
     requires { ⌜ Grid (now book) at boats columns ⌝ }
-    requires { ⌜ Bounded 4000 columns (now d) ⌝ }
+    requires { ⌜ Padded columns (now d) ⌝ }
     requires { ⌜ Rows-bounded (rows-from boats columns (drop at (now book))) columns ⌝ }
     ensures { λ x. ⌜ x ≡ least-of (scores (ones columns) (take columns (now (d .entry))) (rows-from boats columns (drop at (now (book .entry))))) ⌝ }
 {
     let mut boat = 0;
-    let mut least = sums::narrow_inner(d, book, at, columns);
+    let mut least = sums::padded_inner(d, book, at, columns);
     let mut p = at + 2 * columns;
     let mut i = 1;
     while i < boats {
-        let s = sums::narrow_inner(d, book, p, columns);
+        let s = sums::padded_inner(d, book, p, columns);
         if s < least {
             boat = i;
             least = s;

@@ -4,3 +4,4 @@ pub mod Squares
 pub mod Moves
 pub mod Gaps
 pub mod Differences
+pub mod Blocks

@@ -18,7 +18,7 @@ use Rattle.files.proofs.Values.{value-bound, value-fits}
 use Rattle.files.proofs.Rows.{values-suc, value-of-values}
 use Rattle.files.specs.Limits.{entry-limit}
 use Rattle.frank_wolfe.specs.Vectors.{inner}
-use Rattle.sums.specs.Operands.{Bounded, Span}
+use Rattle.sums.specs.Operands.{Bounded, Multipliable, Span}
 
 inner-nil : (xs : List ℤ) → inner xs [] ≡ pos 0
 unfolding inner
@@ -64,10 +64,9 @@ module _ {xs : List ℤ} {n i : ℕ} (b : Bounded 4000 n xs) (h : i < n) where
   pub narrow-cast-read : toZ w32 (ofZ w32 (toZ w16 (ofZ w16 (getD xs i (pos 0))))) ≡ getD xs i (pos 0)
   narrow-cast-read = toZ-ofZ narrow-cast-fits ∙ narrow-read
 
-  pub narrow-product : (bs : List ℕ) (at : ℕ) → Bounded 2000 n (values n (drop at bs)) → {v : ℤ} → v ≡ value (number (at + 2 * i) 2 bs) →
+  pub narrow-product : (bs : List ℕ) (at : ℕ) → Multipliable n xs (values n (drop at bs)) → {v : ℤ} → v ≡ value (number (at + 2 * i) 2 bs) →
       {x y : ℤ} → x ≡ getD xs i (pos 0) → y ≡ v → natAbs (x *ℤ y) ≤ 8000000
-  narrow-product bs at r ev {x} {y} ex ey =
-      abs-mul-le x y 4000 2000 (rw ex (b .each i h)) (rw (ey, ev, ← value-of-values n i at bs h) (r .each i h))
+  narrow-product bs at m ev ex ey = rw (ex, ey, ev, ← value-of-values n i at bs h) (m .each i h)
 
 pub value-read : (u : ℕ) {v : ℤ} → v ≡ value u → toZ w32 (ofZ w32 v) ≡ v
 value-read u e = rw e (toZ-ofZ (value-fits u))

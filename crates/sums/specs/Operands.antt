@@ -1,7 +1,8 @@
 -- What the sums over columns and the passes over the boats ask of their operands. Definitions only. Assumes nothing.
+use mathlib.Core.Path.{_≡_}
 use mathlib.Core.List.{List, []}
-use Prim.Native.Nat.{ℕ, _+_, _*_, _≤_, _<_}
-use lib.ListN.{length, getD}
+use Prim.Native.Nat.{ℕ, _+_, _*_, _-_, _≤_, _<_}
+use lib.ListN.{length, getD, drop, replicate}
 use lib.IntN.{ℤ, pos, natAbs, _+ℤ_, _-ℤ_, _*ℤ_}
 use lib.Signed.{_≤ℤ_}
 use Rattle.files.specs.Limits.{total-limit, entry-limit, sum-limit}
@@ -10,6 +11,15 @@ use Rattle.files.specs.Limits.{total-limit, entry-limit, sum-limit}
 pub record Bounded (most count : ℕ) (xs : List ℤ) : Type 0 where
   pub long : count ≤ length xs
   pub each : (i : ℕ) → i < count → natAbs (getD xs i (pos 0)) ≤ most
+
+-- the products of the first `count` numbers are at most 8,000,000 = 4,000 × 2,000
+pub record Multipliable (count : ℕ) (xs ys : List ℤ) : Type 0 where
+  pub each : (i : ℕ) → i < count → natAbs (getD xs i (pos 0) *ℤ getD ys i (pos 0)) ≤ 8000000
+
+-- 64 numbers: the first `count` are at most 4,000, and the others 0
+pub record Padded (count : ℕ) (xs : List ℤ) : Type 0 where
+  pub entries : Bounded 4000 count xs
+  pub zeros : drop count xs ≡ replicate (64 - count) (pos 0)
 
 -- a row of `columns` values at `at` lies inside the bytes
 pub record Span (bs : List ℕ) (at columns : ℕ) : Type 0 where

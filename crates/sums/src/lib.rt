@@ -8,7 +8,7 @@ ghost use lib.IntN.{pos, natAbs, _+ℤ_, _-ℤ_, _*ℤ_};
 ghost use Rattle.files.specs.Bytes.{values};
 ghost use Rattle.files.specs.Limits.{entry-limit};
 ghost use Rattle.frank_wolfe.specs.Vectors.{add, subtract, scale, inner, squared-norm};
-ghost use Rattle.sums.specs.Operands.{Bounded, Span, Movable, Gap-sized};
+ghost use Rattle.sums.specs.Operands.{Bounded, Multipliable, Padded, Span, Movable, Gap-sized};
 
 // <r, v>, where v is the row of `columns` values at `at`.
 pub fn inner_at(r: &[i32], bytes: &[u8], at: usize, columns: usize) -> i64
@@ -26,9 +26,9 @@ pub fn inner_at(r: &[i32], bytes: &[u8], at: usize, columns: usize) -> i64
 }
 
 // <d, v> in 32 bits, where v is the row of `columns` values at `at`.
-pub fn narrow_inner(d: &[i16], bytes: &[u8], at: usize, columns: usize) -> i32
+fn narrow_inner(d: &[i16], bytes: &[u8], at: usize, columns: usize) -> i32
     requires { ⌜ Span (now bytes) at columns ⌝ }
-    requires { ⌜ Bounded 4000 columns (now d) × Bounded 2000 columns (values columns (drop at (now bytes))) ⌝ }
+    requires { ⌜ Bounded 4000 columns (now d) × Multipliable columns (now d) (values columns (drop at (now bytes))) ⌝ }
     ensures { λ x. ⌜ x ≡ inner (take columns (now (d .entry))) (values columns (drop at (now (bytes .entry)))) ⌝ }
 {
     let mut sum: i32 = 0;
@@ -38,6 +38,34 @@ pub fn narrow_inner(d: &[i16], bytes: &[u8], at: usize, columns: usize) -> i32
         i += 1;
     }
     sum
+}
+
+// <d, v> of 64 columns, by sixteen: of so many the compiler makes products of eight at a time.
+fn wide_inner(d: &[i16], bytes: &[u8], at: usize) -> i32
+    requires { ⌜ Span (now bytes) at 64 ⌝ }
+    requires { ⌜ Bounded 4000 64 (now d) × Multipliable 64 (now d) (values 64 (drop at (now bytes))) ⌝ }
+    ensures { λ x. ⌜ x ≡ inner (take 64 (now (d .entry))) (values 64 (drop at (now (bytes .entry)))) ⌝ }
+{
+    let first = narrow_inner(d, bytes, at, 16);
+    let second = narrow_inner(&d[16..], bytes, at + 32, 16);
+    let third = narrow_inner(&d[32..], bytes, at + 64, 16);
+    let fourth = narrow_inner(&d[48..], bytes, at + 96, 16);
+    first + second + third + fourth
+}
+
+// <d, v>, where v is the row of `columns` values at `at`, and d is 0 behind them. Where 64 values stand at `at` all of them are
+// multiplied, whatever those behind the row are.
+pub fn padded_inner(d: &[i16], bytes: &[u8], at: usize, columns: usize) -> i32
+    requires { ⌜ Span (now bytes) at columns ⌝ }
+    requires { ⌜ Padded columns (now d) × Bounded 2000 columns (values columns (drop at (now bytes))) ⌝ }
+    ensures { λ x. ⌜ x ≡ inner (take columns (now (d .entry))) (values columns (drop at (now (bytes .entry)))) ⌝ }
+{
+    if columns > 16 {
+        if at + 128 <= bytes.len() {
+            return wide_inner(d, bytes, at);
+        }
+    }
+    narrow_inner(d, bytes, at, columns)
 }
 
 // The square of a number.

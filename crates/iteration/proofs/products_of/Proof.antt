@@ -9,7 +9,7 @@ use Rattle.iteration.proofs.products_of.Reads as reads
 use Rattle.iteration.proofs.products_of.Lts as lts
 use Rattle.iteration.proofs.difference_of.Reads as difference-of-reads
 use Rattle.scoring.proofs.products.Reads as products-reads
-use Rattle.sums.proofs.narrow_inner.Reads as narrow-inner-reads
+use Rattle.sums.proofs.padded_inner.Reads as padded-inner-reads
 
 difference-of-requires : tie.Need-difference-of-requires
 difference-of-requires c κs = search needs
@@ -23,11 +23,11 @@ products-requires c κs =
     let p = products-asks _ _ (start .pre .0) (start .pre .1 .0) (start .pre .1 .1 .0) (c .before .before .difference-of .ensures) (search needs) in
     (p .0, (p .1 .0, (p .1 .1, slots-enough _ _ (start .pre .0) (start .pre .1 .0) (start .pre .1 .1 .1))))
 
-slice-aggregate-narrow-inner : tie.Need-slice-aggregate-narrow-inner
-slice-aggregate-narrow-inner c = search needs
+slice-aggregate-padded-inner : tie.Need-slice-aggregate-padded-inner
+slice-aggregate-padded-inner c = search needs
 
-narrow-inner-requires : tie.Need-narrow-inner-requires
-narrow-inner-requires c κs =
+padded-inner-requires : tie.Need-padded-inner-requires
+padded-inner-requires c κs =
     let at-difference-of = c .before .before .before .before .before in
     let start = at-difference-of .before .before .before in
     target-asks _ _ (start .pre .0) (start .pre .1 .0) (start .pre .1 .1 .0) (at-difference-of .difference-of .ensures) (search needs)
@@ -43,7 +43,7 @@ returns c =
     let l = start .pre .1 .0 in
     let h = start .pre .1 .1 .0 in
     let d = at-difference-of .difference-of .ensures in
-    (slots-right _ _ ok l h d _ (c .before .before .before .products .ensures), toZ-ofZ (sfits-of (c .narrow-inner .ok)) ∙ target-right _ _ ok l h d (c .narrow-inner .ensures))
+    (slots-right _ _ ok l h d _ (c .before .before .before .products .ensures), toZ-ofZ (sfits-of (c .padded-inner .ok)) ∙ target-right _ _ ok l h d (c .padded-inner .ensures))
 
 pub products-of-spec : {M : Type 1} → statement M
 products-of-spec =
@@ -52,7 +52,7 @@ products-of-spec =
     difference-of-requires
     slice-aggregate-products
     products-requires
-    slice-aggregate-narrow-inner
-    narrow-inner-requires
+    slice-aggregate-padded-inner
+    padded-inner-requires
     same-length
     returns)

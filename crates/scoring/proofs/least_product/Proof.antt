@@ -13,7 +13,7 @@ use Rattle.scoring.proofs.least_product.Statement.{statement}
 use Rattle.scoring.proofs.least_product.Tie as tie
 use Rattle.scoring.proofs.least_product.Reads as reads
 use Rattle.scoring.proofs.least_product.Lts as lts
-use Rattle.sums.proofs.narrow_inner.Reads as narrow-inner-reads
+use Rattle.sums.proofs.padded_inner.Reads as padded-inner-reads
 
 abbrev Inv-loop : tie.InvT-loop
 Inv-loop d book at boats columns boat₀ least₀ p₀ i₀ boat least p i = Passed (take columns d) book at boats columns w32 boat least p i × SFits w32 (toZ w32 least)
@@ -21,8 +21,8 @@ Inv-loop d book at boats columns boat₀ least₀ p₀ i₀ boat least p i = Pas
 abbrev μ-loop : tie.MeasureT-loop
 μ-loop d book at boats columns boat₀ least₀ p₀ i₀ boat least p i = boats - i
 
-narrow-inner-requires : tie.Need-narrow-inner-requires Inv-loop μ-loop
-narrow-inner-requires c κs = (row-span (c .before .pre .0) (c .before .pre .0 .some-boats) (first-place (c .before .pre .0)), (c .before .pre .1 .0, row-range (c .before .pre .0) (c .before .pre .0 .some-boats) (first-place (c .before .pre .0)) (c .before .pre .1 .1)))
+padded-inner-requires : tie.Need-padded-inner-requires Inv-loop μ-loop
+padded-inner-requires c κs = (row-span (c .before .pre .0) (c .before .pre .0 .some-boats) (first-place (c .before .pre .0)), (c .before .pre .1 .0, row-range (c .before .pre .0) (c .before .pre .0 .some-boats) (first-place (c .before .pre .0)) (c .before .pre .1 .1)))
 
 mul-p : tie.Need-mul-p Inv-loop μ-loop
 mul-p c = search needs
@@ -32,11 +32,11 @@ add-p c = omega (arith, row-span (c .before .before .pre .0) (c .before .before 
 
 loop-holds : tie.Need-loop-holds Inv-loop μ-loop
 loop-holds c =
-    let f = toZ-ofZ {w = w32} (sfits-of (c .narrow-inner .ok)) in
-    (passed-start (c .before .before .pre .0) (length-take-le _ _ (c .before .before .pre .1 .0 .long)) (c .narrow-inner .ensures) f, rw f (sfits-of (c .narrow-inner .ok)))
+    let f = toZ-ofZ {w = w32} (sfits-of (c .padded-inner .ok)) in
+    (passed-start (c .before .before .pre .0) (length-take-le _ _ (c .before .before .pre .1 .0 .entries .long)) (c .padded-inner .ensures) f, rw f (sfits-of (c .padded-inner .ok)))
 
-narrow-inner-requires-2 : tie.Need-narrow-inner-requires-2 Inv-loop μ-loop
-narrow-inner-requires-2 c κs =
+padded-inner-requires-2 : tie.Need-padded-inner-requires-2 Inv-loop μ-loop
+padded-inner-requires-2 c κs =
     let start = c .before .before .before .before in
     (row-span (start .pre .0) (c .loop-test .taken) (c .before .loop .inv .0 .place), (start .pre .1 .0, row-range (start .pre .0) (c .loop-test .taken) (c .before .loop .inv .0 .place) (start .pre .1 .1)))
 
@@ -56,10 +56,10 @@ loop-again : tie.Need-loop-again Inv-loop μ-loop
 loop-again c = let g = c .before .before .before .before .before .before .pre .0 in
     let d = c .before .before .before .loop .inv in
     let h = c .before .before .loop-test .taken in
-    let e = c .before .narrow-inner2 .ensures in
-    let f = toZ-ofZ {w = w32} (sfits-of (c .before .narrow-inner2 .ok)) in
+    let e = c .before .padded-inner2 .ensures in
+    let f = toZ-ofZ {w = w32} (sfits-of (c .before .padded-inner2 .ok)) in
     ⊎-elim
-    (λ w. rw (w .1, w .2) (passed-better g (d .0) h e f (rw f at (w .0 .taken)), rw f (sfits-of (c .before .narrow-inner2 .ok))))
+    (λ w. rw (w .1, w .2) (passed-better g (d .0) h e f (rw f at (w .0 .taken)), rw f (sfits-of (c .before .padded-inner2 .ok))))
     (λ w. rw (w .1, w .2) (passed-same g (d .0) h e (rw f at (w .0 .left)), d .1))
     (c .if1 .came)
 
@@ -75,11 +75,11 @@ least-product-spec =
     (tie.spec
     Inv-loop
     μ-loop
-    narrow-inner-requires
+    padded-inner-requires
     mul-p
     add-p
     loop-holds
-    narrow-inner-requires-2
+    padded-inner-requires-2
     mul-p-2
     add-p-2
     add-i

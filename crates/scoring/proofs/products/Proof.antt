@@ -10,7 +10,7 @@ use Rattle.scoring.proofs.products.Statement.{statement}
 use Rattle.scoring.proofs.products.Tie as tie
 use Rattle.scoring.proofs.products.Reads as reads
 use Rattle.scoring.proofs.products.Lts as lts
-use Rattle.sums.proofs.narrow_inner.Reads as narrow-inner-reads
+use Rattle.sums.proofs.padded_inner.Reads as padded-inner-reads
 
 abbrev Inv-loop : tie.InvT-loop
 Inv-loop d book at boats columns to₀ row₀ i₀ to row i = Stored (take columns d) book at boats columns to₀ to row i
@@ -19,10 +19,10 @@ abbrev μ-loop : tie.MeasureT-loop
 μ-loop d book at boats columns to₀ row₀ i₀ to row i = boats - i
 
 loop-holds : tie.Need-loop-holds Inv-loop μ-loop
-loop-holds c = stored-start (c .before .pre .0) (length-take-le _ _ (c .before .pre .1 .0 .long))
+loop-holds c = stored-start (c .before .pre .0) (length-take-le _ _ (c .before .pre .1 .0 .entries .long))
 
-narrow-inner-requires : tie.Need-narrow-inner-requires Inv-loop μ-loop
-narrow-inner-requires c κs =
+padded-inner-requires : tie.Need-padded-inner-requires Inv-loop μ-loop
+padded-inner-requires c κs =
     let start = c .before .before .before in
     (row-span (start .pre .0) (c .loop-test .taken) (c .before .loop .inv .place), (start .pre .1 .0, row-range (start .pre .0) (c .loop-test .taken) (c .before .loop .inv .place) (start .pre .1 .1 .0)))
 
@@ -49,7 +49,7 @@ loop-less c = search needs
 loop-again : tie.Need-loop-again Inv-loop μ-loop
 loop-again c =
     let start = c .before .before .before .before in
-    stored-more (start .pre .0) (c .before .before .loop .inv) (start .pre .1 .1 .1) (c .before .loop-test .taken) (c .narrow-inner .ensures) (toZ-ofZ (sfits-of (c .narrow-inner .ok)))
+    stored-more (start .pre .0) (c .before .before .loop .inv) (start .pre .1 .1 .1) (c .before .loop-test .taken) (c .padded-inner .ensures) (toZ-ofZ (sfits-of (c .padded-inner .ok)))
 
 same-length : tie.Need-same-length Inv-loop μ-loop
 same-length c = stored-long (c .before .before .before .pre .0) (c .before .loop .inv) (c .before .before .before .pre .1 .1 .1)
@@ -64,7 +64,7 @@ products-spec =
     Inv-loop
     μ-loop
     loop-holds
-    narrow-inner-requires
+    padded-inner-requires
     mul-t11
     slice-set-from-to
     mul-row
