@@ -1,13 +1,13 @@
 -- What a run keeps from step to step: shares, scores and the memory of products follow the state. Assumes nothing.
 use mathlib.Core.Path.{_≡_, refl, sym, ap, _∙_}
 use mathlib.Core.List.{List, _++_}
-use Prim.Native.Nat.{ℕ, suc, _+_, _*_, _-_, _%_, _≤_, _<_}
+use Prim.Native.Nat.{ℕ, suc, _+_, _*_, _-_, _≤_, _<_}
 use native.Mathlib.Nat.{le-of-lt}
 use native.Mathlib.Omega.{arith}
 use native.Mathlib.Numerals.{add-one}
 use lib.IntN.{ℤ, pos}
 use lib.ListN.{length, getD, set, take, drop, replicate, length-append, length-replicate, take-append-drop}
-use lib.Seq.{getD-take, getD-drop, take-at, drop-at, set-append-left, length-front, length-take-le}
+use lib.Seq.{getD-take, take-at, drop-at, set-append-left, length-front, length-take-le}
 use mir.Syntax.{w32, w64}
 use mir.Val.{toZ, ofZ}
 use Rattle.integers.proofs.Filling.{replicate-parts}
@@ -28,12 +28,12 @@ use Rattle.scoring.specs.Scores.{least-of, pick-of, Pickable}
 use Rattle.scoring.specs.declared.Least.{Least}
 use Rattle.iteration.specs.declared.Layout.{Layout}
 use Rattle.iteration.specs.declared.State.{State}
-use Rattle.iteration.specs.States.{file-layout, iterate-of, scores-of, boat-products, Holds}
+use Rattle.iteration.specs.States.{file-layout, iterate-of, scores-of, boat-products, target-product, Holds}
 use Rattle.iteration.specs.Moves.{next-state, Steppable}
 use Rattle.iteration.proofs.States.{book-fits, sheet-fits, best-below, rescorable, steppable, next-holds, next-shares, next-scores, scores-zero}
-use Rattle.run_loop.specs.Runs.{Going, Shares-at, Scores-at, Products, Remembered, Target, Aimed, Memory, memory-of, remembering, memory-after}
+use Rattle.run_loop.specs.Runs.{Going, Shares-at, Scores-at, Products, Memory, memory-of, remembering, memory-after, Remembered}
 use Rattle.run_loop.proofs.Runs.{going-start}
-use Rattle.run_loop.proofs.Memory.{remembers-nothing, aims-nothing}
+use Rattle.run_loop.proofs.Memory.{remembers-nothing, remembered, remembered-long}
 
 take-replicate : {A : Type 0} (n m : ℕ) (a : A) → n ≤ m → take n (replicate m a) ≡ replicate n a
 take-replicate n m a h = rw (replicate-parts n m a h) (take-at (replicate n a) (replicate (m - n) a) n (length-replicate n a))
@@ -78,10 +78,6 @@ module _ (b s : List ℕ) (ok : files-refusal b s ≡ 0) where
 
   pub shares-at : {t : ℕ} {qs z : List ℕ} → Shared b s t qs z → Shares-at b s t qs
   shares-at q = record { room = shared-room q; are = shared-front q }
-
-  -- the list keeps its length
-  pub shared-long : {t : ℕ} (old : List ℕ) {qs : List ℕ} → boats b ≤ length old → Shared b s t qs (drop (boats b) old) → length qs ≡ length old
-  shared-long {t} old room q = rw (q .is) (length-front old (iterate-of b s t .shares) (boats b) (count t ∙ sym (length-take-le (boats b) old room)))
 
   none-yet : iterate-of b s 0 .shares ≡ replicate (boats b) 0
   unfolding plain-problem iterate start
@@ -140,18 +136,18 @@ module _ (b s : List ℕ) (ok : files-refusal b s ≡ 0) where
 
     module _ {new : List ℤ} (f : new ≡ add (take (l .boats) sc) (scale (x .steps + 1) (take (l .boats) ps)) ++ drop (l .boats) sc) where
       -- every slot of the scores
-      pub scores-whole : new ≡ scores-of b s (suc (x .steps)) ++ drop (boats b) sc
+      pub scores-here : new ≡ scores-of b s (x .steps + 1) ++ drop (boats b) sc
       unfolding file-layout
-      scores-whole = f ∙ rw (moved-scores, e, add-one)
+      scores-here = f ∙ rw (moved-scores, e)
+
+      scores-whole : new ≡ scores-of b s (suc (x .steps)) ++ drop (boats b) sc
+      scores-whole = rw add-one at scores-here
 
       n : length (scores-of b s (suc (x .steps))) ≡ boats b
       n = length-scores _ _ (rows b) ∙ book-fits b s ok .row-count
 
       scores-front : take (boats b) new ≡ scores-of b s (suc (x .steps))
       scores-front = ap (take (boats b)) scores-whole ∙ take-at (scores-of b s (suc (x .steps))) (drop (boats b) sc) (boats b) n
-
-      pub scores-behind : drop (boats b) new ≡ drop (boats b) sc
-      scores-behind = ap (drop (boats b)) scores-whole ∙ drop-at (scores-of b s (suc (x .steps))) (drop (boats b) sc) (boats b) n
 
       pub scores-next : Scores-at b s (suc (x .steps)) new
       unfolding direction
@@ -182,10 +178,6 @@ module _ (b s : List ℕ) (ok : files-refusal b s ≡ 0) where
 pub behind : (front : List ℕ) {new z z′ : List ℕ} → new ≡ front ++ z → z ≡ z′ → new ≡ front ++ z′
 behind front f e = f ∙ ap (λ l. front ++ l) e
 
-pub counted : (x : State) (score own target : ℤ) (p : Least) {y : State} → y ≡ next-state x score own target p → y .steps ≡ x .steps + 1
-unfolding next-state
-counted x score own target p e = ap (λ (z : State). z .steps) e
-
 -- ---- A boat's own numbers
 
 pub own-score : {b s : List ℕ} {t : ℕ} {sc : List ℤ} → Scores-at b s t sc → {i : ℕ} → i < boats b →
@@ -193,110 +185,117 @@ pub own-score : {b s : List ℕ} {t : ℕ} {sc : List ℤ} → Scores-at b s t s
 own-score {b} {s} {t} {sc} S {i} h =
     sym (getD-take (boats b) sc i (pos 0) h) ∙ ap (λ (z : List ℤ). getD z i (pos 0)) (S .are) ∙ score-at (ones (columns b)) (residual (plain-problem b s) t (iterate-of b s t)) (rows b) i
 
-pub own-product : {b s : List ℕ} {i : ℕ} {ps : List ℤ} → Products b s i ps → i < boats b → getD ps i (pos 0) ≡ getD (boat-products b s i) i (pos 0)
-own-product {b} {s} {i} {ps} P h = sym (getD-take (boats b) ps i (pos 0) h) ∙ ap (λ (z : List ℤ). getD z i (pos 0)) (P .are)
+-- ---- One step
+
+module _ (b s : List ℕ) (ok : files-refusal b s ≡ 0) {x : State} (H : Holds b s (x .steps) x) (few : x .steps < step-limit) where
+  module _ {qs : List ℕ} (Q : Shares-at b s (x .steps) qs) where
+    pub room-here : (x .best < length qs) × (getD qs (x .best) 0 + (x .steps + 1) < 65536)
+    room-here = rw add-one (share-room b s ok H few (shares-before b s ok Q))
+
+    module _ {rs : List ℕ} (e : rs ≡ set qs (x .best) (getD qs (x .best) 0 + (x .steps + 1))) where
+      pub shared-here : Shared b s (suc (x .steps)) rs (drop (boats b) qs)
+      shared-here = shares-next b s ok H few (shares-before b s ok Q) (rw add-one at e)
+
+      pub shares-here : rs ≡ iterate-of b s (x .steps + 1) .shares ++ drop (boats b) qs
+      shares-here = rw add-one (shared-here .is)
+
+  -- the state, by the score, the own product and the product with the target, as the machine has them
+  module _ {sc : List ℤ} (S : Scores-at b s (x .steps) sc) {own target : ℤ} (eo : own ≡ getD (boat-products b s (x .best)) (x .best) (pos 0)) (et : target ≡ target-product b s (x .best)) where
+    pub steppable-here : Steppable x (toZ w64 (ofZ w64 (getD sc (x .best) (pos 0)))) (toZ w32 (ofZ w32 own)) (toZ w32 (ofZ w32 target))
+    steppable-here = steppable b s ok H (own-score S (best-below b s ok H)) eo et few
+
+    pub state-here : {p : Least} → p ≡ pick-of (iterate-of b s (x .steps + 1) .shares) (scores-of b s (x .steps + 1)) →
+        {y : State} → y ≡ next-state x (toZ w64 (ofZ w64 (getD sc (x .best) (pos 0)))) (toZ w32 (ofZ w32 own)) (toZ w32 (ofZ w32 target)) p → Holds b s (x .steps + 1) y
+    state-here ep ey = rw add-one (next-holds b s ok H (own-score S (best-below b s ok H)) eo et few (rw add-one at ep) ey)
+
+-- ---- What a step leaves
+
+module _ (b s : List ℕ) (ok : files-refusal b s ≡ 0) (t : ℕ) where
+  module _ (old : List ℕ) {qs : List ℕ} (e : qs ≡ iterate-of b s (t + 1) .shares ++ drop (boats b) old) where
+    pub shares-after : Shares-at b s (t + 1) qs
+    shares-after = shares-at b s ok (record { is = e })
+
+    pub shares-behind : drop (boats b) qs ≡ drop (boats b) old
+    shares-behind = ap (drop (boats b)) e ∙ drop-at (iterate-of b s (t + 1) .shares) (drop (boats b) old) (boats b) (share-count b s ok (t + 1))
+
+  score-count : length (scores-of b s (t + 1)) ≡ boats b
+  score-count = length-scores _ _ (rows b) ∙ book-fits b s ok .row-count
+
+  module _ (old : List ℤ) {ps : List ℤ} (e : ps ≡ scores-of b s (t + 1) ++ drop (boats b) old) where
+    first-scores : take (boats b) ps ≡ scores-of b s (t + 1)
+    first-scores = ap (take (boats b)) e ∙ take-at (scores-of b s (t + 1)) (drop (boats b) old) (boats b) score-count
+
+    pub scores-after : Scores-at b s (t + 1) ps
+    unfolding direction
+    scores-after = record { room = rw (e, length-append, score-count) (omega arith); are = rw add-one (rw add-one at first-scores) }
+
+    pub scores-behind : drop (boats b) ps ≡ drop (boats b) old
+    scores-behind = ap (drop (boats b)) e ∙ drop-at (scores-of b s (t + 1)) (drop (boats b) old) (boats b) score-count
 
 -- ---- The loop of a run
-
-pub record Kept (b s : List ℕ) (x : State) (shares₀ shares : List ℕ) (scores₀ scores : List ℤ) (tags : List ℕ) (targets memory₀ memory : List ℤ) : Type 0 where
-  pub going : Going b s x
-  pub shared : Shared b s (x .steps) shares (drop (boats b) shares₀)
-  pub scored : Scores-at b s (x .steps) scores
-  pub scores-long : length scores ≡ length scores₀
-  pub scores-rest : drop (boats b) scores ≡ drop (boats b) scores₀
-  pub remembered : Remembered b s tags memory
-  pub aimed : Aimed b s tags targets
-  pub memory-long : length memory ≡ length memory₀
-  pub memory-is : memory-of tags memory ≡ memory-after b s (x .steps) memory₀
-
-pub kept-start : (b s : List ℕ) → files-refusal b s ≡ 0 → {x : State} → Holds b s 0 x → {shares : List ℕ} → Shares-at b s 0 shares → {scores : List ℤ} → Scores-at b s 0 scores →
-    {memory : List ℤ} → 64 * boats b ≤ length memory → Kept b s x shares shares scores scores (replicate 64 0) (replicate 64 (pos 0)) memory memory
-unfolding memory-after
-kept-start b s ok {x} H {shares} q {scores} S room =
-    record {
-      going = going-start b s ok H;
-      shared = rw (H .steps-are) (shares-before b s ok q);
-      scored = rw (H .steps-are) S;
-      scores-long = refl;
-      scores-rest = refl;
-      remembered = remembers-nothing b s room;
-      aimed = aims-nothing b s;
-      memory-long = refl;
-      memory-is = rw (H .steps-are);
-    }
 
 pub shared-end : {b s : List ℕ} {t : ℕ} {qs z : List ℕ} → Shared b s t qs z → {rs : List ℕ} → iterate-of b s t .shares ≡ rs → qs ≡ rs ++ z
 shared-end {z = z} q e = q .is ∙ ap (λ (l : List ℕ). l ++ z) e
 
-module _ (b s : List ℕ) (ok : files-refusal b s ≡ 0) {x : State} {shares₀ shares : List ℕ} {scores₀ scores : List ℤ} {tags : List ℕ} {targets memory₀ memory : List ℤ}
-    (K : Kept b s x shares₀ shares scores₀ scores tags targets memory₀ memory) where
+pub record Kept (b s : List ℕ) (x : State) (shares₀ shares : List ℕ) (scores₀ scores memory₀ : List ℤ) (m : Memory) : Type 0 where
+  pub going : Going b s x
+  pub shared : Shares-at b s (x .steps) shares
+  pub shares-long : length shares ≡ length shares₀
+  pub shares-rest : drop (boats b) shares ≡ drop (boats b) shares₀
+  pub scored : Scores-at b s (x .steps) scores
+  pub scores-long : length scores ≡ length scores₀
+  pub scores-rest : drop (boats b) scores ≡ drop (boats b) scores₀
+  pub remembers : Remembered b s m
+  pub memory-long : length (m .products) ≡ length memory₀
+  pub memory-is : m ≡ memory-after b s (x .steps) memory₀
+
+pub kept-start : (b s : List ℕ) → files-refusal b s ≡ 0 → {x : State} → Holds b s 0 x → {shares : List ℕ} → Shares-at b s 0 shares → {scores : List ℤ} → Scores-at b s 0 scores →
+    {memory : List ℤ} → 64 * boats b ≤ length memory → Kept b s x shares shares scores scores memory (memory-of (replicate 257 0) (replicate 64 (pos 0)) memory)
+unfolding memory-after
+kept-start b s ok {x} H {shares} q {scores} S room =
+    record {
+      going = going-start b s ok H;
+      shared = rw (H .steps-are) q;
+      shares-long = refl;
+      shares-rest = refl;
+      scored = rw (H .steps-are) S;
+      scores-long = refl;
+      scores-rest = refl;
+      remembers = remembers-nothing b s room;
+      memory-long = refl;
+      memory-is = rw (H .steps-are);
+    }
+
+module _ (b s : List ℕ) (ok : files-refusal b s ≡ 0) {x : State} {shares₀ shares : List ℕ} {scores₀ scores memory₀ : List ℤ} {m : Memory} (K : Kept b s x shares₀ shares scores₀ scores memory₀ m) where
   pub few-here : x .steps < step-limit
   few-here = omega (arith, K .going .left, sheet-fits b s ok .most-steps)
 
-  pub best-here : x .best < boats b
-  best-here = best-below b s ok (K .going .held)
+  module _ {y : State} (H : Holds b s (x .steps + 1) y) {qs : List ℕ} (eq : qs ≡ iterate-of b s (x .steps + 1) .shares ++ drop (boats b) shares)
+      {ps : List ℤ} (ep : ps ≡ scores-of b s (x .steps + 1) ++ drop (boats b) scores) {m′ : Memory} (em : m′ ≡ remembering b s (x .best) m) where
+    memory-next : m′ ≡ memory-after b s (suc (x .steps)) memory₀
+    unfolding memory-after
+    memory-next = em ∙ rw (K .memory-is, K .going .held .best-is)
 
-  shared-next : {qs : List ℕ} → qs ≡ set shares (x .best) (getD shares (x .best) 0 + (x .steps + 1)) → Shared b s (suc (x .steps)) qs (drop (boats b) shares₀)
-  shared-next f = shares-next b s ok (K .going .held) few-here (K .shared) (rw add-one at f)
+    pub kept-more : Going b s y → Kept b s y shares₀ qs scores₀ ps memory₀ m′
+    kept-more g =
+        record {
+          going = g;
+          shared = rw (H .steps-are) (shares-after b s ok (x .steps) shares eq);
+          shares-long = rw (eq, length-front shares (iterate-of b s (x .steps + 1) .shares) (boats b) (share-count b s ok (x .steps + 1) ∙ sym (length-take-le (boats b) shares (K .shared .room)))) (K .shares-long);
+          shares-rest = shares-behind b s ok (x .steps) shares eq ∙ K .shares-rest;
+          scored = rw (H .steps-are) (scores-after b s ok (x .steps) scores ep);
+          scores-long = rw (ep, length-front scores (scores-of b s (x .steps + 1)) (boats b) (score-count b s ok (x .steps) ∙ sym (length-take-le (boats b) scores (K .scored .room)))) (K .scores-long);
+          scores-rest = scores-behind b s ok (x .steps) scores ep ∙ K .scores-rest;
+          remembers = rw em (remembered b s ok (K .remembers) (best-below b s ok (K .going .held)));
+          memory-long = rw (em, remembered-long b s ok (K .remembers) (best-below b s ok (K .going .held))) (K .memory-long);
+          memory-is = rw (H .steps-are, add-one) memory-next;
+        }
 
-  pub room-here : (x .best < length shares) × (getD shares (x .best) 0 + (x .steps + 1) < 65536)
-  room-here = rw add-one (share-room b s ok (K .going .held) few-here (K .shared))
-
-  -- ---- The pick of the step after it
-
-  module _ {l : Layout} (g : l ≡ file-layout b s) {ps : List ℤ} (P : Products b s (x .best) ps)
-      {new : List ℤ} (f : new ≡ add (take (l .boats) scores) (scale (x .steps + 1) (take (l .boats) ps)) ++ drop (l .boats) scores)
-      {qs : List ℕ} (q : qs ≡ set shares (x .best) (getD shares (x .best) 0 + (x .steps + 1))) where
-    pub pickable-here : {p : Least} → p ≡ least-of (add (take (l .boats) scores) (scale (x .steps + 1) (take (l .boats) ps))) → Pickable new qs (l .boats) × (p ≡ least-of (take (l .boats) new))
-    pickable-here h = (
-      pickable-next b s ok g (K .going .held) few-here (K .scored) P f (shared-next q),
-      least-next b s ok g (K .going .held) few-here (K .scored) P f h,
-    )
-
-    pub pick-here : {p : Least} → p ≡ pick-of (take (l .boats) qs) (take (l .boats) new) → p ≡ pick-of (iterate-of b s (x .steps + 1) .shares) (scores-of b s (x .steps + 1))
-    pick-here h = pick-next b s ok g (K .going .held) few-here (K .scored) P f (shared-next q) h
-
-  -- ---- The step, with the score, the own product and the product with the target as the machine has them
-
-  module _ {l : Layout} (g : l ≡ file-layout b s) (ms : List ℤ) (P : Products b s (x .best) (drop (x .best % 64 * boats b) ms)) {us : List ℤ} (A : Target b s (x .best) us) where
-    own-is : getD ms (x .best % 64 * l .boats + x .best) (pos 0) ≡ getD (boat-products b s (x .best)) (x .best) (pos 0)
-    unfolding file-layout
-    own-is = rw g (sym (getD-drop (x .best % 64 * boats b) ms (x .best) (pos 0)) ∙ own-product P best-here)
-
-    pub steppable-here : Steppable x (toZ w64 (ofZ w64 (getD scores (x .best) (pos 0)))) (toZ w32 (ofZ w32 (getD ms (x .best % 64 * l .boats + x .best) (pos 0)))) (toZ w32 (ofZ w32 (getD us (x .best % 64) (pos 0))))
-    steppable-here = steppable b s ok (K .going .held) (own-score (K .scored) best-here) own-is (A .is) few-here
-
-    pub next-here : {p : Least} → p ≡ pick-of (iterate-of b s (x .steps + 1) .shares) (scores-of b s (x .steps + 1)) →
-        {y : State} → y ≡ next-state x (toZ w64 (ofZ w64 (getD scores (x .best) (pos 0)))) (toZ w32 (ofZ w32 (getD ms (x .best % 64 * l .boats + x .best) (pos 0)))) (toZ w32 (ofZ w32 (getD us (x .best % 64) (pos 0)))) p →
-        Holds b s (x .steps + 1) y
-    next-here ep ey = rw add-one (next-holds b s ok (K .going .held) (own-score (K .scored) best-here) own-is (A .is) few-here (rw add-one at ep) ey)
-
-  -- ---- What is kept after the step, which leads to n steps
-
-  module _ {n : ℕ} (e : n ≡ x .steps + 1) where
-    one-more : n ≡ suc (x .steps)
-    one-more = e ∙ add-one (x .steps)
-
-    pub shares-here : {qs : List ℕ} → qs ≡ set shares (x .best) (getD shares (x .best) 0 + (x .steps + 1)) → Shared b s n qs (drop (boats b) shares₀)
-    shares-here f = rw one-more (shared-next f)
-
-    module _ {l : Layout} (g : l ≡ file-layout b s) {ps : List ℤ} (P : Products b s (x .best) ps)
-        {new : List ℤ} (f : new ≡ add (take (l .boats) scores) (scale (x .steps + 1) (take (l .boats) ps)) ++ drop (l .boats) scores) where
-      pub scores-here : Scores-at b s n new
-      scores-here = rw one-more (scores-next b s ok g (K .going .held) few-here (K .scored) P f)
-
-      pub rest-here : drop (boats b) new ≡ drop (boats b) scores₀
-      rest-here = scores-behind b s ok g (K .going .held) few-here (K .scored) P f ∙ K .scores-rest
-
-      pub scores-end : {k : ℕ} → n ≡ k → new ≡ scores-of b s k ++ drop (boats b) scores₀
-      scores-end q =
-          scores-whole b s ok g (K .going .held) few-here (K .scored) P f
-          ∙ ap (λ (z : List ℤ). scores-of b s (suc (x .steps)) ++ z) (K .scores-rest) ∙ ap (λ (t : ℕ). scores-of b s t ++ drop (boats b) scores₀) (sym one-more ∙ q)
-
-    module _ {ts : List ℕ} {ms : List ℤ} (f : memory-of ts ms ≡ remembering b s (x .best) (memory-of tags memory)) where
-      pub memory-here : memory-of ts ms ≡ memory-after b s n memory₀
-      unfolding memory-after
-      memory-here = f ∙ rw (K .memory-is, K .going .held .best-is, one-more)
-
-      pub memory-end : {k : ℕ} → n ≡ k → ms ≡ memory-after b s k memory₀ .products
-      memory-end q = ap (λ (m : Memory). m .products) memory-here ∙ ap (λ (t : ℕ). memory-after b s t memory₀ .products) q
+    -- the last step, which leads to n steps
+    pub kept-done : {rs : List ℕ} → iterate-of b s (y .steps) .shares ≡ rs → {n : ℕ} → y .steps ≡ n →
+        (qs ≡ rs ++ drop (boats b) shares₀) × ((ps ≡ scores-of b s n ++ drop (boats b) scores₀) × (m′ .products ≡ memory-after b s n memory₀ .products))
+    kept-done er en =
+        let e = sym (H .steps-are) ∙ en in (
+          eq ∙ rw (K .shares-rest, ← er, H .steps-are),
+          (ep ∙ rw (K .scores-rest, e), ap (λ (z : Memory). z .products) memory-next ∙ rw (← add-one, e)),
+        )

@@ -2,24 +2,23 @@
 use mathlib.Core.Path.{_≡_, refl, sym, ap, _∙_}
 use mathlib.Core.Bool.{Bool, true, false}
 use mathlib.Core.List.{List, _++_, append-assoc, append-nil}
-use Prim.Native.Nat.{ℕ, zero, suc, _+_, _*_, _-_, _%_, _≤_, _<_}
+use Prim.Native.Nat.{ℕ, zero, suc, _+_, _*_, _-_, _≤_, _<_}
 use native.Mathlib.Nat.{suc-mul, mul-le-mul-right}
 use native.Mathlib.Omega.{arith}
-use native.Mathlib.Numerals.{add-one}
-use borrow.Author.Tests.{ltb-true, ltb-false, eq-eqb, ne-eqb}
+use borrow.Author.Tests.{ltb-true, ltb-false, lt-ltb, le-ltb, ne-eqb}
 use lib.Dec.{ltb}
 use lib.IntN.{ℤ, pos}
 use lib.ListN.{length, getD, set, take, drop, replicate, length-drop, length-set, take-append-drop}
 use borrow.Rule.Slice.PartMut.{putMid}
-use lib.Seq.{paste, drop-length, drop-append-le, take-append-le, take-at, drop-at, drop-drop, drop-paste, take-all, length-paste, length-take-le, getD-set-same, getD-set-other}
-use mir.Syntax.{w16, w64}
+use lib.Seq.{paste, drop-length, drop-append-le, take-append-le, take-at, drop-at, drop-drop, take-all, length-paste, length-take-le, getD-set-same, getD-set-other, getD-take, getD-drop}
+use mir.Syntax.{w64}
 use mir.Val.{Fits}
 use Rattle.files.specs.Book.{boats}
 use Rattle.files.specs.Sheet.{files-refusal}
 use Rattle.iteration.specs.declared.Layout.{Layout}
 use Rattle.iteration.specs.States.{file-layout, boat-products, target-product}
 use Rattle.iteration.proofs.States.{book-fits, product-count}
-use Rattle.run_loop.specs.Runs.{Products, Remembered, Target, Aimed, memory-of, remembering}
+use Rattle.run_loop.specs.Runs.{Products, Memory, memory-of, taken, slot-of, tagged, remembering, Remembered}
 
 -- ---- A part of a list in which another part was replaced
 
@@ -38,13 +37,6 @@ module _ (d row : List ℤ) (at n p : ℕ) (hd : at + n ≤ length d) (hr : n �
       let k : p + n ≤ length (take at d) = rw front-long h in
       ap (λ z. take n (drop p z)) paste-front ∙ part-of-front (take at d) _ p n k
       ∙ sym (part-of-front (take at d) (drop at d) p n k) ∙ rw (take-append-drop at d)
-
-  pub part-after : at + n ≤ p → take n (drop p (paste d at row n)) ≡ take n (drop p d)
-  part-after h =
-      let e : at + n + (p - (at + n)) ≡ p = omega arith in
-      let f : drop p (paste d at row n) ≡ drop p d =
-      sym (drop-drop (p - (at + n)) (at + n) (paste d at row n) ∙ rw e) ∙ ap (drop (p - (at + n))) (drop-paste d at row n (omega arith) hr) ∙ drop-drop (p - (at + n)) (at + n) d ∙ rw e in
-      rw f
 
   pub part-there : take n (drop at (paste d at row n)) ≡ take n row
   part-there =
@@ -65,151 +57,264 @@ either j k {A} same differs = by (ltb j k) (ltb k j) refl refl
 apart : (j k n : ℕ) → j < k → j * n + n ≤ k * n
 apart j k n h = omega (arith, mul-le-mul-right n h, suc-mul j n)
 
-module _ (b s : List ℕ) (ok : files-refusal b s ≡ 0) {tags : List ℕ} {memory : List ℤ} (R : Remembered b s tags memory) {i : ℕ} (h : i < boats b) where
-  pub slot-below : i % 64 < 64
-  slot-below = omega arith
+-- the tags once boat i has slot k
+module _ (tags : List ℕ) (long : length tags ≡ 257) (i : ℕ) (hi : i < 256) (k : ℕ) where
+  abbrev more : List ℕ
+  more = set (set tags i (k + 1)) 256 (k + 1)
 
-  pub slot-room : i % 64 * boats b + boats b ≤ length memory
-  slot-room = omega (arith, apart (i % 64) 64 (boats b) slot-below, R .room)
+  more-count : getD more 256 0 ≡ k + 1
+  more-count = getD-set-same (set tags i (k + 1)) 256 (k + 1) 0 (rw length-set (omega arith))
 
-  pub tag-fits : Fits w16 (i + 1)
-  tag-fits = record { fits = omega (arith, book-fits b s ok .most-boats) }
+  more-at : (q : ℕ) → q < 256 → getD more q 0 ≡ getD (set tags i (k + 1)) q 0
+  more-at q h = getD-set-other (set tags i (k + 1)) 256 q (k + 1) 0 (λ f. omega arith)
 
-  -- what is known once the boat's products are in its slot
-  abbrev pub Knows : (tags : List ℕ) → (memory : List ℤ) → Type 0
-  Knows ts ps = Remembered b s ts ps × (Products b s i (drop (i % 64 * boats b) ps) × (memory-of ts ps ≡ remembering b s i (memory-of tags memory)))
+  -- what holds of boat i with slot k, and of every other boat with its slot
+  more-each : (P : ℕ → ℕ → Type 0) → P i k → ((q j : ℕ) → getD tags q 0 ≡ suc j → P q j) → (q j : ℕ) → q < 256 → getD more q 0 ≡ suc j → P q j
+  more-each P own others q j hq e = either q i same differs
+    where
+      same : q ≡ i → P q j
+      same f =
+          let g : k + 1 ≡ suc j = sym (getD-set-same tags i (k + 1) 0 (omega arith)) ∙ (rw f at (sym (more-at q hq) ∙ e)) in
+          let n : k ≡ j = omega arith in
+          rw (f, ← n) own
 
-  pub kept : getD tags (i % 64) 0 ≡ i + 1 → Knows tags memory
-  unfolding remembering
-  kept e = (R, (R .products (i % 64) i slot-below (e ∙ add-one i), rw (eq-eqb _ _ e)))
+      differs : (q ≡ i → ⊥) → P q j
+      differs ne = others q j (sym (getD-set-other tags i q (k + 1) 0 ne) ∙ sym (more-at q hq) ∙ e)
 
-  pub slot-fits : {l : Layout} → l ≡ file-layout b s → Fits w64 (i % 64 * l .boats)
-  unfolding file-layout
-  slot-fits e = rw e (record { fits = omega (arith, apart (i % 64) 64 (boats b) slot-below, book-fits b s ok .most-boats) })
+  -- the last slot is nobody's
+  by-slot : (P : List ℕ → Type 0) → (k < 63 → P (set (set tags i (k + 1)) 256 (k + 1))) → (63 ≤ k → P tags) → P (tagged i k tags)
+  unfolding tagged
+  by-slot P f g = by (ltb k 63) refl
+    where
+      by : (t : Bool) → ltb k 63 ≡ t → P (tagged i k tags)
+      by true e = rw e (f (ltb-true k 63 e))
+      by false e = rw e (g (ltb-false k 63 e))
 
-  pub slot-bytes-fit : {l : Layout} → l ≡ file-layout b s → Fits w64 (i % 64 * l .boats * 4)
-  unfolding file-layout
-  slot-bytes-fit e = rw e (record { fits = omega (arith, apart (i % 64) 64 (boats b) slot-below, book-fits b s ok .most-boats) })
+module _ (b s : List ℕ) (ok : files-refusal b s ≡ 0) {m : Memory} (R : Remembered b s m) {i : ℕ} (h : i < boats b) where
+  in-tags : i < 256
+  in-tags = omega (arith, book-fits b s ok .most-boats)
 
-  pub slot-starts : {l : Layout} → l ≡ file-layout b s → i % 64 * l .boats ≤ length memory
-  unfolding file-layout
-  slot-starts e = rw e (omega (arith, slot-room))
+  pub boat-tag : i < length (m .tags)
+  boat-tag = omega (arith, R .tags-long, in-tags)
 
-  -- the boat's own product in its slot
-  pub own-fits : {l : Layout} → l ≡ file-layout b s → Fits w64 (i % 64 * l .boats + i)
-  unfolding file-layout
-  own-fits e = rw e (record { fits = omega (arith, apart (i % 64) 64 (boats b) slot-below, book-fits b s ok .most-boats) })
+  -- ---- A boat that has a slot
 
-  pub own-bytes-fit : {l : Layout} → l ≡ file-layout b s → Fits w64 ((i % 64 * l .boats + i) * 4)
-  unfolding file-layout
-  own-bytes-fit e = rw e (record { fits = omega (arith, apart (i % 64) 64 (boats b) slot-below, book-fits b s ok .most-boats) })
+  module _ (some : getD (m .tags) i 0 ≡ 0 → ⊥) where
+    pub kept-slot : getD (m .tags) i 0 - 1 ≡ slot-of i m
+    unfolding slot-of
+    kept-slot = rw (ne-eqb (getD (m .tags) i 0) 0 some)
 
-  pub own-inside : {l : Layout} → l ≡ file-layout b s → i % 64 * l .boats + i < length memory
-  unfolding file-layout
-  own-inside e = rw e (omega (arith, slot-room))
+    pub kept-is : remembering b s i m ≡ m
+    unfolding remembering
+    kept-is = rw (ne-eqb (getD (m .tags) i 0) 0 some)
 
-  pub slot-part : {l : Layout} → l ≡ file-layout b s → Products b s i (drop (i % 64 * boats b) memory) →
-      Products b s i (take (length memory - i % 64 * l .boats) (drop (i % 64 * l .boats) memory))
-  unfolding file-layout
-  slot-part e P = rw (e, take-all (length memory - i % 64 * boats b) (drop (i % 64 * boats b) memory) (rw length-drop (omega arith))) P
+    has : getD (m .tags) i 0 ≡ suc (slot-of i m)
+    has = rw (← kept-slot) (omega (arith, some))
 
-  module _ {m : List ℤ} (em : m ≡ paste memory (i % 64 * boats b) (boat-products b s i) (boats b)) where
+    pub kept-below : slot-of i m < 64
+    kept-below = omega (arith, R .below i (slot-of i m) h has, R .few)
+
+  -- ---- A boat that takes the next slot
+
+  module _ (none : getD (m .tags) i 0 ≡ 0) where
+    abbrev k : ℕ
+    k = taken m
+
     abbrev row : List ℤ
     row = boat-products b s i
+
+    abbrev pasted : List ℤ
+    pasted = paste (m .products) (taken m * boats b) (boat-products b s i) (boats b)
+
+    abbrev aimed : List ℤ
+    aimed = set (m .targets) (taken m) (target-product b s i)
+
+    pub next-slot : slot-of i m ≡ taken m
+    unfolding slot-of
+    next-slot = rw none
+
+    next-is : remembering b s i m ≡ memory-of (tagged i k (m .tags)) aimed pasted
+    unfolding remembering
+    next-is = rw none
+
+    slot-room : k * boats b + boats b ≤ length (m .products)
+    slot-room = omega (arith, apart k 64 (boats b) (omega (arith, R .few)), R .room)
 
     row-long : boats b ≤ length row
     row-long = omega (arith, product-count b s ok i)
 
-    m-long : length m ≡ length memory
-    m-long = rw em (length-paste memory (i % 64 * boats b) row (boats b) slot-room row-long)
+    pasted-long : length pasted ≡ length (m .products)
+    pasted-long = length-paste (m .products) (k * boats b) row (boats b) slot-room row-long
 
-    here : Products b s i (drop (i % 64 * boats b) m)
+    here : Products b s i (drop (k * boats b) pasted)
     here =
         record {
-          room = rw length-drop (omega (arith, m-long, slot-room));
-          are = rw em (part-there memory row (i % 64 * boats b) (boats b) 0 slot-room row-long) ∙ take-all (boats b) row (omega (arith, product-count b s ok i));
+          room = rw length-drop (omega (arith, pasted-long, slot-room));
+          are = part-there (m .products) row (k * boats b) (boats b) 0 slot-room row-long ∙ take-all (boats b) row (omega (arith, product-count b s ok i));
         }
 
-    elsewhere : (j q : ℕ) → j < 64 → (j ≡ i % 64 → ⊥) → Products b s q (drop (j * boats b) memory) → Products b s q (drop (j * boats b) m)
-    elsewhere j q hj ne Q =
+    target-here : getD aimed k (pos 0) ≡ target-product b s i
+    target-here = getD-set-same (m .targets) k (target-product b s i) (pos 0) (omega (arith, R .targets-long, R .few))
+
+    -- the slots before it
+    there : (q j : ℕ) → j < k → Products b s q (drop (j * boats b) (m .products)) → Products b s q (drop (j * boats b) pasted)
+    there q j hj Q =
         record {
-          room = rw length-drop (omega (arith, m-long, apart j 64 (boats b) hj, R .room));
-          are = rw em (by (ltb j (i % 64)) refl) ∙ Q .are;
+          room = rw length-drop (omega (arith, pasted-long, apart j k (boats b) hj, slot-room));
+          are = part-before (m .products) row (k * boats b) (boats b) (j * boats b) slot-room row-long (apart j k (boats b) hj) ∙ Q .are;
         }
+
+    target-there : (j : ℕ) → j < k → getD aimed j (pos 0) ≡ getD (m .targets) j (pos 0)
+    target-there j hj = getD-set-other (m .targets) k j (target-product b s i) (pos 0) (λ f. omega arith)
+
+    next-remembered : Remembered b s (memory-of (tagged i k (m .tags)) aimed pasted)
+    next-remembered = by-slot (m .tags) (R .tags-long) i in-tags k (λ ts. Remembered b s (memory-of ts aimed pasted)) took full
       where
-        by : (t : Bool) → ltb j (i % 64) ≡ t → take (boats b) (drop (j * boats b) (paste memory (i % 64 * boats b) row (boats b))) ≡ take (boats b) (drop (j * boats b) memory)
-        by true e = part-before memory row (i % 64 * boats b) (boats b) (j * boats b) slot-room row-long (apart j (i % 64) (boats b) (ltb-true j (i % 64) e))
-        by false e = part-after memory row (i % 64 * boats b) (boats b) (j * boats b) slot-room row-long (apart (i % 64) j (boats b) (other j (i % 64) (ltb-false j (i % 64) e) ne))
-          where
-            other : (j k : ℕ) → k ≤ j → (j ≡ k → ⊥) → k < j
-            other j k g ne = pick (ltb k j) refl
-              where
-                pick : (t : Bool) → ltb k j ≡ t → k < j
-                pick true e = ltb-true k j e
-                pick false e = absurd (ne (omega (arith, ltb-false k j e)))
+        room : 64 * boats b ≤ length pasted
+        room = omega (arith, pasted-long, R .room)
 
-    known : Remembered b s (set tags (i % 64) (i + 1)) m × Products b s i (drop (i % 64 * boats b) m)
-    known = (record { slots = length-set tags (i % 64) (i + 1) ∙ R .slots; room = omega (arith, m-long, R .room); products = every }, here)
-      where
-        every : (j q : ℕ) → j < 64 → getD (set tags (i % 64) (i + 1)) j 0 ≡ suc q → Products b s q (drop (j * boats b) m)
-        every j q hj e = either j (i % 64) same differs
-          where
-            same : j ≡ i % 64 → Products b s q (drop (j * boats b) m)
-            same f =
-                let g : i + 1 ≡ suc q = sym (getD-set-same tags (i % 64) (i + 1) 0 (omega (arith, R .slots, slot-below))) ∙ (rw f at e) in
-                let k : i ≡ q = omega arith in
-                rw (f, ← k) here
+        targets-long : length aimed ≡ 64
+        targets-long = length-set (m .targets) k (target-product b s i) ∙ R .targets-long
 
-            differs : (j ≡ i % 64 → ⊥) → Products b s q (drop (j * boats b) m)
-            differs ne = elsewhere j q hj ne (R .products j q hj (sym (getD-set-other tags (i % 64) j (i + 1) 0 ne) ∙ e))
+        full : 63 ≤ k → Remembered b s (memory-of (m .tags) aimed pasted)
+        full g =
+            record {
+              tags-long = R .tags-long;
+              targets-long = targets-long;
+              room = room;
+              few = R .few;
+              below = R .below;
+              targets = λ q j hq e. target-there j (R .below q j hq e) ∙ R .targets q j hq e;
+              products = λ q j hq e. there q j (R .below q j hq e) (R .products q j hq e);
+            }
 
-  whole-part : take (length memory - i % 64 * boats b) (drop (i % 64 * boats b) memory) ≡ drop (i % 64 * boats b) memory
-  whole-part = take-all (length memory - i % 64 * boats b) (drop (i % 64 * boats b) memory) (rw length-drop (omega arith))
+        -- the boats that have a slot are those that had one, and boat i
+        each : (P : ℕ → ℕ → Type 0) → P i k → ((q j : ℕ) → q < boats b → getD (m .tags) q 0 ≡ suc j → P q j) →
+            (q j : ℕ) → q < boats b → getD (set (set (m .tags) i (k + 1)) 256 (k + 1)) q 0 ≡ suc j → P q j
+        each P own others q j hq e = more-each (m .tags) (R .tags-long) i in-tags k (λ a c. a < boats b → P a c) (λ g. own) (λ a c f g. others a c g f) q j (omega (arith, book-fits b s ok .most-boats)) e hq
 
-  -- the memory from the slot on, as it is lent and comes back
-  pub part-room : {l : Layout} → l ≡ file-layout b s → boats b ≤ length (take (length memory - i % 64 * l .boats) (drop (i % 64 * l .boats) memory))
-  unfolding file-layout
-  part-room e = rw (e, whole-part) (rw length-drop (omega (arith, slot-room)))
+        took : k < 63 → Remembered b s (memory-of (set (set (m .tags) i (k + 1)) 256 (k + 1)) aimed pasted)
+        took g =
+            let n = more-count (m .tags) (R .tags-long) i in-tags k in
+            record {
+              tags-long = rw (length-set, length-set) (R .tags-long);
+              targets-long = targets-long;
+              room = room;
+              few = rw n (omega arith);
+              below = each (λ q j. j < getD (set (set (m .tags) i (k + 1)) 256 (k + 1)) 256 0) (rw n (omega arith)) (λ q j hq e. rw n (omega (arith, R .below q j hq e)));
+              targets = each (λ q j. getD aimed j (pos 0) ≡ target-product b s q) target-here (λ q j hq e. target-there j (R .below q j hq e) ∙ R .targets q j hq e);
+              products = each (λ q j. Products b s q (drop (j * boats b) pasted)) here (λ q j hq e. there q j (R .below q j hq e) (R .products q j hq e));
+            }
 
-  put-back : {part : List ℤ} → part ≡ boat-products b s i ++ drop (boats b) (take (length memory - i % 64 * boats b) (drop (i % 64 * boats b) memory)) →
-      putMid (i % 64 * boats b) (length memory - i % 64 * boats b) memory part ≡ paste memory (i % 64 * boats b) (boat-products b s i) (boats b)
-  put-back ep =
-      let at = i % 64 * boats b in
-      let n : length memory - at ≡ length (drop at memory) = sym (length-drop at memory) in
-      rw (ep, whole-part, n, drop-length (drop at memory), append-nil, drop-drop (boats b) at memory)
-      (ap (λ (x : List ℤ). take at memory ++ (x ++ drop (at + boats b) memory)) (sym (take-all (boats b) (boat-products b s i) (omega (arith, product-count b s ok i))))
-      ∙ sym (append-assoc (take at memory) (take (boats b) (boat-products b s i)) (drop (at + boats b) memory)))
+    pub next-fits : {l : Layout} → l ≡ file-layout b s → Fits w64 (k * l .boats)
+    unfolding file-layout
+    next-fits e = rw e (record { fits = omega (arith, apart k 64 (boats b) (omega (arith, R .few)), book-fits b s ok .most-boats) })
 
-  pub learnt : {l : Layout} → l ≡ file-layout b s → {part : List ℤ} → part ≡ boat-products b s i ++ drop (boats b) (take (length memory - i % 64 * l .boats) (drop (i % 64 * l .boats) memory)) →
-      (getD tags (i % 64) 0 ≡ i + 1 → ⊥) → Knows (set tags (i % 64) (i + 1)) (putMid (i % 64 * l .boats) (length memory - i % 64 * l .boats) memory part)
-  unfolding file-layout remembering
-  learnt e ep ne =
-      let q = put-back (rw e at ep) in
-      let k = known q in
-      rw e (k .0, (k .1, rw (ne-eqb _ _ ne, q)))
+    pub next-bytes-fit : {l : Layout} → l ≡ file-layout b s → Fits w64 (k * l .boats * 4)
+    unfolding file-layout
+    next-bytes-fit e = rw e (record { fits = omega (arith, apart k 64 (boats b) (omega (arith, R .few)), book-fits b s ok .most-boats) })
 
--- the products with the target
-module _ (b s : List ℕ) {tags : List ℕ} {targets : List ℤ} (A : Aimed b s tags targets) (long : length tags ≡ 64) (i : ℕ) where
-  pub kept-aim : getD tags (i % 64) 0 ≡ i + 1 → Aimed b s tags targets × Target b s i targets
-  kept-aim e = (A, record { is = A .each (i % 64) i (omega arith) (e ∙ add-one i) })
+    pub next-starts : {l : Layout} → l ≡ file-layout b s → k * l .boats ≤ length (m .products)
+    unfolding file-layout
+    next-starts e = rw e (omega (arith, slot-room))
 
-  pub learnt-aim : {z : ℤ} → z ≡ target-product b s i → Aimed b s (set tags (i % 64) (i + 1)) (set targets (i % 64) z) × Target b s i (set targets (i % 64) z)
-  learnt-aim {z} ez = (record { slots = length-set targets (i % 64) z ∙ A .slots; each = every }, record { is = here })
-    where
-      here : getD (set targets (i % 64) z) (i % 64) (pos 0) ≡ target-product b s i
-      here = getD-set-same targets (i % 64) z (pos 0) (omega (arith, A .slots)) ∙ ez
+    -- the memory from the slot on, as it is lent and comes back
+    whole-part : take (length (m .products) - k * boats b) (drop (k * boats b) (m .products)) ≡ drop (k * boats b) (m .products)
+    whole-part = take-all (length (m .products) - k * boats b) (drop (k * boats b) (m .products)) (rw length-drop (omega arith))
 
-      every : (j q : ℕ) → j < 64 → getD (set tags (i % 64) (i + 1)) j 0 ≡ suc q → getD (set targets (i % 64) z) j (pos 0) ≡ target-product b s q
-      every j q hj e = either j (i % 64) same differs
-        where
-          same : j ≡ i % 64 → getD (set targets (i % 64) z) j (pos 0) ≡ target-product b s q
-          same f =
-              let g : i + 1 ≡ suc q = sym (getD-set-same tags (i % 64) (i + 1) 0 (omega (arith, long))) ∙ (rw f at e) in
-              let k : i ≡ q = omega arith in
-              rw (f, ← k) here
+    pub next-part : {l : Layout} → l ≡ file-layout b s → boats b ≤ length (take (length (m .products) - k * l .boats) (drop (k * l .boats) (m .products)))
+    unfolding file-layout
+    next-part e = rw (e, whole-part) (rw length-drop (omega (arith, slot-room)))
 
-          differs : (j ≡ i % 64 → ⊥) → getD (set targets (i % 64) z) j (pos 0) ≡ target-product b s q
-          differs ne = getD-set-other targets (i % 64) j z (pos 0) ne ∙ A .each j q hj (sym (getD-set-other tags (i % 64) j (i + 1) 0 ne) ∙ e)
+    put-back : {part : List ℤ} → part ≡ boat-products b s i ++ drop (boats b) (take (length (m .products) - k * boats b) (drop (k * boats b) (m .products))) →
+        putMid (k * boats b) (length (m .products) - k * boats b) (m .products) part ≡ pasted
+    put-back ep =
+        let at = k * boats b in
+        let n : length (m .products) - at ≡ length (drop at (m .products)) = sym (length-drop at (m .products)) in
+        rw (ep, whole-part, n, drop-length (drop at (m .products)), append-nil, drop-drop (boats b) at (m .products))
+        (ap (λ (x : List ℤ). take at (m .products) ++ (x ++ drop (at + boats b) (m .products))) (sym (take-all (boats b) row (omega (arith, product-count b s ok i))))
+        ∙ sym (append-assoc (take at (m .products)) (take (boats b) row) (drop (at + boats b) (m .products))))
+
+    -- what the code leaves is the definition's memory
+    module _ {l : Layout} (e : l ≡ file-layout b s) {part : List ℤ} (ep : part ≡ boat-products b s i ++ drop (boats b) (take (length (m .products) - k * l .boats) (drop (k * l .boats) (m .products))))
+        {z : ℤ} (ez : z ≡ target-product b s i) where
+      pub took-is : k < 63 → memory-of (set (set (m .tags) i (k + 1)) 256 (k + 1)) (set (m .targets) k z) (putMid (k * l .boats) (length (m .products) - k * l .boats) (m .products) part) ≡ remembering b s i m
+      unfolding file-layout tagged
+      took-is g = rw (next-is, ez, lt-ltb k 63 g, e) (rw (put-back (rw e at ep)))
+
+      pub full-is : 63 ≤ k → memory-of (m .tags) (set (m .targets) k z) (putMid (k * l .boats) (length (m .products) - k * l .boats) (m .products) part) ≡ remembering b s i m
+      unfolding file-layout tagged
+      full-is g = rw (next-is, ez, le-ltb k 63 g, e) (rw (put-back (rw e at ep)))
+
+  -- ---- Whether it has a slot or takes one
+
+  pub slot-below : slot-of i m < 64
+  slot-below = either (getD (m .tags) i 0) 0 (λ none. rw (next-slot none) (omega (arith, R .few))) (λ some. kept-below some)
+
+  pub remembered : Remembered b s (remembering b s i m)
+  remembered = either (getD (m .tags) i 0) 0 (λ none. rw (next-is none) (next-remembered none)) (λ some. rw (kept-is some) R)
+
+  pub remembered-long : length (remembering b s i m .products) ≡ length (m .products)
+  remembered-long = either (getD (m .tags) i 0) 0 (λ none. rw (next-is none) (pasted-long none)) (λ some. rw (kept-is some))
+
+  slot-products : Products b s i (drop (slot-of i m * boats b) (remembering b s i m .products))
+  slot-products = either (getD (m .tags) i 0) 0 (λ none. rw (next-is none, next-slot none) (here none)) (λ some. rw (kept-is some) (R .products i (slot-of i m) h (has some)))
+
+  slot-target : getD (remembering b s i m .targets) (slot-of i m) (pos 0) ≡ target-product b s i
+  slot-target = either (getD (m .tags) i 0) 0 (λ none. rw (next-is none, next-slot none) (target-here none)) (λ some. rw (kept-is some) (R .targets i (slot-of i m) h (has some)))
+
+  -- as the code has it: the slot k, and the memory that `remember` leaves
+  module _ {k : ℕ} (ek : k ≡ slot-of i m) {m′ : Memory} (em : m′ ≡ remembering b s i m) where
+    room-there : k * boats b + boats b ≤ length (m′ .products)
+    room-there = rw (em, ek) (omega (arith, apart (slot-of i m) 64 (boats b) slot-below, remembered .room))
+
+    pub slot-small : k < 64
+    slot-small = rw ek slot-below
+
+    pub target-below : k < length (m′ .targets)
+    target-below = rw (em, ek) (omega (arith, remembered .targets-long, slot-below))
+
+    pub target-is : getD (m′ .targets) k (pos 0) ≡ target-product b s i
+    target-is = rw (em, ek) slot-target
+
+    module _ {l : Layout} (e : l ≡ file-layout b s) where
+      pub slot-fits : Fits w64 (k * l .boats)
+      unfolding file-layout
+      slot-fits = rw (e, ek) (record { fits = omega (arith, apart (slot-of i m) 64 (boats b) slot-below, book-fits b s ok .most-boats) })
+
+      pub slot-bytes-fit : Fits w64 (k * l .boats * 4)
+      unfolding file-layout
+      slot-bytes-fit = rw (e, ek) (record { fits = omega (arith, apart (slot-of i m) 64 (boats b) slot-below, book-fits b s ok .most-boats) })
+
+      pub slot-starts : k * l .boats ≤ length (m′ .products)
+      unfolding file-layout
+      slot-starts = rw e (omega (arith, room-there))
+
+      -- the boat's own product in its slot
+      pub own-fits : Fits w64 (k * l .boats + i)
+      unfolding file-layout
+      own-fits = rw (e, ek) (record { fits = omega (arith, apart (slot-of i m) 64 (boats b) slot-below, book-fits b s ok .most-boats) })
+
+      pub own-bytes-fit : Fits w64 ((k * l .boats + i) * 4)
+      unfolding file-layout
+      own-bytes-fit = rw (e, ek) (record { fits = omega (arith, apart (slot-of i m) 64 (boats b) slot-below, book-fits b s ok .most-boats) })
+
+      pub own-inside : k * l .boats + i < length (m′ .products)
+      unfolding file-layout
+      own-inside = rw e (omega (arith, room-there))
+
+      pub own-is : getD (m′ .products) (k * l .boats + i) (pos 0) ≡ getD (boat-products b s i) i (pos 0)
+      unfolding file-layout
+      own-is =
+          let P : Products b s i (drop (k * boats b) (m′ .products)) = rw (em, ek) slot-products in
+          rw e (sym (getD-drop (k * boats b) (m′ .products) i (pos 0)) ∙ sym (getD-take (boats b) (drop (k * boats b) (m′ .products)) i (pos 0) h) ∙ ap (λ (z : List ℤ). getD z i (pos 0)) (P .are))
+
+      -- the memory from the slot on, as it is lent
+      pub slot-part : Products b s i (take (length (m′ .products) - k * l .boats) (drop (k * l .boats) (m′ .products)))
+      unfolding file-layout
+      slot-part =
+          let P : Products b s i (drop (k * boats b) (m′ .products)) = rw (em, ek) slot-products in
+          rw (e, take-all (length (m′ .products) - k * boats b) (drop (k * boats b) (m′ .products)) (rw length-drop (omega arith))) P
 
 -- nothing is remembered at first
 zeros : (n j : ℕ) → _≡_ {A = ℕ} (getD (replicate n 0) j 0) 0
@@ -217,11 +322,17 @@ zeros zero j = refl
 zeros (suc n) zero = refl
 zeros (suc n) (suc j) = zeros n j
 
-pub remembers-nothing : (b s : List ℕ) {memory : List ℤ} → 64 * boats b ≤ length memory → Remembered b s (replicate 64 0) memory
-remembers-nothing b s h = record { slots = refl; room = h; products = λ j i hj e. absurd (omega (arith, zeros 64 j, e)) }
-
-pub aims-nothing : (b s : List ℕ) → Aimed b s (replicate 64 0) (replicate 64 (pos 0))
-aims-nothing b s = record { slots = refl; each = λ j i hj e. absurd (omega (arith, zeros 64 j, e)) }
+pub remembers-nothing : (b s : List ℕ) {products : List ℤ} → 64 * boats b ≤ length products → Remembered b s (memory-of (replicate 257 0) (replicate 64 (pos 0)) products)
+remembers-nothing b s h =
+    record {
+      tags-long = refl;
+      targets-long = refl;
+      room = h;
+      few = omega arith;
+      below = λ i j hi e. absurd (omega (arith, zeros 257 i, e));
+      targets = λ i j hi e. absurd (omega (arith, zeros 257 i, e));
+      products = λ i j hi e. absurd (omega (arith, zeros 257 i, e));
+    }
 
 -- memory for boats that are at most n has room for 64 of their rows
 pub room-for : (b s : List ℕ) (n : ℕ) {l : Layout} → l ≡ file-layout b s → l .boats ≤ n → 64 * boats b ≤ 64 * n

@@ -2,8 +2,8 @@
 use mathlib.Core.Path.{_≡_}
 use mathlib.Core.Bool.{cond}
 use mathlib.Core.List.{List}
-use Prim.Native.Nat.{ℕ, zero, suc, _+_, _*_, _-_, _%_, _≤_, _<_}
-use lib.Dec.{eqb}
+use Prim.Native.Nat.{ℕ, zero, suc, _+_, _*_, _-_, _≤_, _<_}
+use lib.Dec.{eqb, ltb}
 use lib.ListN.{length, getD, set, take, drop, replicate}
 use lib.Seq.{paste}
 use lib.IntN.{ℤ, pos}
@@ -37,38 +37,47 @@ pub record Products (b s : List ℕ) (boat : ℕ) (ps : List ℤ) : Type 0 where
   pub room : boats b ≤ length ps
   pub are : take (boats b) ps ≡ boat-products b s boat
 
--- each of 64 slots of the memory whose tag is a boat, counted from 1, holds that boat's products
-pub record Remembered (b s tags : List ℕ) (memory : List ℤ) : Type 0 where
-  pub slots : length tags ≡ 64
-  pub room : 64 * boats b ≤ length memory
-  pub products : (j i : ℕ) → j < 64 → getD tags j 0 ≡ suc i → Products b s i (drop (j * boats b) memory)
+-- ---- The memory of products
 
--- the boat's slot holds the product of its row less the target with the target
-pub record Target (b s : List ℕ) (boat : ℕ) (targets : List ℤ) : Type 0 where
-  pub is : getD targets (boat % 64) (pos 0) ≡ target-product b s boat
-
--- each of 64 slots whose tag is a boat holds the product of that boat's row less the target with the target
-pub record Aimed (b s tags : List ℕ) (targets : List ℤ) : Type 0 where
-  pub slots : length targets ≡ 64
-  pub each : (j i : ℕ) → j < 64 → getD tags j 0 ≡ suc i → getD targets j (pos 0) ≡ target-product b s i
-
--- ---- The memory of products by equations
-
--- 64 slots for the products of a boat, and for each slot its tag: the boat, counted from 1, or 0 for none
+-- 64 slots for the products of a boat with every row, and 64 for that with the target. The tags have for each of 256 boats its slot,
+-- counted from 1, or 0 for none, and behind them how many slots are taken
 pub record Memory : Type 0 where
   pub tags : List ℕ
+  pub targets : List ℤ
   pub products : List ℤ
 
-abbrev pub memory-of : (tags : List ℕ) → (products : List ℤ) → Memory
-memory-of ts ps = record { tags = ts; products = ps }
+abbrev pub memory-of : (tags : List ℕ) → (targets products : List ℤ) → Memory
+memory-of ts us ps = record { tags = ts; targets = us; products = ps }
 
--- with a boat's products in its slot, as it was where they are there
+abbrev pub taken : Memory → ℕ
+taken m = getD (m .tags) 256 0
+
+-- the slot for a boat: its own, or the next one
+unfoldable pub slot-of : (boat : ℕ) → Memory → ℕ
+slot-of i m = cond (eqb (getD (m .tags) i 0) 0) (taken m) (getD (m .tags) i 0 - 1)
+
+-- a boat takes slot k; the last is nobody's, and serves all boats that come when the others are taken
+unfoldable pub tagged : (boat k : ℕ) → (tags : List ℕ) → List ℕ
+tagged i k ts = cond (ltb k 63) (set (set ts i (k + 1)) 256 (k + 1)) ts
+
+-- with a boat's products, as it was where the boat has a slot
 unfoldable pub remembering : (b s : List ℕ) → (boat : ℕ) → Memory → Memory
 remembering b s i m =
-    cond (eqb (getD (m .tags) (i % 64) 0) (i + 1)) m
-    (memory-of (set (m .tags) (i % 64) (i + 1)) (paste (m .products) (i % 64 * boats b) (boat-products b s i) (boats b)))
+    cond (eqb (getD (m .tags) i 0) 0)
+    (memory-of (tagged i (taken m) (m .tags)) (set (m .targets) (taken m) (target-product b s i)) (paste (m .products) (taken m * boats b) (boat-products b s i) (boats b)))
+    m
 
 -- after t steps of a run that starts with these numbers and no boat in a slot
 unfoldable pub memory-after : (b s : List ℕ) → (t : ℕ) → (products : List ℤ) → Memory
-memory-after b s zero ps = memory-of (replicate 64 0) ps
+memory-after b s zero ps = memory-of (replicate 257 0) (replicate 64 (pos 0)) ps
 memory-after b s (suc t) ps = remembering b s (pick-at b s t) (memory-after b s t ps)
+
+-- where a boat has a slot, its products are there; the slots taken are the first ones, and the last is not
+pub record Remembered (b s : List ℕ) (m : Memory) : Type 0 where
+  pub tags-long : length (m .tags) ≡ 257
+  pub targets-long : length (m .targets) ≡ 64
+  pub room : 64 * boats b ≤ length (m .products)
+  pub few : taken m ≤ 63
+  pub below : (i j : ℕ) → i < boats b → getD (m .tags) i 0 ≡ suc j → j < taken m
+  pub targets : (i j : ℕ) → i < boats b → getD (m .tags) i 0 ≡ suc j → getD (m .targets) j (pos 0) ≡ target-product b s i
+  pub products : (i j : ℕ) → i < boats b → getD (m .tags) i 0 ≡ suc j → Products b s i (drop (j * boats b) (m .products))

@@ -6,7 +6,7 @@ use native.Mathlib.Omega.{arith}
 use native.Mathlib.Numerals.{add-one}
 use lib.IntN.{ℤ, pos}
 use lib.ListN.{length, getD, set, take, drop, replicate, length-append}
-use lib.Seq.{take-at}
+use lib.Seq.{take-at, getD-take}
 use mir.Syntax.{w32, w64}
 use mir.Val.{toZ, ofZ}
 use Rattle.files.specs.Book.{boats}
@@ -23,7 +23,7 @@ use Rattle.iteration.specs.Measures.{Answerable}
 use Rattle.iteration.proofs.States.{book-fits, sheet-fits, product-count, best-below, steppable, next-holds}
 use Rattle.iteration.proofs.Answering.{answerable}
 use Rattle.run_loop.specs.Runs.{Shares-at, Scores-at, Products}
-use Rattle.run_loop.proofs.Keeping.{Shared, share-room, shares-next, shares-before, shares-at, shares-start, scores-start, scores-next, own-score, own-product}
+use Rattle.run_loop.proofs.Keeping.{Shared, share-room, shares-next, shares-before, shares-at, shares-start, scores-start, scores-next, own-score}
 
 -- what the loop over the steps keeps
 pub record Followed (b s : List ℕ) (x : State) (shares : List ℕ) (scores : List ℤ) : Type 0 where
@@ -33,6 +33,9 @@ pub record Followed (b s : List ℕ) (x : State) (shares : List ℕ) (scores : L
   pub shares-long : length shares ≡ 256
   pub scored : Scores-at b s (x .steps) scores
   pub long : length scores ≡ 256
+
+own-product : {b s : List ℕ} {i : ℕ} {ps : List ℤ} → Products b s i ps → i < boats b → getD ps i (pos 0) ≡ getD (boat-products b s i) i (pos 0)
+own-product {b} {s} {i} {ps} P h = sym (getD-take (boats b) ps i (pos 0) h) ∙ ap (λ (z : List ℤ). getD z i (pos 0)) (P .are)
 
 module _ (b s : List ℕ) (ok : files-refusal b s ≡ 0) where
   -- the products of a boat, in the first slots
