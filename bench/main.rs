@@ -1,11 +1,12 @@
-//! The benchmark: the library's search against plain Rust and plain C that make one pass over the book a step, and against
-//! Frank-Wolfe in floating point, on the same files.
+//! The benchmark: the library's search against the same algorithm in plain Rust, against plain Rust and plain C that make one pass
+//! over the book a step, and against Frank-Wolfe in floating point, on the same files.
 //!
-//! Use: bench [REPEATS]. In each repeat every implementation runs in turn, so that a change of the machine's load meets all of
+//! Use: bench [REPEATS], or bench once INPUT WHOSE, which makes one call for bench/instructions to count. In each repeat every implementation runs in turn, so that a change of the machine's load meets all of
 //! them alike. Times are of the processor and for one call, and a time is the median of the repeats; a ratio is the median of the
 //! repeats' ratios.
 
 mod plain;
+mod remembered;
 #[path = "../compare/encode.rs"]
 mod encode;
 #[path = "../compare/random.rs"]
@@ -219,6 +220,7 @@ fn median(mut times: Vec<f64>) -> f64 {
 /// The times of each implementation, one a repeat.
 struct Times {
     library: Vec<f64>,
+    same: Vec<f64>,
     rust: Vec<f64>,
     c: Vec<f64>,
     float: Vec<f64>,
@@ -248,11 +250,15 @@ fn measure(x: &Input, repeats: u32) -> Times {
     let calls = batch(|| {
         black_box(plain::search(black_box(book), black_box(sheet), &mut shares));
     });
-    let mut times = Times { library: Vec::new(), rust: Vec::new(), c: Vec::new(), float: Vec::new() };
+    let mut times = Times { library: Vec::new(), same: Vec::new(), rust: Vec::new(), c: Vec::new(), float: Vec::new() };
     for _ in 0..repeats {
         shares.fill(0);
         times.library.push(time(calls, || {
             black_box(library_search(black_box(book), black_box(sheet), &mut shares));
+        }));
+        shares.fill(0);
+        times.same.push(time(calls, || {
+            black_box(remembered::search(black_box(book), black_box(sheet), &mut shares));
         }));
         shares.fill(0);
         times.rust.push(time(calls, || {
@@ -272,11 +278,12 @@ fn measure(x: &Input, repeats: u32) -> Times {
 
 /// What the run is, after a check that the implementations agree.
 fn described(x: &Input) -> String {
-    let mut shares = [[0u16; 256]; 3];
+    let mut shares = [[0u16; 256]; 4];
     let reply = library_search(&x.book, &x.sheet, &mut shares[0]);
     assert_eq!(reply, plain::search(&x.book, &x.sheet, &mut shares[1]), "plain Rust differs");
     assert_eq!(reply, c_search(&x.book, &x.sheet, &mut shares[2]), "plain C differs");
-    assert!(reply.refusal == 0 && shares[0] == shares[1] && shares[0] == shares[2], "shares differ");
+    assert_eq!(reply, remembered::search(&x.book, &x.sheet, &mut shares[3]), "the same algorithm in Rust differs");
+    assert!(reply.refusal == 0 && shares.iter().all(|other| *other == shares[0]), "shares differ");
     let mut weights = [0f64; 256];
     let float = c_float_search(&x.book, &x.sheet, &mut weights);
     let distance = reply.distance as f64 / (f64::from(reply.weight) * f64::from(reply.weight));
@@ -291,17 +298,19 @@ fn described(x: &Input) -> String {
 
 /// One row for each input: the run, the times, and the library's ratios to the others.
 fn print_inputs(inputs: &[(&str, Input)], repeats: u32) {
-    println!("| input | run | library | plain Rust | plain C | floats in C | library / Rust | library / C | library / floats |");
-    println!("|---|---|---|---|---|---|---|---|---|");
+    println!("| input | run | library | same in Rust | plain Rust | plain C | floats in C | library / same | library / Rust | library / C | library / floats |");
+    println!("|---|---|---|---|---|---|---|---|---|---|---|");
     for (name, x) in inputs {
         let run = described(x);
         let t = measure(x, repeats);
         println!(
-            "| {name} | {run} | {:.2} | {:.2} | {:.2} | {:.2} | {:.2} | {:.2} | {:.2} |",
+            "| {name} | {run} | {:.2} | {:.2} | {:.2} | {:.2} | {:.2} | {:.2} | {:.2} | {:.2} | {:.2} |",
             microseconds(&t.library),
+            microseconds(&t.same),
             microseconds(&t.rust),
             microseconds(&t.c),
             microseconds(&t.float),
+            ratio(&t.library, &t.same),
             ratio(&t.library, &t.rust),
             ratio(&t.library, &t.c),
             ratio(&t.library, &t.float)
@@ -463,7 +472,29 @@ fn print_stack() {
     }
 }
 
+/// One call on an input: `few` or `many` with boats, columns and steps, as few-256-64-360, or `one` with boats and columns.
+fn once(name: &str, whose: &str) {
+    let words: Vec<&str> = name.split('-').collect();
+    let sizes: Vec<usize> = words[1..].iter().map(|word| word.parse().expect("a size")).collect();
+    let x = match words[0] {
+        "few" => few_boats(sizes[0], sizes[1], sizes[2] as u16),
+        "many" => many_boats(sizes[0], sizes[1], sizes[2] as u16),
+        _ => one_step(sizes[0], sizes[1]),
+    };
+    let mut shares = [0u16; 256];
+    black_box(match whose {
+        "library" => library_search(&x.book, &x.sheet, &mut shares),
+        "same" => remembered::search(&x.book, &x.sheet, &mut shares),
+        _ => plain::search(&x.book, &x.sheet, &mut shares),
+    });
+}
+
 fn main() {
+    let words: Vec<String> = std::env::args().skip(1).collect();
+    if let [command, name, whose] = &words[..] {
+        assert_eq!(command, "once");
+        return once(name, whose);
+    }
     let repeats = std::env::args().nth(1).map_or(31, |word| word.parse().expect("a number of repeats"));
     println!("Processor times in microseconds a call, medians of {repeats} repeats.");
     println!("Share lists and buffers were cleared before each batch of calls, outside the time. The files are read again in each call, from the cache.");

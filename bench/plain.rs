@@ -11,7 +11,7 @@ fn u32_at(bytes: &[u8], at: usize) -> u32 {
     u32::from_le_bytes([bytes[at], bytes[at + 1], bytes[at + 2], bytes[at + 3]])
 }
 
-fn values(body: &[u8]) -> impl Iterator<Item = i32> + '_ {
+pub fn values(body: &[u8]) -> impl Iterator<Item = i32> + '_ {
     body.chunks_exact(2).map(|two| i32::from(i16::from_le_bytes([two[0], two[1]])))
 }
 
@@ -19,19 +19,19 @@ fn in_range(body: &[u8]) -> bool {
     values(body).all(|v| (-2000..=2000).contains(&v))
 }
 
-struct Book<'a> {
-    boats: usize,
-    columns: usize,
-    body: &'a [u8],
+pub struct Book<'a> {
+    pub boats: usize,
+    pub columns: usize,
+    pub body: &'a [u8],
 }
 
-struct Sheet<'a> {
-    steps: u32,
-    tolerance: u64,
-    body: &'a [u8],
+pub struct Sheet<'a> {
+    pub steps: u32,
+    pub tolerance: u64,
+    pub body: &'a [u8],
 }
 
-fn read_book(book: &[u8]) -> Result<Book<'_>, u32> {
+pub fn read_book(book: &[u8]) -> Result<Book<'_>, u32> {
     if book.len() < 12 || book.len() > 40_000 {
         return Err(1);
     }
@@ -58,7 +58,7 @@ fn read_book(book: &[u8]) -> Result<Book<'_>, u32> {
     Ok(Book { boats, columns, body })
 }
 
-fn read_sheet(sheet: &[u8], columns: usize) -> Result<Sheet<'_>, u32> {
+pub fn read_sheet(sheet: &[u8], columns: usize) -> Result<Sheet<'_>, u32> {
     if sheet.len() < 16 || sheet.len() > 40_000 {
         return Err(11);
     }
