@@ -66,11 +66,11 @@ module _ (t : Table) (w : List ℕ) (z : t .fault ≡ 0) (e : t .cell ≡ read w
   -- a token
   after-text : (k : ℕ) → ltb k 256 ≡ true → text-after w k ≡ w ++ (k ∷ [])
   unfolding text-after
-  after-text k p = rw p refl
+  after-text k p = simp p
 
   after-end : (k : ℕ) → ltb k 256 ≡ false → (k ≡ 259 → ⊥) → text-after w k ≡ []
   unfolding text-after
-  after-end k p h = rw (p, ne-eqb k 259 h) refl
+  after-end k p h = simp (p, ne-eqb k 259 h)
 
   after-nothing : (k : ℕ) → k ≡ 259 → text-after w k ≡ w
   unfolding text-after

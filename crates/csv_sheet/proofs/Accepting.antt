@@ -1,18 +1,18 @@
 -- What the entry gives back at each of its returns, and that the sheet is accepted and asks for what the CSVs ask for.
-use mathlib.Core.Path.{_≡_, refl, sym, ap, _∙_}
+use mathlib.Core.Path.{_≡_, refl, sym, ap, subst, _∙_}
 use mathlib.Core.Bool.{Bool, true, false, cond}
 use mathlib.Core.List.{List, [], _∷_, map}
 use Prim.Native.Nat.{ℕ, zero, suc, _≤_, _<_}
 use native.Mathlib.Omega.{arith}
 use borrow.Author.Tests.{eq-eqb, ne-eqb, lt-ltb, le-ltb, ltb-false}
 use lib.Dec.{ltb}
-use lib.IntN.{pos}
+use lib.IntN.{ℤ, pos}
 use lib.ListN.{length, take, getD, length-append}
 use Rattle.frank_wolfe.specs.Vectors.{ones, sum}
 use Rattle.files.specs.Bytes.{between}
 use Rattle.files.specs.Limits.{file-limit}
 use Rattle.files.specs.Book.{columns, book-refusal}
-use Rattle.files.specs.Sheet.{sheet, files-refusal, sheet-refusal}
+use Rattle.files.specs.Sheet.{Sheet, sheet, files-refusal, sheet-refusal}
 use Rattle.files.proofs.Refusal.{between-true}
 use Rattle.buffers.specs.Placed.{placed}
 use Rattle.sheet_output.specs.Output.{edition-bytes}
@@ -27,6 +27,12 @@ use Rattle.csv_front_text.specs.declared.Front.the-variants.{Nothing}
 use Rattle.csv_book.specs.declared.Made as book
 use Rattle.csv_book.specs.Books.{csv-book}
 use Rattle.csv_book.proofs.Making.{book-accepted}
+use Rattle.csv_numbers.specs.Numbers.{Says-value}
+use Rattle.csv_fleet_round_trip.specs.Back.{All}
+use Rattle.csv_cells.specs.Cells.{cell-text}
+use Rattle.csv_cells_round_trip.specs.Writing.{rows-csv}
+use Rattle.csv_cells_round_trip.specs.Back.{Row-fits, Rows-read-back}
+use Rattle.csv_cells_round_trip.proofs.Back.{rows-read-back}
 use Rattle.csv_sheet_rows.specs.declared.Finding.{Finding}
 use Rattle.csv_sheet_rows.specs.Rows.{sheet-names, rows-fault}
 use Rattle.csv_sheet_rows.proofs.Soundness.{sound}
@@ -44,6 +50,24 @@ getD-map : {A : Type 0} (f : ℕ → A) (xs : List ℕ) (i : ℕ) (a : A) (b : �
 getD-map f [] i a b h = absurd (omega arith)
 getD-map f (x ∷ xs) zero a b h = refl
 getD-map f (x ∷ xs) (suc i) a b h = getD-map f xs i a b (omega arith)
+
+-- ---- what the fields of a CSV say, said by the fields that were written
+again : {v : ℤ} {w u : List ℕ} → w ≡ u → Says-value v w → Says-value v u
+again {v} e s = subst (λ (x : List ℕ). Says-value v x) e s
+
+said-again : {fleet csv : List ℕ} {s : Sheet} (rows : List (List (List ℕ))) → All Row-fits rows → csv ≡ rows-csv rows → Figures-said (λ r f. cell-text r f csv) fleet csv s →
+    Figures-said (λ r f. getD (getD rows r []) f []) fleet csv s
+unfolding Rows-read-back
+said-again {fleet} {csv} {s} rows i e g =
+    let same : (r f : ℕ) → cell-text r f csv ≡ getD (getD rows r []) f [] = λ r f. ap (cell-text r f) e ∙ rows-read-back rows i .cells-back r f in
+    record {
+      values = λ j h. again (same _ _) (g .values j h);
+      factors = λ n j h. again (same _ _) (g .factors n j h);
+      steps = again (same _ _) (g .steps);
+      tolerance-number = g .tolerance-number;
+      tolerance-said = again (same _ _) (g .tolerance-said);
+      tolerance = g .tolerance;
+    }
 
 -- ---- the sheet of a CSV without fault
 module _ {ps csv : List ℕ} (d : Ready ps csv) (z : total-fault ps csv ≡ 0) where
@@ -88,7 +112,7 @@ module _ {ps csv : List ℕ} (d : Ready ps csv) (z : total-fault ps csv ≡ 0) w
   unfolding asked-at
   asked-long = target-long ps csv
 
-  pub figures : (fleet : List ℕ) → ps ≡ places fleet csv → Figures-said fleet csv (asked-at ps csv)
+  pub figures : (fleet : List ℕ) → ps ≡ places fleet csv → Figures-said (λ r f. cell-text r f csv) fleet csv (asked-at ps csv)
   unfolding asked-at target-of factors-of factor-at value-at steps-of tolerance-for
   figures fleet e =
       let g = sound csv (d .faultless) in
@@ -144,6 +168,7 @@ module _ (fleet csv out : List ℕ) (h : file-limit ≤ length out) (z : last-ta
         with-book = with-book fleet z (length ps) (places-long fleet csv z) (sheet-at ps csv) (asks-for d e .0);
         asks = asks-for d e .1;
         figures = rw (asks-for d e .1) (figures d e fleet refl);
+        fields-back = λ rows i q. rw (asks-for d e .1) (said-again rows i q (figures d e fleet refl));
         matched = rw (places-long fleet csv z) (matched fleet csv z short good none);
       }
 
