@@ -23,14 +23,15 @@ pub fn file_better(folder: &[u8]) {
     let m = file_io::read_in(folder, b"sheet.wsh", &mut sheet);
     let k = file_io::read_in(folder, b"first.wcd", &mut first);
     let l = file_io::read_in(folder, b"second.wcd", &mut second);
-    refusal_output::tell_detail(&book[..n], &sheet[..m]);
     let chosen = better_listing::better_text(&book[..n], &sheet[..m], &first[..k], &second[..l]);
     let choice = chosen.choice;
+    let listing = chosen.text;
+    refusal_output::tell_detail(&book[..n], &sheet[..m], listing);
     let part = better_card::part_of(&first[..k], &second[..l], choice);
     let path = paths::path_in(folder, b"better.wcd");
     let bytes = path.bytes;
     let name = file_io::first_bytes(&bytes, path.len);
     if file(name, part, choice.refusal) {
-        file_io::print(chosen.text);
+        file_io::print(listing);
     }
 }

@@ -20,14 +20,15 @@ pub fn file_card(folder: &[u8]) {
     let mut sheet = [0u8; 40001];
     let n = file_io::read_in(folder, b"fleet.wbk", &mut book);
     let m = file_io::read_in(folder, b"sheet.wsh", &mut sheet);
-    refusal_output::tell_detail(&book[..n], &sheet[..m]);
     let mut output = [0u8; card_listing::MOST_CARD];
     let filing = card_listing::filed_text(&book[..n], &sheet[..m], &mut output);
+    let listing = filing.text;
+    refusal_output::tell_detail(&book[..n], &sheet[..m], listing);
     let path = paths::path_in(folder, b"card.wcd");
     let bytes = path.bytes;
     let name = file_io::first_bytes(&bytes, path.len);
     if file(name, &output, filing.len) {
-        file_io::print(filing.text);
+        file_io::print(listing);
     }
 }
 
@@ -41,6 +42,7 @@ pub fn check_card(folder: &[u8]) {
     let n = file_io::read_in(folder, b"fleet.wbk", &mut book);
     let m = file_io::read_in(folder, b"sheet.wsh", &mut sheet);
     let k = file_io::read_in(folder, b"card.wcd", &mut filed);
-    refusal_output::tell_detail(&book[..n], &sheet[..m]);
-    file_io::print(card_listing::card_text(&book[..n], &sheet[..m], &filed[..k]));
+    let listing = card_listing::card_text(&book[..n], &sheet[..m], &filed[..k]);
+    refusal_output::tell_detail(&book[..n], &sheet[..m], listing);
+    file_io::print(listing);
 }
