@@ -31,19 +31,19 @@ fn with_other(text: Text, fault: u32) -> Text
     ensures { λ r. ⌜ Adds text (other-words fault) r ⌝ }
     ensures { λ r. ⌜ r .len ≤ text .len + 40 ⌝ }
 {
-    if fault == 9 {
+    if fault == csv_fleet_tokens::BOATLESS {
         return text.with_bytes(b"no boat");
     }
-    if fault == 10 {
+    if fault == csv_book::BIG {
         return text.with_bytes(b"more than 200000 bytes");
     }
-    if fault == 11 {
+    if fault == csv_book::ROOM {
         return text.with_bytes(b"a buffer of fewer than 40000 bytes");
     }
-    if fault == 260 {
+    if fault == csv::STRAY {
         return text.with_bytes(b"text after a closing quote");
     }
-    if fault == 261 {
+    if fault == csv::OPEN {
         return text.with_bytes(b"a quote that is not closed");
     }
     text.with_bytes(b"no fault")
@@ -55,19 +55,19 @@ pub fn with_plain(text: Text, fault: u32) -> Text
     ensures { λ r. ⌜ Adds text (plain-words fault) r ⌝ }
     ensures { λ r. ⌜ r .len ≤ text .len + 40 ⌝ }
 {
-    if fault == 1 {
+    if fault == csv_fleet_tokens::LONG {
         return text.with_bytes(b"a field of more than 200 bytes");
     }
-    if fault == 2 {
+    if fault == csv_fleet_tokens::NAMELESS {
         return text.with_bytes(b"the boat has no name");
     }
-    if fault == 3 {
+    if fault == csv_fleet_tokens::COLUMNLESS {
         return text.with_bytes(b"no column");
     }
-    if fault == 4 {
+    if fault == csv_fleet_tokens::MANY {
         return text.with_bytes(b"more than 64 columns");
     }
-    if fault == 8 {
+    if fault == csv_fleet_tokens::BOATS {
         return text.with_bytes(b"more than 256 boats");
     }
     with_other(text, fault)
@@ -113,22 +113,22 @@ fn with_words(text: Text, fault: u32, field: usize, columns: usize, value: &[u8]
     ensures { λ r. ⌜ Adds text (words fault field columns (now (value .entry))) r ⌝ }
     ensures { λ r. ⌜ r .len ≤ text .len + length (now (value .entry)) + 60 ⌝ }
 {
-    if fault == 6 {
+    if fault == csv_fleet_tokens::NOT_WHOLE {
         return message_parts::with_shown(text, value).with_bytes(b" is not a whole number");
     }
-    if fault == 7 {
+    if fault == csv_fleet_tokens::OUT_OF_RANGE {
         return message_parts::with_shown(text, value).with_bytes(b" is not from -2000 to 2000");
     }
-    if fault == 5 {
+    if fault == csv_fleet_tokens::FEW {
         return with_few(text, field, columns);
     }
-    if fault == 2 {
+    if fault == csv_fleet_tokens::NAMELESS {
         if columns == 0 {
             return with_unnamed(text, field);
         }
         return with_plain(text, fault);
     }
-    if fault == 4 {
+    if fault == csv_fleet_tokens::MANY {
         if columns == 0 {
             return with_plain(text, fault);
         }
@@ -159,7 +159,7 @@ fn wants_boat(fault: u32, field: usize, columns: usize) -> bool
         return false;
     }
     if field == 0 {
-        return fault == 5;
+        return fault == csv_fleet_tokens::FEW;
     }
     true
 }
@@ -173,19 +173,19 @@ fn wants_column(fault: u32, field: usize, columns: usize) -> bool
     if field == 0 {
         return false;
     }
-    if fault == 4 {
+    if fault == csv_fleet_tokens::MANY {
         return false;
     }
-    fault != 5
+    fault != csv_fleet_tokens::FEW
 }
 
 pub fn wants_value(fault: u32) -> bool
     ensures { λ r. ⌜ r ≡ wants-value fault ⌝ }
 {
-    if fault == 6 {
+    if fault == csv_fleet_tokens::NOT_WHOLE {
         return true;
     }
-    fault == 7
+    fault == csv_fleet_tokens::OUT_OF_RANGE
 }
 
 // The line, once the names are found.

@@ -74,13 +74,13 @@ fn with_missing(text: Text, fault: u32) -> Text
     ensures { λ r. ⌜ Adds text (missing-words fault) r ⌝ }
     ensures { λ r. ⌜ r .len ≤ text .len + 50 ⌝ }
 {
-    if fault == 15 {
+    if fault == csv_sheet_rows::NO_HULL {
         return text.with_bytes(b"no hull");
     }
-    if fault == 16 {
+    if fault == csv_sheet_rows::NO_STEPS {
         return text.with_bytes(b"no line \"steps\"");
     }
-    if fault == 17 {
+    if fault == csv_sheet_rows::NO_TOLERANCE {
         return text.with_bytes(b"no line \"tolerance\"");
     }
     csv_book_text::with_plain(text, fault)
@@ -92,19 +92,19 @@ fn with_limit(text: Text, fault: u32) -> Text
     ensures { λ r. ⌜ Adds text (limit-words fault) r ⌝ }
     ensures { λ r. ⌜ r .len ≤ text .len + 50 ⌝ }
 {
-    if fault == 4 {
+    if fault == csv_cells::MANY {
         return text.with_bytes(b"more than 65 fields");
     }
-    if fault == 10 {
+    if fault == csv_sheet::BIG {
         return text.with_bytes(b"more than 39000 bytes");
     }
-    if fault == 13 {
+    if fault == csv_sheet_rows::ROWS {
         return text.with_bytes(b"more than 16 lines");
     }
-    if fault == 22 {
+    if fault == csv_sheet::FACTOR_TOTAL {
         return text.with_bytes(b"the factors do not total 1 to 64");
     }
-    if fault == 23 {
+    if fault == csv_sheet::LARGE_TOLERANCE {
         return text.with_bytes(b"a tolerance above 1024000000");
     }
     with_missing(text, fault)
@@ -116,22 +116,22 @@ fn with_words(text: Text, fault: u32, field: usize, kind: u32, value: &[u8]) -> 
     ensures { λ r. ⌜ Adds text (words fault field kind (now (value .entry))) r ⌝ }
     ensures { λ r. ⌜ r .len ≤ text .len + length (now (value .entry)) + 60 ⌝ }
 {
-    if fault == 5 {
+    if fault == csv_sheet_rows::NO_VALUE {
         return text.with_bytes(b"no value");
     }
-    if fault == 6 {
+    if fault == csv_sheet_rows::NOT_WHOLE {
         return message_parts::with_shown(text, value).with_bytes(b" is not a whole number");
     }
-    if fault == 7 {
+    if fault == csv_sheet_rows::OUT_OF_RANGE {
         return with_range(message_parts::with_shown(text, value), kind);
     }
-    if fault == 24 {
+    if fault == csv_sheet_rows::MANY_VALUES {
         return with_beyond(text, field);
     }
-    if fault == 14 {
+    if fault == csv_sheet_rows::AGAIN {
         return with_again(text, kind);
     }
-    if fault == 2 {
+    if fault == csv_sheet_rows::NAMELESS {
         return with_nameless(text, field);
     }
     with_limit(text, fault)
@@ -165,10 +165,10 @@ fn wants_row(fault: u32) -> bool
     if of_value(fault) {
         return true;
     }
-    if fault == 14 {
+    if fault == csv_sheet_rows::AGAIN {
         return true;
     }
-    fault == 24
+    fault == csv_sheet_rows::MANY_VALUES
 }
 
 fn wants_column(fault: u32, kind: u32) -> bool
@@ -229,10 +229,10 @@ fn with_opening(text: Text, fault: u32) -> Text
     ensures { λ r. ⌜ Adds text (opening fault) r ⌝ }
     ensures { λ r. ⌜ r .len ≤ text .len + 50 ⌝ }
 {
-    if fault == 18 {
+    if fault == csv_column_match::MISSING {
         return text.with_bytes(b"sheet.csv: no column \"");
     }
-    if fault == 21 {
+    if fault == csv_column_match::FLEET_TWICE {
         return text.with_bytes(b"fleet.csv: column \"");
     }
     text.with_bytes(b"sheet.csv: column \"")
@@ -244,10 +244,10 @@ fn with_closing(text: Text, fault: u32) -> Text
     ensures { λ r. ⌜ Adds text (closing fault) r ⌝ }
     ensures { λ r. ⌜ r .len ≤ text .len + 50 ⌝ }
 {
-    if fault == 18 {
+    if fault == csv_column_match::MISSING {
         return text.with_bytes(b"\"");
     }
-    if fault == 20 {
+    if fault == csv_column_match::UNKNOWN {
         return text.with_bytes(b"\" is not in fleet.csv");
     }
     text.with_bytes(b"\" twice")
@@ -272,7 +272,7 @@ fn column_fault(fleet: &[u8], csv: &[u8], made: Made) -> Text
     let fault = made.fault;
     let field = made.field;
     let mut name = [0u8; 200];
-    if fault == 20 {
+    if fault == csv_column_match::UNKNOWN {
         let n = put_looked(csv, true, 0, field, &mut name);
         return column_line(fault, &name[..n]);
     }
@@ -285,7 +285,7 @@ pub fn sheet_fault(fleet: &[u8], csv: &[u8], made: Made) -> Text
     ensures { λ r. ⌜ Holds (sheet-fault (now (fleet .entry)) (now (csv .entry)) made) r ⌝ }
 {
     let fault = made.fault;
-    if fault == 12 {
+    if fault == csv_sheet::FLEET {
         return Text::empty();
     }
     if file_parts::is_between(18, 21, fault as usize) {
