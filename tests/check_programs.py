@@ -3,8 +3,10 @@
 
 A program is run in one folder, where one that prints a constant text would pass. So its work is a function of a folder's name,
 and its main calls that function on the folder that its argument names, or on the current one, which has no name, and does nothing else.
+The programs are those that tools/programs lists.
 """
 import os
+import subprocess
 import sys
 
 CRATES = os.path.join(os.path.dirname(os.path.abspath(__file__)), "..", "crates")
@@ -30,7 +32,11 @@ def code(crate):
 
 
 def main():
-    faults = 0
+    listed = subprocess.run([os.path.join(CRATES, "..", "tools", "programs")], stdout=subprocess.PIPE, check=True).stdout.decode().split()
+    unlike = sorted(set(listed) ^ set(PROGRAMS))
+    for program in unlike:
+        print("%s: stands either here or among the programs of tools/programs, not in both" % program)
+    faults = len(unlike)
     for program, (function, test, argument) in PROGRAMS.items():
         if code(program) != MAIN % (program, function):
             print("%s: crates/%s/src/main.rt is not one call of %s" % (program, program, function))

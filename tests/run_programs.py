@@ -2,10 +2,12 @@
 """Run the built programs in folders of their own, and compare what they print and leave with the reference.
 
 Use: python3 tests/run_programs.py target/bin [NAME..]
-Runs the programs that are named, all where none is, and report/mixreport with mixcheck. A program that is not built counts as a failed run. The
-last line says how many runs passed.
+Runs the programs that are named, all where none is, and report/mixreport with mixcheck. Where none is named all are run once more as tools/install
+puts them into a folder, with their exit statuses. A program that is not built, or that nothing here tries, counts as a failed run. The last line
+says how many runs passed.
 """
 import os
+import re
 import shutil
 import subprocess
 import sys
@@ -29,6 +31,7 @@ NAMED = b"boat,length,beam\nAlka 12,0,0\n\"Eider, II\",4,2500\nJura,0,4\n"
 WRONG_BOOK = exact.make_book([[0, 0], [4, 2500], [0, 4]], NAMED)
 FOLDER = None  # stands for a folder in the place of a file
 MIXREPORT = os.path.join(HERE, "..", "report", "mixreport")
+INSTALL, PROGRAMS = (os.path.join(HERE, "..", "tools", name) for name in ("install", "programs"))
 
 # Name, and the files of the folder.
 FILES = [
@@ -80,8 +83,22 @@ def contents(folder):
     return left
 
 
+def is_installed(program):
+    """Whether a program stands where tools/install puts it, so that it has an exit status."""
+    return os.path.isdir(os.path.join(os.path.dirname(program), "..", "libexec"))
+
+
+def status_of(program, out, err):
+    """The exit status by what was printed: a built program has none."""
+    if program == MIXREPORT or is_installed(program):
+        if err.startswith(b"usage: ") or err.endswith((b": could not be written\n", b": could not be written whole\n")):
+            return 2
+        return 1 if not out or out.startswith(b"refused ") else 0
+    return 0
+
+
 def run(program, files, read_only=False, arguments=(), folders=None, output=subprocess.PIPE):
-    """Standard output, standard error and the files of the folder afterwards. A program's exit status is 0 whatever happens."""
+    """Standard output, standard error and the files of the folder afterwards; nothing of these where the exit status is wrong."""
     folder = tempfile.mkdtemp()
     try:
         put(folder, files)
@@ -90,8 +107,11 @@ def run(program, files, read_only=False, arguments=(), folders=None, output=subp
             put(os.path.join(folder, name), inside)
         command = [os.path.abspath(program), *arguments]
         if read_only:
-            command = ["sh", "-c", "ulimit -f 0; trap '' XFSZ; exec " + command[0]]
-        done = subprocess.run(command, cwd=folder, stdout=output, stderr=subprocess.PIPE, check=program != MIXREPORT)
+            command = ["sh", "-c", "ulimit -f 0; trap '' XFSZ; exec \"$0\"", *command]
+        done = subprocess.run(command, cwd=folder, stdout=output, stderr=subprocess.PIPE, check=False)
+        if done.returncode != status_of(program, done.stdout, done.stderr):
+            print("%s: status %d" % (program, done.returncode))
+            return None, None, {}
         return done.stdout, done.stderr, contents(folder)
     finally:
         shutil.rmtree(folder)
@@ -203,8 +223,11 @@ def check_mixcheck(program, runs):
 
 def check_report(program, runs):
     """The report with the program: a refused card gives its line and no file, a true one the two reports with the listing in them."""
+    report, arguments = MIXREPORT, ("--mixcheck", os.path.abspath(program))
+    if is_installed(program):
+        report, arguments = os.path.join(os.path.dirname(program), "mixreport"), ()
     for name, before, listing in card_folders(("case a", "factors", "no book", "book of 40,001 bytes")):
-        out, _, left = run(MIXREPORT, before, arguments=("--mixcheck", os.path.abspath(program)))
+        out, _, left = run(report, before, arguments=arguments)
         reports = [left.pop(report, None) for report in ("report.txt", "report.html")]
         if listing.startswith(b"refused"):
             runs.expect("mixreport, " + name, (out, left, reports) == (listing, before, [None, None]))
@@ -307,21 +330,140 @@ CHECKS = {"mixlist": (check_mixlist,), "mixcard": (check_mixcard,), "mixcheck": 
           "mixbook": (check_mixbook,), "mixsheet": (check_mixsheet,)}
 
 
-def main(arguments):
-    if not arguments or not set(arguments[1:]) <= set(CHECKS):
-        sys.stderr.write(__doc__)
-        return 2
-    runs = Runs()
-    for name in arguments[1:] or CHECKS:
-        program = os.path.join(arguments[0], name)
+def check_programs(place, names, runs):
+    """All checks of the programs that stand in a folder."""
+    for name in names:
+        program = os.path.join(place, name)
         if not os.path.exists(program):
             runs.expect("%s is not built" % name, False)
+            continue
+        if name not in CHECKS:
+            runs.expect("%s: nothing here tries it" % name, False)
             continue
         for check in CHECKS[name]:
             check(program, runs)
         check_arguments(name, program, ARGUMENT_FILES, runs)
         if os.path.exists("/dev/full"):
             check_output(program, ARGUMENT_FILES, runs)
+
+
+# ---- the installed form
+
+FLEET, ASKED = csv_sheets.FLEET, csv_sheets.SHEET
+WRONG_FLEET, WRONG_SHEET = FLEET.replace(b"Eider II,341", b"Eider II,2500"), ASKED.replace(b"steps,360", b"steps,400")
+YARD = {"fleet.csv": FLEET, "sheet.csv": ASKED}
+# A command of the shell, the files, the exit status, and the files that are there afterwards beside them.
+STATUSES = [
+    ("mixbook", YARD, 0, ["fleet.wbk"]),
+    ("mixbook", {"fleet.csv": WRONG_FLEET}, 1, []),
+    ("mixbook", {}, 1, []),
+    ("mixbook --help", YARD, 2, []),
+    ("mixbook a b", YARD, 2, []),
+    ("mixbook", {"fleet.csv": FLEET, "fleet.wbk": FOLDER}, 2, []),
+    ("mixsheet", {"fleet.csv": FLEET, "sheet.csv": WRONG_SHEET}, 1, []),
+    ("mixlist", {"fleet.wbk": BOOK, "sheet.wsh": SHEET}, 0, []),
+    ("mixlist", {"fleet.wbk": BOOK}, 1, []),
+    ("mixlist >/dev/full", {"fleet.wbk": BOOK, "sheet.wsh": SHEET}, 2, []),
+    ("mixlist >&-", {"fleet.wbk": BOOK, "sheet.wsh": SHEET}, 2, []),
+    ("mixcard", {"fleet.wbk": BOOK, "sheet.wsh": SHEET}, 0, ["card.wcd"]),
+    ("mixcard", {"fleet.wbk": BOOK, "sheet.wsh": NO_STEPS}, 1, []),
+    ("mixcard", {"fleet.wbk": BOOK, "sheet.wsh": SHEET, "card.wcd": FOLDER}, 2, []),
+    ("mixcheck", {"fleet.wbk": BOOK, "sheet.wsh": SHEET, "card.wcd": b"no card"}, 1, []),
+    ("mixbetter", {"fleet.wbk": BOOK, "sheet.wsh": SHEET}, 1, []),
+    ("mixreport", {"fleet.wbk": BOOK, "sheet.wsh": SHEET}, 1, []),
+    ("mixreport --other", {"fleet.wbk": BOOK, "sheet.wsh": SHEET}, 2, []),
+    ("mixcard && mixreport --mixcheck missing", {"fleet.wbk": BOOK, "sheet.wsh": SHEET}, 2, ["card.wcd"]),
+    ("mixcard && mixreport", {"fleet.wbk": BOOK, "sheet.wsh": SHEET}, 0, ["card.wcd", "report.html", "report.txt"]),
+    ("mixbook && mixsheet && mixcard", YARD, 0, ["card.wcd", "fleet.wbk", "sheet.wsh"]),
+    ("mixbook && mixsheet && mixcard", {"fleet.csv": WRONG_FLEET, "sheet.csv": ASKED}, 1, []),
+    ("mixbook && mixsheet && mixcard", {"fleet.csv": FLEET, "sheet.csv": WRONG_SHEET}, 1, ["fleet.wbk"]),
+    ("mixbook && mixsheet && mixcard", {"fleet.csv": FLEET}, 1, ["fleet.wbk"]),
+    ("mixbook && mixsheet && mixcard", dict(YARD, **{"sheet.wsh": FOLDER}), 2, ["fleet.wbk"]),
+    ("mixbook && mixsheet && mixcard", dict(YARD, **{"card.wcd": FOLDER}), 2, ["fleet.wbk", "sheet.wsh"]),
+]
+
+
+def in_shell(command, folder, place):
+    """What a shell does of a command in a folder, with the installed programs first on the path."""
+    known = dict(os.environ, PATH=place + os.pathsep + os.environ["PATH"])
+    known.pop("MIXCHECK", None)
+    return subprocess.run(["sh", "-c", command], cwd=folder, env=known, stdout=subprocess.PIPE, stderr=subprocess.PIPE, check=False)
+
+
+def check_statuses(place, runs):
+    for command, files, status, added in STATUSES:
+        if "/dev/full" in command and not os.path.exists("/dev/full"):
+            continue
+        with tempfile.TemporaryDirectory() as folder:
+            put(folder, files)
+            done = in_shell(command, folder, place)
+            runs.expect("status of %s: %d, not %d" % (command, done.returncode, status),
+                        (done.returncode, sorted(os.listdir(folder))) == (status, sorted([*files, *added])))
+
+
+def check_script(place, runs):
+    """The script in bin: bytes of a name that are no ASCII, another shell, a link to it, and a program that is not there."""
+    name = bytes(range(127, 256))
+    data = b'boat,a\n"' + name + b'",1.5\n'
+    line = csv_books.made(data)[3]
+    mixbook = os.path.join(place, "mixbook")
+    runs.expect("mixbook, all bytes above 126", name in line and run(mixbook, {"fleet.csv": data}) == (b"", line, {"fleet.csv": data}))
+    with tempfile.TemporaryDirectory() as folder:
+        put(folder, {"fleet.csv": data})
+        for shell in filter(shutil.which, ("dash", "bash", "ksh", "busybox")):
+            done = subprocess.run([*([shell, "sh"] if shell == "busybox" else [shell]), mixbook], cwd=folder, capture_output=True, check=False)
+            runs.expect("mixbook by " + shell, (done.returncode, done.stdout, done.stderr) == (1, b"", line))
+        os.symlink(mixbook, os.path.join(folder, "first link"))
+        os.symlink("first link", os.path.join(folder, "second"))
+        for path in (os.path.join(folder, "second"), "./second"):
+            done = subprocess.run([path], cwd=folder, capture_output=True, check=False)
+            runs.expect("mixbook by a link", (done.returncode, done.stdout, done.stderr) == (1, b"", line))
+        shutil.copy(mixbook, os.path.join(place, "mixnone"))
+        done = in_shell("mixnone", folder, place)
+        runs.expect("a program that is not there", (done.returncode, done.stdout, b"mixnone" in done.stderr) == (2, b"", True))
+        os.unlink(os.path.join(place, "mixnone"))
+
+
+def check_share(folder, runs):
+    """The pages for users are there with what they link to."""
+    docs = os.path.join(folder, "share", "dofitrano", "docs")
+    for page in ("guide.md", "report.md"):
+        text = exact.read_file(os.path.join(docs, page)).decode()
+        for link in re.findall(r"\]\(([^)#]+)", text):
+            runs.expect("%s: %s is not installed" % (page, link), os.path.exists(os.path.join(docs, link)))
+
+
+def check_installed(names, runs):
+    """Everything once more in the installed form, in a folder with a space in its name."""
+    with tempfile.TemporaryDirectory() as folder:
+        target = os.path.join(folder, "the yard's")
+        for _ in range(2):
+            done = subprocess.run([INSTALL, "the yard's"], cwd=folder, stdout=subprocess.PIPE, check=False)
+        place = os.path.join(target, "bin")
+        runs.expect("install", (done.returncode, done.stdout.decode()) == (0, place + "\n"))
+        runs.expect("what is in bin", sorted(os.listdir(place)) == sorted([*names, "mixreport"]))
+        moved = os.path.join(folder, "moved to")
+        os.rename(target, moved)
+        place = os.path.join(moved, "bin")
+        check_programs(place, names, runs)
+        check_statuses(place, runs)
+        check_script(place, runs)
+        check_share(moved, runs)
+        for arguments in ((), ("a", "b"), ("--help",), ("",)):
+            done = subprocess.run([INSTALL, *arguments], cwd=folder, capture_output=True, check=False)
+            runs.expect("install %s" % (arguments,), (done.returncode, done.stdout, done.stderr) == (2, b"", b"usage: tools/install FOLDER\n"))
+        runs.expect("nothing else is made", os.listdir(folder) == ["moved to"])
+
+
+def main(arguments):
+    names = subprocess.run([PROGRAMS], stdout=subprocess.PIPE, check=True).stdout.decode().split()
+    if not arguments or not set(arguments[1:]) <= set(names):
+        sys.stderr.write(__doc__)
+        return 2
+    runs = Runs()
+    check_programs(arguments[0], arguments[1:] or names, runs)
+    if not arguments[1:]:
+        check_installed(names, runs)
     print("%d runs passed, %d failed" % (runs.passed, runs.failed))
     return 1 if runs.failed else 0
 

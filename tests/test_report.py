@@ -634,7 +634,7 @@ def runs():
             ("no listing", files, PRINTS % "", "", "other figures"),
             ("no program", files, "", "", "could not be run")):
         code, out, err, left = run(these, mixcheck)
-        agree("no report: " + label, (code, out, said in err, left), (1, line, True, these))
+        agree("no report: " + label, (code, out, said in err, left), (1 if line else 2, line, True, these))
     for wrong in (["--other"], ["--length", "0"], ["--date", "today"]):
         code, out, err, left = run(files, STANDS_FOR_MIXCHECK, *wrong)
         agree("usage: " + wrong[0], (code, out, err.startswith("usage: mixreport"), left), (2, "", True, files))
