@@ -30,7 +30,7 @@ class BookEdition:
 
 
 BOOKS = {
-    b"WBK1": BookEdition("the rows, boat 0 first, 2 bytes a value (signed), then 12 bytes: bytes of the rows (4), boats (2), columns (2), WBK1"),
+    b"WBK1": BookEdition("the rows, the one that is listed as boat 0 first, 2 bytes a value (signed), then 12 bytes: bytes of the rows (4), boats (2), columns (2), WBK1"),
 }
 
 
@@ -77,14 +77,19 @@ class CardEdition:
     beyond: object  # of E, G and tolerance × W²: whether the card is Beyond
     floor: object   # of E, G and W: what no mixture's squared distance is below
     bound: str      # the floor in words
+    why: tuple      # why it is one: the last lines of an argument that begins with what E and G are
     layout: str
 
 
-CARD_BYTES = ("boat (2) and share (2) for each boat with shares, then 36 bytes: bytes of these pairs (4), verdict (2; 1 within, 2 beyond, 3 spent), "
+FORMER_WHY = ("With d = p - m, |p - u|² = E / W² + 2 <m - u, d> + |d|², and |d|² ≥ 0.",
+              "Here <m - u, d> = - <r, W (m - p)> / W² ≥ - G / W². So |p - u|² ≥ (E - 2 G) / W².")
+SHARPER_WHY = ("So <r, W (p - u)> = <r, r> - <r, W (m - p)> ≥ E - G.",
+               "By Cauchy-Schwarz it is ≤ √E W |p - u|. So where E > G, |p - u|² ≥ (E - G)² / (W² E).")
+CARD_BYTES = ("boat (2, counted from 0 as in the listing) and share (2) for each boat with shares, then 36 bytes: bytes of these pairs (4), verdict (2; 1 within, 2 beyond, 3 spent), "
               "steps t (2), tolerance (4), E (8), G (8), boats (2), columns (2), ")
 CARDS = {
-    b"WCD1": CardEdition(former_beyond, former_floor, "(E - 2 G) / W²", CARD_BYTES + "WCD1"),
-    b"WCD2": CardEdition(sharper_beyond, sharper_floor, "(E - G)² / (W² E) where E is above G, else 0", CARD_BYTES + "WCD2"),
+    b"WCD1": CardEdition(former_beyond, former_floor, "(E - 2 G) / W²", FORMER_WHY, CARD_BYTES + "WCD1"),
+    b"WCD2": CardEdition(sharper_beyond, sharper_floor, "(E - G)² / (W² E) where E is above G, else 0", SHARPER_WHY, CARD_BYTES + "WCD2"),
 }
 
 

@@ -11,10 +11,9 @@ import unicodedata
 from dataclasses import dataclass, field
 from fractions import Fraction
 
-# First fields of lines of a sheet's table that are not the new hull's.
-FACTOR = "factor"
-SETTINGS = (FACTOR, "steps", "tolerance", "tolerance each")
-DISPLACEMENT, LENGTH = "displacement t", "length m"
+# What the first field of a line of a sheet's table may say; any other is the new hull's name.
+FACTOR, DISPLACEMENT, LENGTH = "factor", "displacement t", "length m"
+WORDS = ("unit", FACTOR, "steps", "tolerance", "tolerance each", DISPLACEMENT, LENGTH)
 
 
 @dataclass
@@ -24,11 +23,13 @@ class Names:
     boats: list
     columns: list
     units: list
+    estimated: list              # of each column, whether the sheet's table leaves its value open
     hull: str = "The sheet"
     displacement: object = None  # in tonnes
     length: object = None        # in metres
     sizes: str = ""              # where these two were read
     notes: list = field(default_factory=list)  # sentences: which table was used, or why not
+    fronts: list = field(default_factory=list)  # the files whose front text is a table that was used
 
 
 class NotThis(Exception):
@@ -53,30 +54,32 @@ def decoded(content):
 
 
 def separator_of(text):
-    """The comma where line 1 has one outside quotes, else the semicolon, else the tab."""
-    line = re.split(r"[\r\n]", re.sub(r'"[^"]*"', "", text), maxsplit=1)[0]
+    """The comma where the first line with letters has one outside quotes, else the semicolon, else the tab. A quote counts where a field starts."""
+    bare = re.sub(r'(?:\A|(?<=[,;\t]))"(?:[^"]|"")*(?:"|\Z)', "", text.lstrip("\r\n"))
+    line = re.split(r"[\r\n]", bare, maxsplit=1)[0]
     return next((mark for mark in ",;\t" if mark in line), ",")
 
 
 def table(content):
-    """The lines of a CSV as lists of clean fields, without empty lines; none where it is no CSV of two lines and more."""
+    """The lines of a CSV as lists of fields, without empty lines; none where it is no CSV of two lines and more."""
     text = decoded(content)
     try:
         lines = list(csv.reader(io.StringIO(text, newline=""), delimiter=separator_of(text), strict=True))
     except csv.Error:
         return []
-    lines = [[clean(cell) for cell in line] for line in lines if any(cell.strip() for cell in line)]
+    lines = [line for line in lines if any(cell.strip() for cell in line)]
     return lines if len(lines) > 1 and len(lines[0]) > 1 else []
 
 
 def number(text):
     """The whole number that a field says, None where it says none."""
-    return int(text) if re.fullmatch(r"[+-]?[0-9]{1,9}", text) else None
+    found = re.fullmatch(r" *([+-]?[0-9]{1,200}) *", text, re.ASCII)
+    return int(found[1]) if found else None
 
 
 def quantity(text):
     """The number above 0 with at most 6 decimals that a field says, None where it says none."""
-    found = re.fullmatch(r"([0-9]{1,7})(?:[.,]([0-9]{1,6}))?", text)
+    found = re.fullmatch(r" *([0-9]{1,7})(?:[.,]([0-9]{1,6}))? *", text, re.ASCII)
     value = Fraction("%s.%s" % (found[1], found[2] or "0")) if found else None
     return value or None
 
@@ -90,8 +93,8 @@ def boat_names(lines, rows):
         raise NotThis("it has %d boats and the book %d" % (len(lines), len(rows)))
     for line, row in zip(lines, rows):
         if len(line) > 1 and [number(cell) for cell in line[1:]] != row:
-            raise NotThis("its values of %s are not the book's" % line[0])
-    return [line[0] or "boat %d" % i for i, line in enumerate(lines)]
+            raise NotThis("its values of %s are not the book's" % clean(line[0]))
+    return [line[0] for line in lines]
 
 
 def fleet_table(lines, rows):
@@ -103,42 +106,74 @@ def fleet_table(lines, rows):
     units, boats = [""] * width, lines[1:]
     if boats[0][0] == "unit":
         units, boats = (boats[0][1:] + units)[:width], boats[1:]
-    return boat_names(boats, rows), [name or "column %d" % j for j, name in enumerate(columns)], units
+    return boat_names(boats, rows), columns, units
 
 
 # ---------------------------------------------------------------- the sheet
 
 
-def hull_line(lines, target):
-    """The line of the new hull: the first that is no setting and has a value a column, or its name alone."""
-    for line in lines:
-        if line[0] not in SETTINGS and len(line) in (1, len(target) + 1):
-            return line
-    raise NotThis("it has no line of %d values" % len(target))
+@dataclass
+class SheetTable:
+    """What a sheet's table says beside the values."""
+
+    hull: str
+    columns: list
+    estimated: list
+    displacement: object
+    length: object
+    unread: list  # the lines of sizes that say no number
+
+
+def filled(line):
+    """The fields of a line but for the empty ones at its end: spreadsheets pad lines."""
+    count = len(line)
+    while count and not line[count - 1]:
+        count -= 1
+    return line[:count]
 
 
 def in_order(header, line, columns):
-    """The fields of a line in the book's order of columns, matched by name where the book's are known."""
-    by_name = dict(zip(header, line[1:]))
+    """The fields of a line in the book's order of columns, matched by name where the book's are known; those that are not there are empty."""
+    fields = line[1:] + [""] * (len(header) - len(line) + 1)
+    by_name = dict(zip(header, fields))
     if len(by_name) != len(header) or set(by_name) != set(columns):
         raise NotThis("its columns have other names than the book's, or one name twice")
+    if len(fields) > len(header):
+        raise NotThis("it has more values than columns in the line %s" % clean(line[0]))
     return [by_name[name] for name in columns]
 
 
+def open_columns(fields, sheet):
+    """Which columns the new hull's line leaves open: no value, and the sheet has 0 there and does not count it. All other values must be the sheet's."""
+    left_open = [not text and value == 0 and factor == 0 for text, value, factor in zip(fields, sheet.target, sheet.factors)]
+    if any(not is_open and number(text) != value for is_open, text, value in zip(left_open, fields, sheet.target)):
+        raise NotThis("its values are not the sheet's")
+    return left_open
+
+
+def size_in(rows, word):
+    """The quantity of the line of a word, and the line itself where it says something else than one quantity."""
+    line = next((row for row in rows if row[0] == word), [word])
+    value = quantity(line[1]) if len(line) == 2 else None
+    return value, [line] if value is None and len(line) > 1 else []
+
+
 def sheet_table(lines, sheet, columns):
-    """The new hull's name, displacement and length. `columns` are the book's names, None where they are not known."""
-    header = lines[0][1:]
+    """A sheet's table, by the rules of mixsheet. `columns` are the book's names, None where they are not known."""
+    header, *rows = [filled(line) for line in lines]
+    header, rows = header[1:], [row for row in rows if row]
     if len(header) != len(sheet.target):
         raise NotThis("it has %d columns and the sheet %d" % (len(header), len(sheet.target)))
-    line = hull_line(lines[1:], sheet.target)
+    hull = next((row for row in rows if row[0] not in WORDS), None)
+    if hull is None:
+        raise NotThis("it has no line of the new hull")
     named = header if columns is None else columns
-    if len(line) > 1 and [number(cell) for cell in in_order(header, line, named)] != sheet.target:
-        raise NotThis("its values are not the sheet's")
-    for row in lines[1:]:
+    left_open = open_columns(in_order(header, hull, named), sheet) if len(hull) > 1 else [False] * len(header)
+    for row in rows:
         if row[0] == FACTOR and [number(cell) for cell in in_order(header, row, named)] != sheet.factors:
             raise NotThis("its factors are not the sheet's")
-    said = {row[0].lower(): row[1] for row in lines[1:] if len(row) > 1}
-    return line[0], quantity(said.get(DISPLACEMENT, "")), quantity(said.get(LENGTH, "")), header
+    (displacement, unread), (length, more) = (size_in(rows, word) for word in (DISPLACEMENT, LENGTH))
+    return SheetTable(hull[0], header, left_open, displacement, length, unread + more)
 
 
 # ---------------------------------------------------------------- both
@@ -157,25 +192,47 @@ def first_that_serves(sources, read):
     return None, None, notes
 
 
-def names_of(book, sheet, fleet_reader, sheet_csv, displacement=None, length=None):
+def numbered(thing, names):
+    """Clean names; one that is empty is the thing's number, from 1 as in what the programs say of a fault."""
+    return [clean(name) or "%s %d" % (thing, i) for i, name in enumerate(names, 1)]
+
+
+def take_fleet(names, book, fleet_csv):
+    """Names of boats and columns where there are some: gives back the columns as they are written, None where they are not known."""
+    front = ("the front text of fleet.wbk", book.front)
+    found, place, notes = first_that_serves([front, ("fleet.csv", fleet_csv)], lambda lines: fleet_table(lines, book.rows))
+    names.notes += notes
+    if not found:
+        return None
+    boats, columns, units = found
+    names.boats, names.columns, names.units = numbered("boat", boats), numbered("column", columns), [clean(unit) for unit in units]
+    names.notes.append("Boats and columns are named by %s." % place)
+    names.fronts += ["fleet.wbk"] * (place == front[0])
+    return columns
+
+
+def take_sheet(names, sheet, sheet_csv, columns):
+    """The new hull's name and sizes where there are some; the columns' names where the fleet has none."""
+    front = ("the front text of sheet.wsh", sheet.front)
+    found, place, notes = first_that_serves([front, ("sheet.csv", sheet_csv)], lambda lines: sheet_table(lines, sheet, columns))
+    names.notes += notes
+    if not found:
+        return
+    names.hull, names.estimated = clean(found.hull) or names.hull, found.estimated
+    names.displacement, names.length, names.sizes = found.displacement, found.length, "by %s" % place
+    names.notes.append("The new hull is named by %s." % place)
+    names.notes += ["Its line “%s” is not used: “%s” is not one number above 0." % (clean(line[0]), clean(",".join(line[1:]))) for line in found.unread]
+    names.fronts += ["sheet.wsh"] * (place == front[0])
+    if columns is None:
+        names.columns = numbered("column", found.columns)
+
+
+def names_of(book, sheet, fleet_csv, sheet_csv, displacement=None, length=None):
     """The names for a book and a sheet, from their front texts or else from the CSVs beside them (None where there is none). A displacement or a
     length that is given goes before one of a table."""
-    names = Names(["boat %d" % i for i in range(len(book.rows))], ["column %d" % j for j in range(len(sheet.target))], [""] * len(sheet.target))
-    fleet = [("the front text of fleet.wbk", book.front), ("fleet.csv", fleet_reader)]
-    found, place, notes = first_that_serves(fleet, lambda lines: fleet_table(lines, book.rows))
-    known = None
-    if found:
-        names.boats, names.columns, names.units = found
-        known = names.columns
-        notes.append("Boats and columns are named by %s." % place)
-    sheets = [("the front text of sheet.wsh", sheet.front), ("sheet.csv", sheet_csv)]
-    said, place, more = first_that_serves(sheets, lambda lines: sheet_table(lines, sheet, known))
-    if said:
-        names.hull, names.displacement, names.length, names.sizes = said[0] or names.hull, said[1], said[2], "by %s" % place
-        more.append("The new hull is named by %s." % place)
-        if not found:
-            names.columns = said[3]
+    width = len(sheet.target)
+    names = Names(numbered("boat", [""] * len(book.rows)), numbered("column", [""] * width), [""] * width, [False] * width)
+    take_sheet(names, sheet, sheet_csv, take_fleet(names, book, fleet_csv))
     if displacement or length:
         names.displacement, names.length, names.sizes = displacement or names.displacement, length or names.length, "as given to mixreport"
-    names.notes = notes + more
     return names

@@ -11,10 +11,11 @@ p{margin:.5em 0;max-width:48em}.verdict{border:2px solid #222;padding:.4em .8em;
 .wide{overflow-x:auto;margin:.6em 0}table{border-collapse:collapse;font-size:.92em}
 th,td{padding:.2em .6em;border-bottom:1px solid #bbb;text-align:right;font-variant-numeric:tabular-nums;white-space:nowrap;vertical-align:top}
 th{border-bottom:2px solid #555}.left{text-align:left}.long{white-space:normal;overflow-wrap:anywhere;min-width:14em}
-.code{font-family:"DejaVu Sans Mono",monospace;font-size:.85em}pre{margin:.6em 0 .6em 1.5em}
+.code{font-family:"DejaVu Sans Mono",monospace;font-size:.85em}pre{margin:.6em 0 .6em 1.5em;white-space:pre-wrap}
 svg{display:block;max-width:100%;min-width:700px;height:auto}tr,svg{break-inside:avoid}thead{display:table-header-group}
 @media print{@page{size:A4;margin:14mm}body{font-size:9.5pt;max-width:none;margin:0;padding:0}p{max-width:none}
-.wide{overflow:visible}svg{min-width:0;width:100%}table{font-size:8.5pt}th,td{padding:.15em .4em}}"""
+.wide{overflow:visible}svg{min-width:0;width:100%}table{font-size:8.5pt}th,td{padding:.15em .4em}
+th{white-space:normal}.long{min-width:5em}}"""
 
 
 LONG = 24  # letters of a cell, from which on it may take several lines

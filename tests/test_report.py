@@ -16,6 +16,7 @@ import re
 import subprocess
 import sys
 import tempfile
+import time
 import unicodedata
 import xml.etree.ElementTree as ElementTree
 from fractions import Fraction
@@ -26,6 +27,8 @@ PROGRAM = os.path.join(ROOT, "report", "mixreport")
 YARD = os.path.join(ROOT, "examples", "yard")
 sys.dont_write_bytecode = True
 sys.path[:0] = [HERE, os.path.join(ROOT, "report")]
+import csv_books  # noqa: E402
+import csv_sheets  # noqa: E402
 import exact  # noqa: E402
 import decimals  # noqa: E402
 import names  # noqa: E402
@@ -40,7 +43,7 @@ LOADER = importlib.machinery.SourceFileLoader("mixreport", PROGRAM)
 mixreport = importlib.util.module_from_spec(importlib.util.spec_from_loader("mixreport", LOADER))
 LOADER.exec_module(mixreport)
 
-DATE = "2026-11-16"
+DATE, FILED = "2026-11-16", "2026-10-30"
 
 
 # ---------------------------------------------------------------- cards by hand
@@ -129,10 +132,10 @@ def printed(report):
     """What a report prints of its distances, columns, nearest boat and steps."""
     f, table = report.figures, words.column_table(report)
     rows = [" ".join(row[1:]) for row in words.distance_table(report).rows]
-    said = words.nearer_sentence(report).text + " ".join(block.text for block in words.bound_sentences(report))
-    rows.append(" ".join(re.search(r"by at most ([0-9.]+), in each column by at most ([0-9.]+)\.", said).groups()))
+    said = words.nearer_sentence(report).text + " ".join(getattr(block, "text", "") for block in words.bound_sentences(report))
+    rows.append(" ".join(re.search(r"by at most ([0-9.]+), on average over the columns by at most ([0-9.]+)\.", said).groups()))
     rows += [" ".join(row[table.head.index(name)] for name in ("mixture", "difference", "% of squared")) for row in table.rows]
-    rows.append("%s %s" % re.search(r"\(number (\d+)\), at a distance of ([0-9.]+);", words.nearest_sentence(report).text).groups())
+    rows.append("%s %s" % re.search(r"\(listed as boat (\d+)\), at a distance of ([0-9.]+);", words.nearest_sentence(report).text).groups())
     found = re.search(r"4 D² / \(t \+ 2\) = ([0-9.]+) above the least; D² = (\d+) ", said)
     agree("steps known", found is not None, f.slack is not None)
     return tuple(rows + ["%s %s" % (found[2], found[1]) if found else "none"])
@@ -143,7 +146,7 @@ def marked_sheets():
         report = hand_report(*case, **more)
         agree("sheet " + name, printed(report), PRINTED[name])
         shares = case[6]
-        agree("shares " + name, {row[0]: row[2] for row in words.boat_table(report).rows}, {str(i): str(s) for i, s in enumerate(shares) if s})
+        agree("shares " + name, {row[0]: row[2] for row in words.boat_table(report).rows}, {"boat %d" % i: str(s) for i, s in enumerate(shares) if s})
         outside = [j for j, value in enumerate(case[1]) if not min(row[j] for row in case[0]) <= value <= max(row[j] for row in case[0])]
         agree("outside " + name, [j for j, c in enumerate(report.figures.columns) if c.outside], outside)
 
@@ -155,8 +158,8 @@ SENTENCES = [
     ("c", "SPENT: neither was shown."),
     ("c", "ask for more steps, up to 360, or ask with another tolerance: this mixture meets 3."),
     ("d", "BEYOND: no mixture of these boats"),
-    ("d", "outside the fleet in column 0, column 1"),
-    ("m, outside", "outside the fleet in column 0, where"),
+    ("d", "outside the fleet in column 1, column 2"),
+    ("m, outside", "outside the fleet in column 1, where"),
     ("inside", "In each column that counts by itself the sheet lies within the fleet"),
     ("e", "after the one step"),
     ("g", "meets the sheet exactly"),
@@ -192,17 +195,38 @@ YARD_SCORES = [338548, 353598, 363541, 368540, 327023, 368988, 372490, YARD_LEAS
 # G is the largest <r, y - W v>, and y is r + W u: 18354814 + 210 × (247250 - 312583).
 YARD_G = 4634884
 YARD_COLUMNS = [
-    "hull weight|‰ D|338|338.93|+0.93|+27 kg|0.2|312|371|",
-    "mach weight|‰ D|163|170.86|+7.86|+231 kg|14.9|139|233|",
-    "outfit weight|‰ D|82|86.16|+4.16|+122 kg|4.2|59|108|",
-    "elec weight|‰ D|59|41.47|-17.53|-515 kg|73.9|29|52|OUTSIDE",
-    "aux weight|‰ D|58|62.29|+4.29|+126 kg|4.4|39|77|",
-    "deck weight|‰ D|56|58.78|+2.78|+82 kg|1.9|18|121|",
-    "LCG moment|‰ D L|-39|-37.80|+1.20|+0.62 t m|0.3|-80|-8|",
-    "VCG moment|‰ D L|74|72.89|-1.11|-0.57 t m|0.3|67|81|",
+    "hull weight|‰ D|338|338.93|+0.93|0.2|312|371|",
+    "mach weight|‰ D|163|170.86|+7.86|14.9|139|233|MORE",
+    "outfit weight|‰ D|82|86.16|+4.16|4.2|59|108|",
+    "elec weight|‰ D|59|41.47|-17.53|73.9|29|52|OUTSIDE, MORE",
+    "aux weight|‰ D|58|62.29|+4.29|4.4|39|77|",
+    "deck weight|‰ D|56|58.78|+2.78|1.9|18|121|",
+    "LCG moment|‰ D L|-39|-37.80|+1.20|0.3|-80|-8|",
+    "VCG moment|‰ D L|74|72.89|-1.11|0.3|67|81|",
 ]
-YARD_BOATS = ["10|Kittiwake|63|30.0|75.53", "8|Isbjorn|42|20.0|42.18", "6|Gannet|27|12.9|96.33", "11|Lofoten|25|11.9|38.91",
-              "7|Hamnavoe|24|11.4|43.81", "3|Dunlin|18|8.6|89.53", "0|Alka 12|11|5.2|44.02"]
+# A thousandth of 29.4 t is 29.4 kg and the mixture has 210 shares, so that a residual of 1 is 29.4 / 210 = 0.14 kg: 195 are 27.3 kg, and 9937.2 + 27.3 is a
+# half. The weights of the sheet total 756, their residuals 522. A thousandth of D L is 0.51744 t m. The levers are -39 / 756 and (-39 × 210 + 253) /
+# (756 × 210 + 522) = -7937 / 159282 of 17.6 m, and 74 / 756 and 15307 / 159282.
+YARD_SIZES = [
+    "hull weight|9937 kg|9964 kg|+27 kg",
+    "mach weight|4792 kg|5023 kg|+231 kg",
+    "outfit weight|2411 kg|2533 kg|+122 kg",
+    "elec weight|1735 kg|1219 kg|-515 kg",
+    "aux weight|1705 kg|1831 kg|+126 kg",
+    "deck weight|1646 kg|1728 kg|+82 kg",
+    "total|22226 kg|22299 kg|+73 kg",
+    "LCG moment|-20.18 t m|-19.56 t m|+0.62 t m",
+    "VCG moment|38.29 t m|37.72 t m|-0.57 t m",
+    "LCG|-0.908 m|-0.877 m|+0.031 m",
+    "VCG|1.723 m|1.691 m|-0.031 m",
+]
+YARD_BOATS = ["boat 10|Kittiwake|63|30.0|75.53", "boat 8|Isbjorn|42|20.0|42.18", "boat 6|Gannet|27|12.9|96.33", "boat 11|Lofoten|25|11.9|38.91",
+              "boat 7|Hamnavoe|24|11.4|43.81", "boat 3|Dunlin|18|8.6|89.53", "boat 0|Alka 12|11|5.2|44.02"]
+YARD_NAMES = "Alka 12,Brisling,Corrie,Dunlin,Eider II,Fulmar,Gannet,Hamnavoe,Isbjorn,Jura,Kittiwake,Lofoten".split(",")
+YARD_WHY = {b"WCD1": ["With d = p - m, |p - u|² = E / W² + 2 <m - u, d> + |d|², and |d|² ≥ 0.",
+                      "Here <m - u, d> = - <r, W (m - p)> / W² ≥ - G / W². So |p - u|² ≥ (E - 2 G) / W²."],
+            b"WCD2": ["So <r, W (p - u)> = <r, r> - <r, W (m - p)> ≥ E - G.",
+                      "By Cauchy-Schwarz it is ≤ √E W |p - u|. So where E > G, |p - u|² ≥ (E - G)² / (W² E)."]}
 YARD_DISTANCES = {b"WCD1": ["asked for, at most|14.14|200.00|5.00", "this mixture|20.40|416.21|7.21", "no mixture is below|14.35|206.01|5.07"],
                   b"WCD2": ["asked for, at most|14.14|200.00|5.00", "this mixture|20.40|416.21|7.21", "no mixture is below|15.24|232.54|5.39"]}
 
@@ -225,7 +249,7 @@ def yard_files(card=CARD_LETTERS):
 
 def yard_report(card=CARD_LETTERS):
     rows, _, *numbers = yard_case()
-    return mixreport.report_of(yard_files(card), hand_listing(rows, *numbers), (None, None), DATE, *SIZES)
+    return mixreport.report_of(yard_files(card), hand_listing(rows, *numbers), (None, None), DATE, *SIZES, filed=FILED)
 
 
 def joined(table):
@@ -233,8 +257,10 @@ def joined(table):
 
 
 # Gannet and Kittiwake are the farthest apart: 44² + 94² + 28² + 3² + 33² + 91² + 72² + 11² = 26240, and 4 × 26240 / 22 = 4770.90...
-YARD_SENTENCES = ["The nearest single boat is Eider II (number 4), at a distance of 28.21; it holds no shares.", "D² = 26240 ", "= 4770.91 above",
-                  "outside the fleet in elec weight,", "1 ‰ D is 29.400 kg; 1 ‰ D L is 0.517 t m", "after 20 of the 360 steps"]
+YARD_SENTENCES = ["The nearest single boat is Eider II (listed as boat 4), at a distance of 28.21; it holds no shares.", "D² = 26240 ", "= 4770.91 above",
+                  "outside the fleet in elec weight,", "1 ‰ D is 29.400 kg; 1 ‰ D L is 0.517 t m", "after 20 of the 360 steps",
+                  "The tolerance is 5.00 on average", "2 columns are off by more, marked MORE below: mach weight, elec weight.",
+                  "card.wcd was last changed on 2026-10-30,", "the table in front of fleet.wbk and sheet.wsh,"]
 
 
 def worked_example():
@@ -246,6 +272,12 @@ def worked_example():
         report = yard_report(letters)
         agree("columns", joined(words.column_table(report)), YARD_COLUMNS)
         agree("boats", joined(words.boat_table(report)), YARD_BOATS)
+        agree("kilograms and metres", joined(words.size_table(report)), YARD_SIZES)
+        agree("why", [line for block in words.bound_sentences(report) if isinstance(block, words.Lines) for line in block.lines][3:], YARD_WHY[letters])
+        (rows_table,) = words.row_blocks(report)
+        shares = [str(share or "") for share in SHARES]
+        agree("the fleet's rows", joined(rows_table), ["|".join(["", "the sheet", "", *map(str, target)])] + [
+            "|".join(["boat %d" % i, name, shares[i], *map(str, row)]) for i, (name, row) in enumerate(zip(YARD_NAMES, rows))])
         agree("distances", joined(words.distance_table(report)), YARD_DISTANCES[letters])
         said = " ".join(block.text for block in words.blocks(report) if isinstance(block, words.Paragraph))
         for wanted in YARD_SENTENCES:
@@ -266,6 +298,75 @@ def other_factors():
             decimals.decimal(Fraction(answer.distance, answer.weight ** 2)), *(decimals.decimal(x, sign=True) for x in off)))
     page_rows = re.findall(r"(?m)^\| \d, 1 \| .*$", read("docs", "factors.md").decode("utf-8"))
     agree("the worked example by other factors", page_rows, found)
+
+
+NEARER = {
+    # of boat 0 alone 1 + 1 = 2, of the mixture 26 / 9; of boat 1 alone 0, of the mixture 4 / 9
+    "c": "WARNING: one boat by itself is nearer than this mixture: boat 1, at a distance of 1.41 where the mixture is at 1.70.",
+    "i": None,
+    "e": None,
+    "lowest": "WARNING: one boat by itself is nearer than this mixture: boat 2, at a distance of 0.00 where the mixture is at 0.67.",
+}
+# What is off by more than the root of tolerance / columns, or of tolerance / total of the factors.
+MORE = {
+    "a": [],
+    "c": [2],        # 1/9 and 25/9 against 1/2
+    "d": [1, 2],
+    "e": [2],        # 9 and 16 against 12.5
+    "f": [2],
+    "k": [1],        # 25/9 and 1/9 against 1/3
+    "m": [1],        # 9 against 8, and the other does not count
+    "factors": [],   # 1/9 twice against 1/3
+    "inside": [1, 2],  # 16/9, 64/9 against 3/2, and the third does not count
+    "g": [],
+}
+
+
+def warnings():
+    """A single boat that is nearer, and columns that are off by more than the tolerance is on average."""
+    for name, wanted in NEARER.items():
+        said = [block.text for block in words.nearest_warning(hand_report(*CASES[name][0], **CASES[name][1]))]
+        agree("nearer: " + name, said, [wanted] if wanted else [])
+    for name, wanted in MORE.items():
+        report = hand_report(*CASES[name][0], **CASES[name][1])
+        agree("off by more: " + name, words.columns_that(report, words.is_more), ["column %d" % j for j in wanted])
+        table = words.column_table(report)
+        noted = [row[0] for row in table.rows if "MORE" in row[table.head.index("note")]] if "note" in table.head else []
+        agree("marked: " + name, noted, ["column %d" % j for j in wanted])
+        said = words.more_sentence(report).text
+        agree("said: " + name, "No column is off by more." in said, not wanted)
+
+
+OPEN_FLEET = "boat,hull,elec,trim\nunit,‰ D,‰ D,‰ D L\nTern,10,4,0\nAuk,20,8,6\n"
+OPEN_SHEET = "boat,elec,trim,hull\nHull 9,,3,15\nfactor,0,1,1\nsteps,9\ntolerance each,1\ndisplacement t,20\nlength m,10\n"
+
+
+def estimates():
+    """A column that the sheet leaves open: its factor is 0 and its field empty. Two of three shares are Auk's after two steps of any search of it: by hand
+    shares of 1 and 2 give 50/3, 20/3 and 4, so r is 5 and 3, E = 34, and G = <r, y> - 3 <r, Tern> = 5 × 50 + 3 × 12 - 3 × 50 = 136."""
+    case = ([[10, 4, 0], [20, 8, 6]], [15, 0, 3], 2, 2, 3, 2, [1, 2], 34, 136)
+    fronts = (OPEN_FLEET.encode(), OPEN_SHEET.encode())
+    report = hand_report(*case, factors=[1, 0, 1], fronts=fronts)
+    agree("estimated", (report.names.hull, report.names.estimated), ("Hull 9", [False, True, False]))
+    blocks = list(words.estimate_blocks(report))
+    # 20/3 thousandths of 20 t are 133.3 kg
+    agree("estimates", joined(blocks[1]), ["elec|‰ D|6.67|133 kg|4|8"])
+    table = words.column_table(report)
+    agree("an estimate is no difference", joined(table)[1], "elec|‰ D|0||6.67||0.0|4|8|ESTIMATE")
+    # 15 × 20 and 50/3 × 20 kg; 70/3 × 20 in all; 3 and 4 of 0.2 t m; 4 / (70/3) of 10 m
+    agree("estimates in kilograms", joined(words.size_table(report)),
+          ["hull|300 kg|333 kg|+33 kg", "elec||133 kg|", "total||467 kg|", "trim|0.60 t m|0.80 t m|+0.20 t m", "trim over the total||1.714 m|"])
+    agree("no estimates", list(words.estimate_blocks(yard_report())), [])
+    svg = check_picture("an estimate", picture.pictures(report)[0], 3, 2)
+    texts = [node.text for node in svg.iter(SVG + "text")]
+    agree("an estimate in the picture", ["≈ 6.67" in texts, "133 kg" in texts, "≈" in texts], [True, True, True])
+    for label, target, factors in (("a factor of 1", [15, 0, 3], [1, 1, 1]), ("a value", [15, 6, 3], [1, 0, 1])):
+        rows = [[10, 4, 0], [20, 8, 6]]
+        files = hand_files(rows, target, 2, 2, 3, 2, [1, 2], 34, 136, factors=factors, fronts=fronts)
+        book, sheet = mixreport.read_book("book", files["fleet.wbk"]), mixreport.read_sheet("sheet", files["sheet.wsh"])
+        agree("not left open, " + label, names.names_of(book, sheet, None, None).hull, "The sheet")
+    with_value = hand_report(*case, factors=[1, 0, 1], fronts=(fronts[0], fronts[1].replace(b"9,,3", b"9,0,3")))
+    agree("a value that is given is no estimate", (with_value.names.hull, any(with_value.names.estimated)), ("Hull 9", False))
 
 
 def stored():
@@ -352,7 +453,7 @@ def names_of_things():
         for content in (fleet.encode(), b"\xef\xbb\xbf" + fleet.encode()):
             found = names_for(content)
             agree("names, " + label, (found.boats, found.columns, found.units), (gull, ["length", "beam"], ["m", "m"]))
-    numbers = (["boat 0", "boat 1", "boat 2"], ["column 0", "column 1"], ["", ""])
+    numbers = (["boat 1", "boat 2", "boat 3"], ["column 1", "column 2"], ["", ""])
     for label, content in DO_NOT_SERVE.items():
         found = names_for(content)
         agree("by number, " + label, (found.boats, found.columns, found.units), numbers)
@@ -383,8 +484,63 @@ def names_of_sheets():
     agree("sizes", (sizes.displacement, sizes.length, sizes.sizes), (Fraction(147, 5), Fraction(88, 5), "by the front text of sheet.wsh"))
     given = names_for(FLEET.encode(), (SHEET + "displacement t,29.4\nlength m,9\n").encode(), length=Fraction(7))
     agree("sizes given", (given.displacement, given.length, given.sizes), (Fraction(147, 5), 7, "as given to mixreport"))
-    for wrong in ("0", "-3", "29.4 t", "1e3", ""):
-        agree("no size: " + wrong, names_for(FLEET.encode(), (SHEET + "displacement t,%s\n" % wrong).encode()).displacement, None)
+    for wrong in ("0", "-3", "29.4 t", "1e3", "27,8", "27,", ",27"):
+        found = names_for(FLEET.encode(), (SHEET + "displacement t,%s\n" % wrong).encode())
+        agree("no size: " + wrong, found.displacement, Fraction(27) if wrong == "27," else None)
+        said = "Its line “displacement t” is not used: “%s” is not one number above 0." % wrong
+        agree("why no size: " + wrong, found.notes[2:], [] if wrong == "27," else [said])
+    agree("no size, nothing said", names_for(FLEET.encode(), (SHEET + "displacement t,\n").encode()).notes[2:], [])
+    agree("capitals", names_for(FLEET.encode(), (SHEET + "Displacement t,20\n").encode()).displacement, None)
+    decimal_comma = SHEET.replace(",", ";") + "displacement t;27,8\n"
+    agree("a decimal comma", names_for(FLEET.encode(), decimal_comma.encode()).displacement, Fraction(139, 5))
+
+
+SAME_SHEETS = {
+    "a unit line first": SHEET.replace("Hull", "unit,m,m\nHull"),
+    "a unit line with more": SHEET.replace("Hull", "unit,m,m,and,more\nHull"),
+    "padded": "".join(line + ",,,\n" for line in SHEET.splitlines()),
+    "padded, a unit line first": "".join(line + ",,\n" for line in SHEET.replace("Hull", "unit\nHull").splitlines()),
+    "lines of separators": SHEET.replace("Hull", ",,,\nHull"),
+    "the hull last": "\n".join(SHEET.splitlines()[:1] + SHEET.splitlines()[:0:-1]) + "\n",
+    "empty lines first": "\n\r\n" + SHEET,
+    "semicolons": SHEET.replace(",", ";"),
+    "tabs": SHEET.replace(",", "\t"),
+    "zeros": SHEET.replace("7,1,", "7, +0000000000001 ,"),
+}
+
+
+def names_by_rules():
+    """A sheet's table is read by the rules of mixsheet: what that accepts has the hull's name and its sizes here."""
+    for label, sheet in SAME_SHEETS.items():
+        sizes = "displacement t,29.4\nlength m,17.6\n"
+        for mark in ";\t":
+            sizes = sizes.replace(",", mark) if mark in sheet else sizes
+        content = (sheet + sizes).encode()
+        agree("mixsheet accepts " + label, csv_sheets.made(FLEET.encode(), content)[0], 0)
+        found = names_for(FLEET.encode(), content)
+        agree("read as mixsheet does, " + label, (found.hull, found.displacement, found.length), ("Hull 7", Fraction(147, 5), Fraction(88, 5)))
+    agree("more values than columns", names_for(FLEET.encode(), SHEET.replace("7,1,1", "7,1,1,1").encode()).hull, "The sheet")
+    spaced = FLEET.replace("beam", "beam "), SHEET.replace("beam", "beam ")
+    agree("a name with a space", names_for(*(one.encode() for one in spaced)).columns, ["length", "beam"])
+    agree("names are letter for letter", names_for(spaced[0].encode(), SHEET.encode()).hull, "The sheet")
+    quote = FLEET.replace("boat,", '5" boat,').replace(",", "\t").replace("Gull\t", "Gull,")
+    agree("a quote inside a field", names_for(quote.encode()).boats[0], "Tern")
+    front = [names_for(FLEET.encode(), SHEET.encode()).fronts, names_for(b"", b"", FLEET.encode(), SHEET.encode()).fronts]
+    agree("front texts", front, [["fleet.wbk", "sheet.wsh"], []])
+
+
+def accepted_sheets():
+    """Of every sheet of the tests of mixsheet that is accepted the report has the hull's name: the pairs drawn and by hand."""
+    count = 0
+    for fleet, data in csv_sheets.all_cases():
+        fault, _, _, _, made = csv_sheets.made(fleet, data)
+        if not fault:
+            book, sheet = mixreport.read_book("book", csv_books.made(fleet)[4]), mixreport.read_sheet("sheet", made)
+            found = names.names_of(book, sheet, None, None)
+            agree("the names of an accepted sheet %r" % data[:60], found.notes[-1].startswith("The new hull is named by the front text of sheet.wsh")
+                  or found.notes[-1].startswith("Its line"), True)
+            count += 1
+    agree("accepted sheets", count > 200, True)
 
 
 # ---------------------------------------------------------------- pictures
@@ -521,7 +677,7 @@ def extreme_pictures():
         agree("past the frame: " + label, "past the frame" in source, label == "tolerance")
         agree("the legend of factors: " + label, ">× n<" in source, label in ("factors", "factor 0"))
     drawn = [picture.pictures(hand_report(*CASES[name][0], **CASES[name][1]))[0] for name in ("factors", "m, outside")]
-    agree("the factor at its column", [">column 0 × 2<" in drawn[0], "* column 1 × 0<" in drawn[1]], [True, True])
+    agree("the factor at its column", [">column 1 × 2<" in drawn[0], "* column 2 × 0<" in drawn[1]], [True, True])
 
 
 def near(got, wanted):
@@ -553,7 +709,7 @@ def places():
     widths = [float(node.get("stroke-width")) for node in svg.iter(SVG + "path") if node.get("class") == "tick"][:7]
     agree("wider for more shares", sorted(range(7), key=lambda i: widths[i]), sorted(range(7), key=lambda i: [s for s in SHARES if s][i]))
     bold = [node.text for node in svg.iter(SVG + "text") if "out" in node.get("class", "").split()]
-    agree("outside the fleet", bold, ["* elec weight", "*"])
+    agree("outside the fleet, and off by more than on average", bold, ["+7.86", "* elec weight", "-17.53", "*", "+0"])
 
 
 # ---------------------------------------------------------------- the page
@@ -604,6 +760,8 @@ def run(files, mixcheck, *arguments):
         for name, content in files.items():
             with open(os.path.join(folder, name), "wb") as file:
                 file.write(content)
+            noon = time.mktime(time.strptime(FILED + " 12", "%Y-%m-%d %H"))
+            os.utime(os.path.join(folder, name), (noon, noon))
         done = subprocess.run([sys.executable, PROGRAM, "--mixcheck", program, "--date", DATE, *arguments, folder],
                               stdout=subprocess.PIPE, stderr=subprocess.PIPE, check=False)
         left = {name: exact.read_file(os.path.join(folder, name)) for name in os.listdir(folder)}
@@ -616,7 +774,7 @@ def runs():
     code, out, err, left = run(files, STANDS_FOR_MIXCHECK, "--displacement", "29.4", "--length", "17.6")
     agree("a report", (code, out, err), (0, "FOLDER/report.txt\nFOLDER/report.html\n", ""))
     agree("its files", sorted(left), sorted([*files, *mixreport.REPORTS]))
-    report = mixreport.report_of(files, true, (None, None), DATE, *SIZES)
+    report = mixreport.report_of(files, true, (None, None), DATE, *SIZES, filed=FILED)
     agree("what is written", [left[name].decode() for name in mixreport.REPORTS], [text.text_of(report), page.page_of(report)])
     factored, other = hand_files(*CASES["k"][0], card=b"WCD2", factors=[1, 2]), hand_files(*CASES["c"][0], card=b"WCD2")
     code, out, err, left = run(factored, STANDS_FOR_MIXCHECK)
@@ -676,8 +834,8 @@ def main(arguments):
     if arguments == ["--write"]:
         write()
         return 0
-    for part in (rounding, marked_sheets, sentences, worked_example, other_factors, stored, names_of_things, names_of_sheets, picture_cases, extreme_pictures,
-                 places, pages, runs, tampering):
+    for part in (rounding, marked_sheets, sentences, warnings, worked_example, other_factors, estimates, stored, names_of_things, names_of_sheets,
+                 names_by_rules, accepted_sheets, picture_cases, extreme_pictures, places, pages, runs, tampering):
         part()
     if test_exact.differences:
         print("report: %d of %d checks differ" % (test_exact.differences, test_exact.checks))
