@@ -71,6 +71,15 @@ def table(content):
     return lines if len(lines) > 1 and len(lines[0]) > 1 else []
 
 
+def filled(line):
+    """The fields of a line but for the empty ones at its end: spreadsheets pad lines, and a book's names are filed with a
+    separator behind each."""
+    count = len(line)
+    while count and not line[count - 1]:
+        count -= 1
+    return line[:count]
+
+
 def number(text):
     """The whole number that a field says, None where it says none."""
     found = re.fullmatch(r" *([+-]?[0-9]{1,200}) *", text, re.ASCII)
@@ -92,7 +101,7 @@ def boat_names(lines, rows):
     if len(lines) != len(rows):
         raise NotThis("it has %d boats and the book %d" % (len(lines), len(rows)))
     for line, row in zip(lines, rows):
-        if len(line) > 1 and [number(cell) for cell in line[1:]] != row:
+        if len(filled(line)) > 1 and [number(cell) for cell in line[1:]] != row:
             raise NotThis("its values of %s are not the book's" % clean(line[0]))
     return [line[0] for line in lines]
 
@@ -122,14 +131,6 @@ class SheetTable:
     displacement: object
     length: object
     unread: list  # the lines of sizes that say no number
-
-
-def filled(line):
-    """The fields of a line but for the empty ones at its end: spreadsheets pad lines."""
-    count = len(line)
-    while count and not line[count - 1]:
-        count -= 1
-    return line[:count]
 
 
 def in_order(header, line, columns):

@@ -428,6 +428,7 @@ SERVE = {
     "semicolons": FLEET.replace(",", ";").replace("Gull;", "Gull,"),
     "tabs": FLEET.replace(",", "\t").replace("Gull\t", "Gull,"),
     "names alone": re.sub(r",-?[0-9]+", "", FLEET),
+    "names alone, as mixbook files them": csv_books.names_only(FLEET.encode()).decode(),
 }
 DO_NOT_SERVE = {
     "none": b"",
@@ -457,6 +458,10 @@ def names_of_things():
     for label, content in DO_NOT_SERVE.items():
         found = names_for(content)
         agree("by number, " + label, (found.boats, found.columns, found.units), numbers)
+    book = mixreport.read_book("book", csv_books.made(csv_books.table_of(256, 64))[4])
+    sheet = mixreport.read_sheet("sheet", exact.make_sheet([0] * 64, 9, 1))
+    found = names.names_of(book, sheet, None, None)
+    agree("the names of a large book", (found.boats, found.columns), (["b%d" % i for i in range(256)], ["c%d" % j for j in range(64)]))
     agree("why not", names_for(DO_NOT_SERVE["other values"]).notes,
           ["The front text of fleet.wbk is not used for names: its values of Gull, the \"old\" are not the book's."])
     agree("from the CSV", names_for(b"text\n", b"", FLEET.encode(), SHEET.encode()).boats, gull)
