@@ -1,9 +1,10 @@
 #!/usr/bin/env python3
-"""See that docs/guide.md says what the reference gives: the table of tolerances for examples/yard, the lines of faults, what mixbook, mixsheet
+"""See that docs/guide.md says what the reference gives: the table of tolerances for examples/yard, that of thousandths, the lines of faults, what mixbook, mixsheet
 and mixcard print, and that the book and the sheet of examples/yard are those of its CSVs."""
 import os
 import re
 import sys
+from fractions import Fraction
 
 HERE = os.path.dirname(os.path.abspath(__file__))
 sys.path.insert(0, HERE)
@@ -34,8 +35,8 @@ def tolerances(guide, book, target):
 
 def fault_lines(guide):
     """The lines of faults on the page, and those that no case has."""
-    said = {csv_books.made(case)[3] for case in [*csv_books.by_hand(), bytes(200001)]}
-    said |= {csv_sheets.printed(*pair) for pair in csv_sheets.by_hand()}
+    said = {csv_books.made(case)[3] for case in [*csv_books.by_hand(), *csv_books.of_guide(), bytes(200001)]}
+    said |= {csv_sheets.printed(*pair) for pair in [*csv_sheets.by_hand(), *csv_sheets.of_guide()]}
     said |= {name + b": not found in this folder" for name in (b"fleet.csv", b"sheet.csv")}
     said = {line.decode("latin-1").strip() for line in said}
     lines = re.findall(r"`((?:fleet|sheet)\.csv[ :][^`]*)`", guide)
@@ -58,17 +59,42 @@ def examples(guide, fleet, data, book, sheet):
     return wrong + [figure for figure in figures if figure not in guide]
 
 
+def thousandths(guide, fleet):
+    """The rows of the table from kilograms and metres to thousandths, and those that are wrong: each quotient, its rounding, and the values of the fleet."""
+    displacement, length = (Fraction(text) for text in re.search(r"with D = ([0-9.]+) t and L = ([0-9.]+) m", guide).groups())
+    weights = re.findall(r"(?m)^\| ([^|]+) \| ([0-9,]+) kg \| ([0-9]+) / ([0-9.]+) = ([0-9.]+) \| (-?[0-9]+) \|$", guide)
+    moments = re.findall(r"(?m)^\| ([^|]+) \| ([0-9.]+) t at (-?[0-9.]+) m \| 1000 × (-?[0-9.]+) / ([0-9.]+) = (-?[0-9.]+) \| (-?[0-9]+) \|$", guide)
+    total = sum(int(row[2]) for row in weights)
+    wrong = []
+    for name, shown, kilograms, tonnes, quotient, value in weights:
+        exactly = Fraction(kilograms) / displacement
+        if (shown.replace(",", ""), Fraction(tonnes), quotient, int(value)) != (kilograms, displacement, "%.2f" % exactly, round(exactly)):
+            wrong.append("thousandths of " + name)
+    for name, weight, lever, moment, product, quotient, value in moments:
+        exactly = 1000 * Fraction(weight) * Fraction(lever) / (displacement * length)
+        if (Fraction(weight), moment, Fraction(product), quotient, int(value)) != (
+                Fraction(total, 1000), "%.3f" % (Fraction(weight) * Fraction(lever)), displacement * length, "%.2f" % exactly, round(exactly)):
+            wrong.append("thousandths of " + name)
+    lines = [line.split(",") for line in fleet.decode().splitlines()]
+    boat = next(line for line in lines if line[0] == re.search(r"Of ([^,]+), with D = ", guide)[1])
+    if [(row[0], row[-1]) for row in [*weights, *moments]] != list(zip(lines[0][1:], boat[1:])):
+        wrong.append("thousandths: the values are not those of examples/yard")
+    said = ("D × L = %.2f t m" % (displacement * length), "total %s kg" % format(total, ","), "here %.1f kg" % (displacement / 2))
+    return [*weights, *moments], wrong + ["not on the page: " + text for text in said if text not in guide]
+
+
 def main():
     with open(os.path.join(ROOT, "docs", "guide.md"), encoding="utf-8") as file:
         guide = file.read()
     fleet, data, book, sheet = (exact.read_file(os.path.join(YARD, name)) for name in ("fleet.csv", "sheet.csv", "fleet.wbk", "sheet.wsh"))
     rows, wrong = tolerances(guide, book, exact.read_sheet(sheet)[0])
     lines, unsaid = fault_lines(guide)
-    faults = wrong + unsaid + examples(guide, fleet, data, book, sheet)
+    values, other = thousandths(guide, fleet)
+    faults = wrong + unsaid + other + examples(guide, fleet, data, book, sheet)
     for fault in faults:
         print("docs/guide.md: " + fault)
-    print("guide: %d tolerances, %d lines, faults: %d" % (len(rows), len(lines), len(faults)))
-    return 1 if faults or len(rows) < 5 or len(lines) < 30 else 0
+    print("guide: %d tolerances, %d lines, %d values, faults: %d" % (len(rows), len(lines), len(values), len(faults)))
+    return 1 if faults or len(rows) < 5 or len(lines) < 30 or len(values) < 8 else 0
 
 
 if __name__ == "__main__":

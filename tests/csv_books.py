@@ -122,6 +122,33 @@ def table_of(boats, columns, name="b%d", column="c%d", value=lambda i, j: (i * 7
     return "".join(",".join(line) + "\n" for line in lines).encode()
 
 
+def of_guide():
+    """Beside the cases of test_book, what docs/guide.md says of the place of a fault and of which of two is told."""
+    for value in (b'"356" ', b'"356', b"3" * 201):
+        yield YARD.replace(b"Gannet,356", b"Gannet," + value)
+    yield YARD.replace(b"Lofoten,", b'Lofoten,"')
+    yield YARD.replace(b"Lofoten", b'"Lofoten')
+    yield YARD.replace(b'boat,', b'"boat ""of 1987"" ,\n",')
+    yield YARD.replace(b"boat,", b'"boat" ,')
+    yield YARD.replace(b"Gannet,356", b'"Gan\tnet\x01\x7f\xff",3.5')
+    # of two faults: the one to the left; too many values before the last of them; too few after those that are there
+    yield YARD.replace(b"Gannet,356,233", b"Gannet,2500,x")
+    yield YARD.replace(b"Gannet,356,233", b",x,233")
+    yield YARD.replace(b"-80,67\n", b"-80,x,1\n")
+    yield YARD.replace(b"-80,67\n", b"x,67,1\n")
+    yield YARD.replace(b"-80,67\n", b"x\n")
+    # padded, a line of separators, units elsewhere
+    yield YARD.replace(b"\n", b",\n")
+    yield YARD.replace(b"-80,67\n", b"-80,67,\n")
+    yield YARD.replace(b"\nGannet", b"\n,,,,,,,,\nGannet")
+    yield YARD.replace(b"Gannet,356", b"unit,")
+    # where a file without a boat ends
+    for end in (b"", b"\n", b"\n\n\n", b"\r\n\r\n"):
+        yield b"boat,a,b\nunit,m,m" + end
+    # names alone, with empty lines, quotes and units
+    yield b'"boat",c\n\n"unit",m\n\n' + b"".join(b'"b %d, ""x""",1\r\n\n' % i for i in range(256)) + b"\n" * 39000
+
+
 def by_hand():
     yield YARD
     # what goes wrong in a spreadsheet

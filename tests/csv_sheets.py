@@ -149,6 +149,31 @@ def allowed():
     yield SHEET.ljust(39000, b"\n")
 
 
+def of_guide():
+    """Beside the cases of test_sheet, what docs/guide.md says of which of two faults is told: pairs of a fleet's CSV and a sheet's."""
+    wrong_fleet = FLEET.replace(b"Eider II,341", b"Eider II,2500")
+    yield wrong_fleet, SHEET.ljust(39001, b"\n")
+    yield wrong_fleet, other(b"Hull 41", b'"Hull 41')
+    for data in (
+            other(b"steps,360", b"steps,many", SHEET) + b'"',
+            other(b"steps,360", b'steps,"360" '),
+            other(b"steps,360", b"steps,360" + b"," * 63),
+            other(b"steps,360", b"steps,360" + b"," * 64),
+            other(b",elec weight,", b",,") + b",\n" * 13,
+            other(b",elec weight,", b",,", other(b"steps,360", b"steps,many")),
+            other(b"Hull 41,338,163", b"Hull 41,2500,x"),
+            other(b"Hull 41,338", b"Hull 41,x,338"),
+            SHEET + b"steps,many\n",
+            other(b"Hull 41,338", b"Hull 41,x", other(b"VCG moment", b"GM")),
+            other(b"steps,360\n", b"", other(b"VCG moment", b"GM")),
+            other(b"tolerance each,5\n", b"", other(b"steps,360\n", b"")),
+            other(b"hull weight", b"GM", other(b"VCG moment", b"GZ")),
+            other(b"VCG moment", b"GM") + b"factor,0,0,0,0,0,0,0,0\n",
+            other(b"tolerance each,5", b"tolerance each,32000") + b"factor,9,9,9,9,9,9,9,9\n",
+            other(b"Hull 41,338", b'"Hull\t41\n\x01\x7f\xff",x')):
+        yield FLEET, data
+
+
 def sheet_of(names, values, lines=("steps,9", "tolerance,1")):
     return "\n".join([",".join(["", *names]), ",".join(["new", *values]), *lines, ""]).encode()
 

@@ -264,7 +264,7 @@ def check_mixbetter(program, runs):
 
 def check_mixbook(program, runs):
     """The spreadsheets written by hand, with an older book or none, then files that are too long or folders."""
-    for number, data in enumerate(csv_books.by_hand()):
+    for number, data in enumerate([*csv_books.by_hand(), *csv_books.of_guide()]):
         for older in (None, b"older book"):
             before = {"fleet.csv": data} if older is None else {"fleet.csv": data, "fleet.wbk": older}
             fault, _, _, lines, book = csv_books.made(data)
@@ -285,7 +285,7 @@ def check_mixbook(program, runs):
 
 def check_mixsheet(program, runs):
     """The spreadsheets written by hand and drawn, with an older sheet or none, then files that are too long, missing or folders."""
-    for number, (fleet, data) in enumerate(csv_sheets.all_cases()):
+    for number, (fleet, data) in enumerate([*csv_sheets.all_cases(), *csv_sheets.of_guide()]):
         before = {"fleet.csv": fleet, "sheet.csv": data}
         if number % 2:
             before["sheet.wsh"] = b"older sheet"
