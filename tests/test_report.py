@@ -335,6 +335,7 @@ def warnings():
         agree("marked: " + name, noted, ["column %d" % j for j in wanted])
         said = words.more_sentence(report).text
         agree("said: " + name, "No column is off by more." in said, not wanted)
+        agree("the tolerance: " + name, said.startswith("The tolerance is %s on average" % PRINTED[name][0].split()[2]), True)
 
 
 OPEN_FLEET = "boat,hull,elec,trim\nunit,‰ D,‰ D,‰ D L\nTern,10,4,0\nAuk,20,8,6\n"
