@@ -359,6 +359,9 @@ def estimates():
           ["hull|300 kg|333 kg|+33 kg", "elec||133 kg|", "total||467 kg|", "trim|0.60 t m|0.80 t m|+0.20 t m", "trim over the total||1.714 m|"])
     agree("no estimates", list(words.estimate_blocks(yard_report())), [])
     svg = check_picture("an estimate", picture.pictures(report)[0], 3, 2)
+    middle = next(node.get("d") for node in svg.iter(SVG + "path") if node.get("class") == "zero")
+    stands = [node.get("cx") == middle[1:].split(" ")[0] for node in svg.iter(SVG + "circle") if node.get("class") == "mix"]
+    agree("an estimate stands in the middle", stands[:3], [False, True, False])
     texts = [node.text for node in svg.iter(SVG + "text")]
     agree("an estimate in the picture", ["≈ 6.67" in texts, "133 kg" in texts, "≈" in texts], [True, True, True])
     for label, target, factors in (("a factor of 1", [15, 0, 3], [1, 1, 1]), ("a value", [15, 6, 3], [1, 0, 1])):
@@ -531,6 +534,7 @@ def names_by_rules():
     agree("names are letter for letter", names_for(spaced[0].encode(), SHEET.encode()).hull, "The sheet")
     quote = FLEET.replace("boat,", '5" boat,').replace(",", "\t").replace("Gull\t", "Gull,")
     agree("a quote inside a field", names_for(quote.encode()).boats[0], "Tern")
+    agree("an empty line before semicolons", names_for(("\n" + SERVE["semicolons"]).encode()).boats[0], "Tern")
     front = [names_for(FLEET.encode(), SHEET.encode()).fronts, names_for(b"", b"", FLEET.encode(), SHEET.encode()).fronts]
     agree("front texts", front, [["fleet.wbk", "sheet.wsh"], []])
 
