@@ -1,15 +1,12 @@
-// Fleet books and sheets read: their fields, and the value of a row or a target. docs/formats.md has the files.
+// Fleet books and sheets read: their fields, where their values start, and the value at an offset. docs/formats.md has the files.
 //
 // Helpers for other crates, whose callers prove what they require: u16_at, u32_at, u64_at and value_at read at an offset, ends_with
-// at the end; boats, columns, book_body and row_value a fleet book, sheet_columns, steps, tolerance, sheet_back, sheet_body and
-// target_value a sheet.
+// at the end; boats, columns and book_body a fleet book, sheet_columns, steps, tolerance, sheet_back and sheet_body a sheet.
 ghost use mathlib.Core.Path.{_≡_};
-ghost use mathlib.Core.List.{[]};
 ghost use Prim.Native.Nat.{_+_, _-_, _*_, _≤_, _<_};
-ghost use lib.ListN.{length, getD, drop};
-ghost use lib.IntN.{pos};
+ghost use lib.ListN.{length, drop};
 ghost use Rattle.files.specs.Bytes.{number, value, same};
-ghost use Rattle.files.specs.Book.{boats, columns, Book-whole, rows-offset, rows};
+ghost use Rattle.files.specs.Book.{boats, columns, Book-whole, rows-offset};
 ghost use Rattle.files.specs.Sheet.{sheet-columns, factor-bytes, sheet-back, Sheet-whole, target-offset};
 ghost use Rattle.files.specs.Sheet as Sheets;
 
@@ -98,14 +95,6 @@ pub fn book_body(book: &[u8]) -> usize
     book.len() - 12 - 2 * (boats(book) * columns(book))
 }
 
-// The value of boat `i` in column `j`.
-pub fn row_value(book: &[u8], i: usize, j: usize) -> i32
-    requires { ⌜ Book-whole (now book) × (i < boats (now book)) × (j < columns (now book)) ⌝ }
-    ensures { λ r. ⌜ r ≡ getD (getD (rows (now (book .entry))) i []) j (pos 0) ⌝ }
-{
-    value_at(book, book_body(book) + 2 * (i * columns(book) + j))
-}
-
 // The columns of a sheet.
 pub fn sheet_columns(sheet: &[u8]) -> u32
     requires { ⌜ 16 ≤ length (now sheet) ⌝ }
@@ -157,12 +146,4 @@ pub fn sheet_body(sheet: &[u8]) -> usize
     ensures { λ r. ⌜ r ≡ target-offset (now (sheet .entry)) ⌝ }
 {
     sheet.len() - 16 - sheet_back(sheet)
-}
-
-// The target's value in column `j`.
-pub fn target_value(sheet: &[u8], j: usize) -> i32
-    requires { ⌜ Sheet-whole (now sheet) × (j < sheet-columns (now sheet)) ⌝ }
-    ensures { λ r. ⌜ r ≡ getD (Sheets.sheet (now (sheet .entry)) .target) j (pos 0) ⌝ }
-{
-    value_at(sheet, sheet_body(sheet) + 2 * j)
 }
