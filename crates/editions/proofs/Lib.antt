@@ -1,0 +1,4 @@
+-- The laws behind the promise of a conversion.
+pub mod Again
+pub mod Converting
+pub mod Rewriting
