@@ -1,57 +1,88 @@
+-- `other_edition::other_edition` meets its contract.
+use mathlib.Core.Path.{sym, _∙_}
+use borrow.Author.Tests.{not-false}
+use denote.Ref.{now}
+use Rattle.files.proofs.Accepted.{sheet-passed}
+use Rattle.files.proofs.Numbers.{all-bytes-known}
+use Rattle.editions.proofs.Rewriting.{refused-own, refused-factor, refused-short, refused-large, wrote}
+use Rattle.other_edition.proofs.Putting.{placed-after}
 use borrow.Author.Needs.{needs}
 use Rattle.other_edition.proofs.other_edition.Statement.{statement}
 use Rattle.other_edition.proofs.other_edition.Tie as tie
-use Rattle.other_edition.proofs.other_edition.Reads as reads
-use Rattle.other_edition.proofs.other_edition.Lts as lts
-use Rattle.factors.proofs.is_plain.Reads as is-plain-reads
-use Rattle.other_edition.proofs.other_number.Reads as other-number-reads
-use Rattle.other_edition.proofs.other_size.Reads as other-size-reads
-use Rattle.other_edition.proofs.put_other.Reads as put-other-reads
-use Rattle.validation.proofs.sheet_refusal_in.Reads as sheet-refusal-in-reads
 
--- src/lib.rt:84:9
 sheet-refusal-in-requires : tie.Need-sheet-refusal-in-requires
 sheet-refusal-in-requires c κs = search needs
 
--- src/lib.rt:86:9
 returns : tie.Need-returns
-returns c = ?
+returns c =
+    let at-refusal = c .before in
+    let start = at-refusal .before .before .before in
+    let h = all-bytes-known _ (at-refusal .before .before .shared-slice-known .given) in
+    refused-own _ (now (start .args .output)) h _ (at-refusal .sheet-refusal-in .ensures) (c .if1 .taken)
 
--- src/lib.rt:88:9
 is-plain-requires : tie.Need-is-plain-requires
-is-plain-requires c κs = ?
+is-plain-requires c κs = sheet-passed 1 64 _ (sym (c .before .sheet-refusal-in .ensures) ∙ c .if1 .left) .fits .whole
 
--- src/lib.rt:89:9
 returns-2 : tie.Need-returns-2
-returns-2 c = ?
+returns-2 c =
+    let at-refusal = c .before .before .before in
+    let start = at-refusal .before .before .before in
+    let h = all-bytes-known _ (at-refusal .before .before .shared-slice-known .given) in
+    refused-factor _ (now (start .args .output)) h (sym (at-refusal .sheet-refusal-in .ensures) ∙ c .before .before .if1 .left) _ (c .before .is-plain .ensures) (c .if2 .taken)
 
--- src/lib.rt:91:9
 other-number-requires : tie.Need-other-number-requires
-other-number-requires c κs = ?
+other-number-requires c κs = sheet-passed 1 64 _ (sym (c .before .before .before .sheet-refusal-in .ensures) ∙ c .before .before .if1 .left) .fits .at-least
 
--- src/lib.rt:92:9
 other-size-requires : tie.Need-other-size-requires
-other-size-requires c κs = ?
+other-size-requires c κs =
+    let at-else = c .before in
+    let at-plain = at-else .before in
+    ((sym (at-plain .before .before .sheet-refusal-in .ensures) ∙ at-plain .before .if1 .left, sym (at-plain .is-plain .ensures) ∙ not-false _ (at-else .if2 .left)), c .other-number .ensures)
 
--- src/lib.rt:94:9
 returns-3 : tie.Need-returns-3
-returns-3 c = ?
+returns-3 c =
+    let at-size = c .before in
+    let at-number = at-size .before in
+    let at-else = at-number .before in
+    let at-plain = at-else .before in
+    let at-refusal = at-plain .before .before in
+    let start = at-refusal .before .before .before in
+    let h = all-bytes-known _ (at-refusal .before .before .shared-slice-known .given) in
+    refused-short _ (now (start .args .output)) h (sym (at-refusal .sheet-refusal-in .ensures) ∙ at-plain .before .if1 .left) _ (at-plain .is-plain .ensures) (at-else .if2 .left) _ (at-size .other-size .ensures) (c .if3 .taken)
 
--- src/lib.rt:97:9
 returns-4 : tie.Need-returns-4
-returns-4 c = ?
+returns-4 c =
+    let at-size = c .before .before in
+    let at-number = at-size .before in
+    let at-else = at-number .before in
+    let at-plain = at-else .before in
+    let at-refusal = at-plain .before .before in
+    let start = at-refusal .before .before .before in
+    let h = all-bytes-known _ (at-refusal .before .before .shared-slice-known .given) in
+    refused-large _ (now (start .args .output)) h (sym (at-refusal .sheet-refusal-in .ensures) ∙ at-plain .before .if1 .left) _ (at-plain .is-plain .ensures) (at-else .if2 .left) _ (at-size .other-size .ensures) (c .before .if3 .left) (c .if4 .taken)
 
--- src/lib.rt:99:5
 put-other-requires : tie.Need-put-other-requires
-put-other-requires c κs = ?
+put-other-requires c κs =
+    let at-size = c .before .before .before in
+    let at-number = at-size .before in
+    let at-else = at-number .before in
+    let at-plain = at-else .before in
+    ((sym (at-plain .before .before .sheet-refusal-in .ensures) ∙ at-plain .before .if1 .left, sym (at-plain .is-plain .ensures) ∙ not-false _ (at-else .if2 .left)), (at-number .other-number .ensures, rw (← at-size .other-size .ensures) (c .before .before .if3 .left)))
 
--- src/lib.rt:79:1
 same-length : tie.Need-same-length
 same-length c = search needs
 
--- src/lib.rt:79:1
 returns-5 : tie.Need-returns-5
-returns-5 c = ?
+returns-5 c =
+    let at-size = c .before .before .before .before .before .before in
+    let at-number = at-size .before in
+    let at-else = at-number .before in
+    let at-plain = at-else .before in
+    let at-refusal = at-plain .before .before in
+    let start = at-refusal .before .before .before in
+    let h = all-bytes-known _ (at-refusal .before .before .shared-slice-known .given) in
+    wrote _ (now (start .args .output)) h (sym (at-refusal .sheet-refusal-in .ensures) ∙ at-plain .before .if1 .left) _ (at-plain .is-plain .ensures) (at-else .if2 .left) _ (at-size .other-size .ensures) (c .before .before .before .before .before .if3 .left) (c .before .before .before .before .if4 .left) _ (at-number .other-number .ensures)
+    (c .before .before .put-other .ensures ∙ placed-after _ _)
 
 pub other-edition-spec : {M : Type 1} → statement M
 other-edition-spec =

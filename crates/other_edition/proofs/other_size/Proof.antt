@@ -1,33 +1,27 @@
+-- `other_edition::other_size` meets its contract.
+use native.Mathlib.Omega.{arith}
+use Rattle.other_edition.proofs.Putting.{fits, size-1, size-2}
 use borrow.Author.Needs.{needs}
 use Rattle.other_edition.proofs.other_size.Statement.{statement}
 use Rattle.other_edition.proofs.other_size.Tie as tie
-use Rattle.other_edition.proofs.other_size.Reads as reads
-use Rattle.other_edition.proofs.other_size.Lts as lts
-use Rattle.files.proofs.sheet_columns.Reads as sheet-columns-reads
 
--- src/lib.rt:36:19
 sheet-columns-requires : tie.Need-sheet-columns-requires
-sheet-columns-requires c κs = ?
+sheet-columns-requires c κs = fits _ (c .before .pre .0) .fits .at-least
 
--- src/lib.rt:36:19
 cast-columns : tie.Need-cast-columns
 cast-columns c = search needs
 
--- src/lib.rt:38:16
 sub-result : tie.Need-sub-result
-sub-result c = ?
+sub-result c = omega (arith, c .before .sheet-columns .ensures .0, fits _ (c .before .before .before .pre .0) .fits .whole)
 
--- src/lib.rt:38:9
 returns : tie.Need-returns
-returns c = ?
+returns c = size-1 _ (c .before .before .before .pre .0) (c .before .before .before .pre .1) (c .before .sheet-columns .ensures .0) (c .if1 .taken)
 
--- src/lib.rt:40:5
 add-result : tie.Need-add-result
 add-result c = search needs
 
--- src/lib.rt:31:1
 returns-2 : tie.Need-returns-2
-returns-2 c = ?
+returns-2 c = size-2 _ (c .before .before .before .pre .0) (c .before .before .before .pre .1) (c .before .sheet-columns .ensures .0) (c .if1 .left)
 
 pub other-size-spec : {M : Type 1} → statement M
 other-size-spec =

@@ -1,59 +1,60 @@
+-- `other_edition::put_ending` meets its contract.
+use native.Mathlib.Omega.{arith}
+use Rattle.other_edition.proofs.Putting.{length-1, length-2, ones-long, ending-put, trailer-room, ones-put}
 use borrow.Author.Needs.{needs}
 use Rattle.other_edition.proofs.put_ending.Statement.{statement}
 use Rattle.other_edition.proofs.put_ending.Tie as tie
-use Rattle.other_edition.proofs.put_ending.Reads as reads
-use Rattle.other_edition.proofs.put_ending.Lts as lts
-use Rattle.sheet_output.proofs.put_bytes.Reads as put-bytes-reads
-use Rattle.sheet_output.proofs.put_factored_trailer.Reads as put-factored-trailer-reads
-use Rattle.sheet_output.proofs.put_sheet_trailer.Reads as put-sheet-trailer-reads
 
--- src/lib.rt:50:49
 mul-put-sheet-trailer : tie.Need-mul-put-sheet-trailer
 mul-put-sheet-trailer c = search needs
 
--- src/lib.rt:50:9
 put-sheet-trailer-requires : tie.Need-put-sheet-trailer-requires
-put-sheet-trailer-requires c κs = ?
+put-sheet-trailer-requires c κs =
+    let start = c .before .before .before in
+    omega (arith, start .pre .1, length-1 (start .args .columns) (start .args .steps) (start .args .tolerance) (c .before .if1 .taken))
 
--- src/lib.rt:51:9
 same-length : tie.Need-same-length
 same-length c = search needs
 
--- src/lib.rt:51:9
 returns : tie.Need-returns
-returns c = ?
+returns c =
+    let start = c .before .before .before .before .before .before in
+    ending-put _ _ _ _ (start .pre .1) (c .before .before .before .before .if1 .taken) (c .before .before .put-sheet-trailer .ensures)
 
--- src/lib.rt:54:23
 mul-put-bytes : tie.Need-mul-put-bytes
 mul-put-bytes c = search needs
 
--- src/lib.rt:54:36
 array-share-prefix-ones : tie.Need-array-share-prefix-ones
 array-share-prefix-ones c = search needs
 
--- src/lib.rt:54:36
 slice-aggregate-put-bytes : tie.Need-slice-aggregate-put-bytes
-slice-aggregate-put-bytes c = ?
+slice-aggregate-put-bytes c = ones-long _ (c .before .before .before .before .pre .0)
 
--- src/lib.rt:54:5
 put-bytes-requires : tie.Need-put-bytes-requires
-put-bytes-requires c κs = ?
+put-bytes-requires c κs =
+    let start = c .before .before .before .before in
+    omega (arith, start .pre .1, ones-long _ (start .pre .0), length-2 (start .args .columns) (start .args .steps) (start .args .tolerance) (c .before .before .if1 .left))
 
--- src/lib.rt:55:48
 mul-put-factored-trailer : tie.Need-mul-put-factored-trailer
 mul-put-factored-trailer c = search needs
 
--- src/lib.rt:55:5
 put-factored-trailer-requires : tie.Need-put-factored-trailer-requires
-put-factored-trailer-requires c κs = ?
+put-factored-trailer-requires c κs =
+    let at-put = c .before .before .before in
+    let at-else = at-put .before .before .before in
+    let start = at-else .before .before in
+    trailer-room _ _ _ _ (start .pre .1) (at-else .if1 .left) (start .pre .0) (at-put .put-bytes .ensures)
 
--- src/lib.rt:44:1
 same-length-2 : tie.Need-same-length-2
 same-length-2 c = search needs
 
--- src/lib.rt:44:1
 returns-2 : tie.Need-returns-2
-returns-2 c = ?
+returns-2 c =
+    let at-trailer = c .before .before in
+    let at-put = at-trailer .before .before .before .before in
+    let at-else = at-put .before .before .before in
+    let start = at-else .before .before in
+    ones-put _ _ _ _ (start .pre .1) (at-else .if1 .left) (start .pre .0) (at-put .put-bytes .ensures) (at-trailer .put-factored-trailer .ensures)
 
 pub put-ending-spec : {M : Type 1} → statement M
 put-ending-spec =

@@ -1,74 +1,90 @@
+-- `other_edition::put_other` meets its contract.
+use mathlib.Core.Path.{refl}
+use native.Mathlib.Omega.{arith}
+use Rattle.files.proofs.Numbers.{all-bytes-known}
+use Rattle.other_edition.proofs.Putting.{fits, kept-long, kept-room, front-inside, ending-room, all-put}
 use borrow.Author.Needs.{needs}
 use Rattle.other_edition.proofs.put_other.Statement.{statement}
 use Rattle.other_edition.proofs.put_other.Tie as tie
-use Rattle.other_edition.proofs.put_other.Reads as reads
-use Rattle.other_edition.proofs.put_other.Lts as lts
-use Rattle.files.proofs.sheet_body.Reads as sheet-body-reads
-use Rattle.files.proofs.sheet_columns.Reads as sheet-columns-reads
-use Rattle.files.proofs.steps.Reads as steps-reads
-use Rattle.files.proofs.tolerance.Reads as tolerance-reads
-use Rattle.other_edition.proofs.put_ending.Reads as put-ending-reads
-use Rattle.sheet_output.proofs.put_bytes.Reads as put-bytes-reads
 
--- src/lib.rt:65:19
 sheet-columns-requires : tie.Need-sheet-columns-requires
-sheet-columns-requires c κs = ?
+sheet-columns-requires c κs = fits _ (c .before .before .pre .0) .fits .at-least
 
--- src/lib.rt:65:19
 cast-columns : tie.Need-cast-columns
 cast-columns c = search needs
 
--- src/lib.rt:66:9
 sheet-body-requires : tie.Need-sheet-body-requires
-sheet-body-requires c κs = ?
+sheet-body-requires c κs = fits _ (c .before .before .before .pre .0) .fits .whole
 
--- src/lib.rt:67:23
 mul-end : tie.Need-mul-end
 mul-end c = search needs
 
--- src/lib.rt:67:15
 add-end : tie.Need-add-end
 add-end c = search needs
 
--- src/lib.rt:68:26
 slice-aggregate-put-bytes : tie.Need-slice-aggregate-put-bytes
-slice-aggregate-put-bytes c = ?
+slice-aggregate-put-bytes c =
+    let at-body = c .before .before in
+    let at-columns = at-body .before in
+    let start = at-columns .before .before .before in
+    let h = all-bytes-known _ (at-columns .before .before .shared-slice-known .given) in
+    kept-long _ (start .pre .0) h (start .pre .1 .0) (at-columns .sheet-columns .ensures .0) (at-body .sheet-body .ensures) refl refl
 
--- src/lib.rt:68:5
 put-bytes-requires : tie.Need-put-bytes-requires
-put-bytes-requires c κs = ?
+put-bytes-requires c κs =
+    let at-body = c .before .before in
+    let at-columns = at-body .before in
+    let start = at-columns .before .before .before in
+    let h = all-bytes-known _ (at-columns .before .before .shared-slice-known .given) in
+    kept-room _ (start .pre .0) h (start .pre .1 .0) (at-columns .sheet-columns .ensures .0) (at-body .sheet-body .ensures) refl refl (start .args .output .now) (start .pre .1 .1)
 
--- src/lib.rt:69:9
 steps-requires : tie.Need-steps-requires
-steps-requires c κs = ?
+steps-requires c κs = fits _ (c .before .before .before .before .before .before .before .before .before .pre .0) .fits .at-least
 
--- src/lib.rt:70:9
 tolerance-requires : tie.Need-tolerance-requires
-tolerance-requires c κs = ?
+tolerance-requires c κs = fits _ (c .before .before .before .before .before .before .before .before .before .before .pre .0) .fits .at-least
 
--- src/lib.rt:71:16
 sub-put-ending : tie.Need-sub-put-ending
-sub-put-ending c = ?
+sub-put-ending c =
+    let at-body = c .before .before .before .before .before .before .before in
+    let at-columns = at-body .before in
+    let start = at-columns .before .before .before in
+    let h = all-bytes-known _ (at-columns .before .before .shared-slice-known .given) in
+    front-inside _ (start .pre .0) h (start .pre .1 .0) (at-columns .sheet-columns .ensures .0) (at-body .sheet-body .ensures) refl refl _ (start .pre .1 .1) (c .before .before .before .before .put-bytes .ensures)
 
--- src/lib.rt:71:16
 part-put-ending-start : tie.Need-part-put-ending-start
-part-put-ending-start c = ?
+part-put-ending-start c =
+    let at-body = c .before .before .before .before .before .before .before in
+    let at-columns = at-body .before in
+    let start = at-columns .before .before .before in
+    let h = all-bytes-known _ (at-columns .before .before .shared-slice-known .given) in
+    front-inside _ (start .pre .0) h (start .pre .1 .0) (at-columns .sheet-columns .ensures .0) (at-body .sheet-body .ensures) refl refl _ (start .pre .1 .1) (c .before .before .before .before .put-bytes .ensures)
 
--- src/lib.rt:71:16
 part-put-ending-end : tie.Need-part-put-ending-end
 part-put-ending-end c = search needs
 
--- src/lib.rt:71:5
 put-ending-requires : tie.Need-put-ending-requires
-put-ending-requires c κs = ?
+put-ending-requires c κs =
+    let at-body = c .before .before .before .before .before .before .before .before in
+    let at-columns = at-body .before in
+    let start = at-columns .before .before .before in
+    let h = all-bytes-known _ (at-columns .before .before .shared-slice-known .given) in
+    (
+      omega (arith, at-columns .sheet-columns .ensures .0, fits _ (start .pre .0) .most-columns),
+      ending-room _ (start .pre .0) h (start .pre .1 .0) (at-columns .sheet-columns .ensures .0) (at-body .sheet-body .ensures) (c .before .before .steps .ensures) (c .before .tolerance .ensures) _ (start .pre .1 .1) (c .before .before .before .before .before .put-bytes .ensures),
+    )
 
--- src/lib.rt:59:1
 same-length : tie.Need-same-length
 same-length c = search needs
 
--- src/lib.rt:59:1
 returns : tie.Need-returns
-returns c = ?
+returns c =
+    let at-body = c .before .before .before .before .before .before .before .before .before .before .before in
+    let at-columns = at-body .before in
+    let start = at-columns .before .before .before in
+    let h = all-bytes-known _ (at-columns .before .before .shared-slice-known .given) in
+    all-put _ (start .pre .0) h (start .pre .1 .0) (at-columns .sheet-columns .ensures .0) (at-body .sheet-body .ensures) (c .before .before .before .before .before .steps .ensures) (c .before .before .before .before .tolerance .ensures) _ (start .pre .1 .1)
+    (c .before .before .before .before .before .before .before .before .put-bytes .ensures) (c .before .before .put-ending .ensures)
 
 pub put-other-spec : {M : Type 1} → statement M
 put-other-spec =
