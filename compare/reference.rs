@@ -391,6 +391,28 @@ pub fn check_card(book: &[u8], sheet: &[u8], card: &[u8], slots: &mut [u16]) -> 
     Ok(answer)
 }
 
+/// A sheet in its other edition, put at the front of a buffer: the edition and its bytes, or the refusal. 13 is for columns that no book has.
+pub fn other_edition(sheet: &[u8], buffer: &mut [u8]) -> Result<(u32, usize), u32> {
+    let own = if sheet.len() < 16 { 0 } else { unsigned(&sheet[sheet.len() - 12..sheet.len() - 10]) as usize };
+    let columns = if (1..=64).contains(&own) { own } else { own + 1 };
+    let factors = read_sheet(sheet, columns)?.factors;
+    if factors.iter().any(|f| *f != 1) {
+        return Err(47);
+    }
+    let trailer = &sheet[sheet.len() - 16..];
+    let (edition, had, has, letters) = if trailer.ends_with(b"WSH2") { (1, 3, 2, b"WSH1") } else { (2, 2, 3, b"WSH2") };
+    let mut made = sheet[..sheet.len() - 16 - had * columns + 2 * columns].to_vec();
+    made.extend(vec![1u8; (has - 2) * columns]);
+    made.extend_from_slice(&((has * columns) as u32).to_le_bytes());
+    made.extend_from_slice(&trailer[4..12]);
+    made.extend_from_slice(letters);
+    if buffer.len() < made.len() || MOST_BYTES < made.len() {
+        return Err(48);
+    }
+    buffer[..made.len()].copy_from_slice(&made);
+    Ok((edition, made.len()))
+}
+
 /// The better of two cards, or the refusal: the number of the card, and offset and length of its body and trailer.
 pub fn better_card(book: &[u8], sheet: &[u8], first: &[u8], second: &[u8]) -> Result<(u32, usize, usize), u32> {
     let a = check_card(book, sheet, first, &mut [0; 256])?;

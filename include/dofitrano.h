@@ -44,6 +44,8 @@ enum dofitrano_refusal {
     DOFITRANO_SHEET_BACK = 16,      /* back is not 2 x columns (WSH2: 3 x columns), or reaches before the first byte */
     DOFITRANO_SHEET_VALUE = 17,     /* a value outside -2,000 to 2,000 */
     DOFITRANO_SHEET_FACTORS = 46,   /* the columns' factors total 0 or more than 64; tested right after 17 */
+    DOFITRANO_EDITION_FACTOR = 47,  /* a sheet WSH2 that is to be WSH1 has a factor other than 1 */
+    DOFITRANO_EDITION_OUTPUT = 48,  /* output shorter than the other edition, or that longer than 40,000 bytes */
     /* the calling program */
     DOFITRANO_SHARE_LIST = 21,  /* share list shorter than the number of boats */
     DOFITRANO_CARD_BUFFER = 22, /* card buffer shorter than the card */
@@ -177,6 +179,19 @@ dofitrano_sheet dofitrano_scale_sheet(const uint8_t *book, size_t book_length,
                                       const double *second, size_t second_count,
                                       const uint32_t *units, size_t unit_count,
                                       uint32_t steps, uint32_t tolerance);
+
+/* The reply of a sheet's conversion. Where the call is refused, `edition` and `bytes` are 0: nothing was written. */
+typedef struct dofitrano_edition_reply {
+    uint32_t refusal; /* the number that refuses the call, 0 where a sheet was written */
+    uint32_t edition; /* the edition that was written: 1 of WSH2, 2 of WSH1 */
+    size_t bytes;     /* its bytes */
+} dofitrano_edition_reply;
+
+/* Writes a sheet in its other edition to the first bytes of `output`, by its letters: WSH1 into WSH2 with every factor 1, WSH2 into WSH1
+ * where every factor is 1. Front text is carried over; later bytes are as they were. Refuses by 11 to 17, 13 for columns outside 1 to 64,
+ * then 46, then 47, then 48. Converted back, the result is the same bytes; every other function here does the same with both. */
+dofitrano_edition_reply dofitrano_other_edition(const uint8_t *sheet, size_t sheet_length,
+                                                uint8_t *output, size_t output_length);
 
 #ifdef __cplusplus
 }

@@ -19,6 +19,7 @@ PROGRAMS = {
     "mixbetter": ("better_folder::file_better", "test_program", "folder"),
     "mixbook": ("book_folder::file_book", "test_book", "name"),
     "mixsheet": ("sheet_folder::file_sheet", "test_sheet", "name"),
+    "mixedition": ("edition_folder::file_other", "test_rewriting", "name"),
 }
 
 MAIN = ('fn main() { let mut name = [0u8; 4095]; let asked = arguments::folder(b"%s", &mut name); '

@@ -90,6 +90,9 @@ the last of a sheet's own, right after 17.
     42  a reading not finite, or a net beyond 1,048,576 kilograms either way
     43  unit outside 1 to 10,000, or a value outside -2,000 to 2,000
     46  factors that total 0 or more than 64
+    47  of a conversion into WSH1: a factor other than 1
+    48  of a conversion: output shorter than the result, or a result longer
+        than 40,000 bytes
 
 Use from a shell:  python3 tests/exact.py FLEET SHEET
 """
@@ -189,12 +192,17 @@ def book_refusal(book: bytes) -> int:
 
 def sheet_refusal(sheet: bytes, columns: int) -> int:
     """The refusal of a sheet for a book of so many columns, 0 if accepted."""
+    return sheet_refusal_in(sheet, columns, columns)
+
+
+def sheet_refusal_in(sheet: bytes, least: int, most: int) -> int:
+    """The refusal of a sheet that is to have `least` to `most` columns, 0 if accepted."""
     if len(sheet) < SHEET_TRAILER.size or len(sheet) > MOST_BYTES:
         return 11
     (back, own_columns, steps, tolerance, letters), before = split(sheet, SHEET_TRAILER)
     if letters not in SHEET_EDITIONS:
         return 12
-    if own_columns != columns:
+    if own_columns < least or own_columns > most:
         return 13
     if steps < 1 or steps > MOST_STEPS:
         return 14
@@ -601,6 +609,44 @@ def scale_sheet(book: bytes, cells, steps: int, tolerance: int):
         return 15, b""
     (_, _, columns, _), _ = split(book, BOOK_TRAILER)
     return 0, make_sheet(values[:columns], steps, tolerance)
+
+
+# ------------------------------------------------------ the other edition
+
+
+def other_edition(sheet: bytes, buffer: bytes):
+    """A sheet in its other edition, put at the front of a buffer: refusal, edition, bytes written, the buffer afterwards."""
+    refusal = sheet_refusal_in(sheet, 1, MOST_COLUMNS)
+    if refusal:
+        return refusal, 0, 0, buffer
+    target, steps, tolerance, factors = read_sheet(sheet)
+    if set(factors) != {1}:
+        return 47, 0, 0, buffer
+    (back, _, _, _, letters), before = split(sheet, SHEET_TRAILER)
+    front, edition = before[:len(before) - back], 2 if letters == b"WSH1" else 1
+    made = make_sheet(target, steps, tolerance, front, factors=factors if edition == 2 else None)
+    if len(buffer) < len(made) or MOST_BYTES < len(made):
+        return 48, 0, 0, buffer
+    return 0, edition, len(made), made + buffer[len(made):]
+
+
+def edition_line(sheet: bytes, room: int) -> bytes:
+    """The line of a conversion into an output of so many bytes."""
+    refusal, edition, length, _ = other_edition(sheet, bytes(room))
+    return refused(refusal) if refusal else b"edition %d %d\n" % (edition, length)
+
+
+def edition_detail(sheet: bytes) -> bytes:
+    """What is known of the refusal of a conversion into 40,000 bytes, in one line."""
+    refusal = other_edition(sheet, bytes(MOST_BYTES))[0]
+    if refusal == 13:
+        return b"sheet.wsh has %d columns, not 1 to 64\n" % split(sheet, SHEET_TRAILER)[0][1]
+    if refusal == 47:
+        column, factor = next((i, f) for i, f in enumerate(read_sheet(sheet)[3], 1) if f != 1)
+        return b"sheet.wsh, column %d: the factor is %d, not 1\n" % (column, factor)
+    if refusal == 48:
+        return b"other.wsh would have %d bytes, more than 40000\n" % (len(sheet) + len(read_sheet(sheet)[0]))
+    return b""
 
 
 # -------------------------------------------------------------- the listing

@@ -19,6 +19,7 @@ import csv_books  # noqa: E402
 import csv_sheets  # noqa: E402
 import details  # noqa: E402
 import exact  # noqa: E402
+import sheet_editions  # noqa: E402
 
 P = [[0, 0], [4, 0], [0, 4]]
 BOOK = exact.make_book(P)
@@ -140,8 +141,9 @@ READ = {
     "mixbetter": ("fleet.wbk", "sheet.wsh", "first.wcd", "second.wcd"),
     "mixbook": ("fleet.csv",),
     "mixsheet": ("fleet.csv", "sheet.csv"),
+    "mixedition": ("sheet.wsh",),
 }
-FILED = {"mixcard": "card.wcd", "mixbetter": "better.wcd"}
+FILED = {"mixcard": "card.wcd", "mixbetter": "better.wcd", "mixedition": "other.wsh"}
 
 
 def told(program, files, refused=False, folder=""):
@@ -303,6 +305,21 @@ def check_mixsheet(program, runs):
         runs.expect("mixsheet, " + name, run(program, before, read_only) == (b"", b"sheet.wsh: could not be written\n", before))
 
 
+def check_mixedition(program, runs):
+    """The sheets of test_rewriting, with an older other.wsh or none, then sheets that are too long, missing or folders."""
+    sheets = [(name, bytes(zeros) + sheet) for name, zeros, _, sheet, _ in sheet_editions.cases()]
+    for number, (name, sheet) in enumerate([*sheets, ("90,000 bytes", SHEET.rjust(90000, b"x"))]):
+        before = {"sheet.wsh": sheet, "other.wsh": b"older sheet"} if number % 2 else {"sheet.wsh": sheet}
+        line, fault, left = sheet_editions.filed(before)
+        after = before if left is None else dict(before, **{"other.wsh": left})
+        runs.expect("mixedition, " + name, run(program, before) == (line, fault, after))
+    for name, before in (("no sheet", {"other.wsh": b"older sheet"}), ("sheet a folder", {"sheet.wsh": FOLDER})):
+        runs.expect("mixedition, " + name, run(program, before) == (b"refused 11\n", told("mixedition", before, True), before))
+    for name, older, read_only in (("no room", b"older sheet", True), ("other.wsh a folder", FOLDER, False)):
+        before = {"sheet.wsh": SHEET, "other.wsh": older}
+        runs.expect("mixedition, " + name, run(program, before, read_only) == (b"", b"other.wsh: could not be written\n", before))
+
+
 CARD = exact.write_card(BOOK, SHEET, bytes(1060))
 # files on which every program does its work
 ARGUMENT_FILES = {"fleet.csv": b"a,b,c\nd,0,0\ne,4,0\nf,0,4\n", "sheet.csv": b",c,b\nnew,1,1\nsteps,9\ntolerance,1\n",
@@ -327,7 +344,7 @@ def check_arguments(name, program, files, runs):
 
 # What is tried of each program.
 CHECKS = {"mixlist": (check_mixlist,), "mixcard": (check_mixcard,), "mixcheck": (check_mixcheck, check_report), "mixbetter": (check_mixbetter,),
-          "mixbook": (check_mixbook,), "mixsheet": (check_mixsheet,)}
+          "mixbook": (check_mixbook,), "mixsheet": (check_mixsheet,), "mixedition": (check_mixedition,)}
 
 
 def check_programs(place, names, runs):

@@ -1071,11 +1071,37 @@ def better_of_two():
     agree("its products, and as doubles", (left * 63903 ** 2 - right * 64980 ** 2, right / 63903 ** 2 < left / 64980 ** 2), (36000000, False))
 
 
+def other_editions():
+    """Sheets between the two editions: the bytes by hand, every refusal in its order, front text, and the way back."""
+    a = bytes.fromhex("01 00 01 00 04 00 00 00 02 00 09 00 01 00 00 00") + b"WSH1"
+    up = bytes.fromhex("01 00 01 00 01 01 06 00 00 00 02 00 09 00 01 00 00 00") + b"WSH2"
+    agree("up, bytes past the result", exact.other_edition(a, b"7" * 25), (0, 2, 22, up + b"777"))
+    agree("down", exact.other_edition(up, b"7" * 20), (0, 1, 20, a))
+    agree("no room", exact.other_edition(a, b"7" * 21), (48, 0, 0, b"7" * 21))
+    agree("behind front text", exact.other_edition(b"hi" + a, bytes(24)), (0, 2, 24, b"hi" + up))
+    agree("front text with letters in it", exact.other_edition(b"WSH2" + up, bytes(24)), (0, 1, 24, b"WSH2" + a))
+    for factors, refusal in (([2, 1], 47), ([1, 0], 47), ([64, 1], 46), ([0, 0], 46), ([1, 1], 48)):
+        agree("factors %s" % factors, exact.other_edition(make_sheet((1, 1), 9, 1, factors=factors), b""), (refusal, 0, 0, b""))
+    for columns, refusal in ((0, 13), (1, 0), (64, 0), (65, 13)):
+        agree("%d columns" % columns, exact.other_edition(make_sheet([0] * columns, 9, 1), bytes(300))[0], refusal)
+    agree("steps before room", exact.other_edition(make_sheet((1, 1), 0, 1), b"")[0], 14)
+    for length, edition, wanted in ((39999, 1, (0, 2, 40000)), (40000, 1, (48, 0, 0)), (40000, 2, (0, 1, 39999)), (40001, 2, (11, 0, 0))):
+        sheet = make_sheet((3,), 9, 1, factors=[1] if edition == 2 else None)
+        agree("WSH%d of %d bytes" % (edition, length), exact.other_edition(sheet.rjust(length, b"x"), bytes(50000))[:3], wanted)
+    agree("lines", (exact.edition_line(a, 22), exact.edition_line(a, 21)), (b"edition 2 22\n", b"refused 48\n"))
+    agree("details", [exact.edition_detail(sheet) for sheet in (
+        a, make_sheet([0] * 65, 9, 1), make_sheet((1, 1), 9, 1, factors=[1, 3]), a.rjust(39999, b"x"), make_sheet((2001, 0), 9, 1))],
+          [b"", b"sheet.wsh has 65 columns, not 1 to 64\n", b"sheet.wsh, column 2: the factor is 3, not 1\n",
+           b"other.wsh would have 40001 bytes, more than 40000\n", b""])
+    book = make_book(P)
+    agree("the same search", exact.search(book, up, [7] * 5), exact.search(book, a, [7] * 5))
+
+
 def main():
     for part in (marked_sheets, readers, book_and_sheet_refusals, lent_lists, card_refusals,
                  two_tests, editions, filed_before, two_faults, ties_and_start, drawn_ties, random_books, factored_sheets, factored_cards, factored_books,
                  drawn_sheets_with_factors, full_size, damaged_files,
-                 from_a_shell, whole_numbers, scale_cells, subtractions, gap_bounds, better_of_two):
+                 from_a_shell, whole_numbers, scale_cells, subtractions, gap_bounds, better_of_two, other_editions):
         part()
     if differences:
         print("exact.py: %d of %d checks differ" % (differences, checks))

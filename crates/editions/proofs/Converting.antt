@@ -181,7 +181,7 @@ module _ (s : List ℕ) (e : sheet-refusal-in 1 64 s ≡ 0) (p : all-ones (sheet
     unfolding other-edition
     other-columns = behind .same-columns ∙ reads .columns-back ∙ columns-are
 
-    other-second : sheet-lettered WSH2 (other-edition s) ≡ other
+    pub other-second : sheet-lettered WSH2 (other-edition s) ≡ other
     unfolding other-edition
     other-second = lettered-front (sheet-front s) made WSH2 (omega (arith, made-long other)) ∙ reads .edition
 

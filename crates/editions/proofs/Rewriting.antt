@@ -8,7 +8,7 @@ use borrow.Author.Tests.{lt-ltb, le-ltb, ltb-false, not-true, not-false}
 use lib.Dec.{eqb, ltb, eqb·suc-zero}
 use lib.ListN.{length, take}
 use Rattle.files.specs.Bytes.{all-bytes}
-use Rattle.files.specs.Sheet.{sheet, sheet-refusal-in}
+use Rattle.files.specs.Sheet.{WSH2, sheet, sheet-lettered, sheet-refusal-in}
 use Rattle.files.specs.Limits.{file-limit}
 use Rattle.factors.specs.Factors.{all-ones}
 use Rattle.method.specs.Answers.{slots-after}
@@ -18,7 +18,7 @@ use Rattle.editions.specs.declared.Rewritten.{Rewritten}
 use Rattle.editions.specs.declared.Rewritten.the-variants.{Refused, Wrote}
 use Rattle.editions.specs.Rewriting.{other-number, other-edition, edition-refusal, rewriting, rewriting-number}
 use Rattle.editions.specs.Promise.{Edition-right}
-use Rattle.editions.proofs.Converting.{converted}
+use Rattle.editions.proofs.Converting.{converted, other-second}
 
 -- ---- By the number
 
@@ -32,10 +32,18 @@ unfolding rewriting
 refused-some zero k m x e = absurd (let z : _≡_ {A = ℕ} 0 1 = cc in omega arith)
 refused-some (suc n) k m x e = let q : suc n ≡ x = cc in omega arith
 
-wrote-all : (n k m x y : ℕ) → rewriting n k m ≡ Wrote x y → (n ≡ 0) × (m ≡ y)
+wrote-all : (n k m x y : ℕ) → rewriting n k m ≡ Wrote x y → (n ≡ 0) × ((m ≡ y) × (k ≡ x))
 unfolding rewriting
-wrote-all zero k m x y e = (refl, cc)
+wrote-all zero k m x y e = (refl, (cc, cc))
 wrote-all (suc n) k m x y e = absurd (let z : _≡_ {A = ℕ} 0 1 = cc in omega arith)
+
+numbered-by : (t : Bool) → _≡_ {A = ℕ} (cond t 1 2) (cond (not t) 2 1)
+numbered-by true = refl
+numbered-by false = refl
+
+numbered : (s o : List ℕ) → sheet-lettered WSH2 o ≡ not (sheet-lettered WSH2 s) → other-number s ≡ cond (sheet-lettered WSH2 o) 2 1
+unfolding other-number
+numbered s o l = rw l (numbered-by (sheet-lettered WSH2 s))
 
 -- ---- What passes
 
@@ -74,6 +82,9 @@ module _ (s out : List ℕ) (h : all-bytes s ≡ true) where
       (r ≡ rewriting (edition-refusal s (length out)) (other-number s) (length (other-edition s)))
       × ((now ≡ slots-after (edition-refusal s (length out)) (other-edition s) out) × Edition-right s r now)
 
+  written : {r : Rewritten} {now : List ℕ} → Gives refusal r now → refusal ≡ 0 → {size : ℕ} → length (other-edition s) ≡ size → take size now ≡ other-edition s
+  written g z {size} e = ap (take size) (g .1 ∙ ap (λ m. slots-after m (other-edition s) out) z) ∙ slots-kept (other-edition s) out size e
+
   right : {r : Rewritten} {now : List ℕ} → Gives refusal r now → Edition-right s r now
   right {r} {now} g =
       let k : length now ≡ length out = ap length (g .1) ∙ length-after refusal (other-edition s) out (λ z. passes s (length out) z .fits) in
@@ -82,9 +93,12 @@ module _ (s out : List ℕ) (h : all-bytes s ≡ true) where
         refused = λ n q. refused-some refusal _ _ n (sym (g .0) ∙ q);
         wrote = λ edition size q.
             let w = wrote-all refusal _ _ edition size (sym (g .0) ∙ q) in
-            let o : take size now ≡ other-edition s = ap (take size) (g .1 ∙ ap (λ m. slots-after m (other-edition s) out) (w .0)) ∙ slots-kept (other-edition s) out size (w .1) in
             let p = passes s (length out) (w .0) in
-            rw o (converted s (p .own) (p .plain) (p .small) h);
+            rw (written g (w .0) (w .1 .0)) (converted s (p .own) (p .plain) (p .small) h);
+        edition-is = λ edition size q.
+            let w = wrote-all refusal _ _ edition size (sym (g .0) ∙ q) in
+            let p = passes s (length out) (w .0) in
+            sym (w .1 .1) ∙ rw (written g (w .0) (w .1 .0)) (numbered s (other-edition s) (other-second s (p .own) (p .plain) (p .small)));
       }
 
   promised : {r : Rewritten} {now : List ℕ} → Gives refusal r now → Promises r now

@@ -1,6 +1,6 @@
 -- What is promised of a conversion. Definitions only.
 use mathlib.Core.Path.{_≡_}
-use mathlib.Core.Bool.{not}
+use mathlib.Core.Bool.{cond}
 use mathlib.Core.List.{List}
 use Prim.Native.Nat.{ℕ, _≤_}
 use lib.ListN.{length, take}
@@ -37,3 +37,5 @@ pub record Edition-right (s : List ℕ) (r : Rewritten) (output : List ℕ) : Ty
   pub refused : (n : ℕ) → r ≡ Refused n → 1 ≤ n
   -- the sheet that was written is in the first bytes, as many as are given back
   pub wrote : (edition size : ℕ) → r ≡ Wrote edition size → Converted s (take size output)
+  -- and the edition that is given back is that of its letters
+  pub edition-is : (edition size : ℕ) → r ≡ Wrote edition size → edition ≡ cond (sheet-lettered WSH2 (take size output)) 2 1

@@ -8,8 +8,10 @@ use Rattle.method.specs.declared.Searched.the-variants.{Refused, Answered}
 use Rattle.method.specs.Answers.{verdict-number}
 use Rattle.card_format.specs.declared.Written.{Written}
 use Rattle.card_format.specs.declared.Written.the-variants as written
+use Rattle.editions.specs.declared.Rewritten.{Rewritten}
+use Rattle.editions.specs.declared.Rewritten.the-variants as rewritten
 use Rattle.exported_types.specs.declared.Reply.{Reply}
-use Rattle.exported_types.specs.Replies.{floor-of, shortfall-of, reply-of, card-reply-of}
+use Rattle.exported_types.specs.Replies.{floor-of, shortfall-of, reply-of, card-reply-of, edition-reply-of}
 
 -- the floor comes back from its bits, `bits`
 pub answered : {found : Searched} {a : Answer} → found ≡ Answered a →
@@ -25,3 +27,11 @@ write-refused e er = rw (e, er)
 pub filed : {w : Written} {a : Answer} {size : ℕ} → w ≡ written.Filed a size → {r : Reply} → r ≡ reply-of (Answered a) → record { reply = r; bytes = size } ≡ card-reply-of w
 unfolding card-reply-of
 filed e er = rw (e, er)
+
+pub edition-refused : {w : Rewritten} {n : ℕ} → w ≡ rewritten.Refused n → record { refusal = n; edition = 0; bytes = 0 } ≡ edition-reply-of w
+unfolding edition-reply-of
+edition-refused e = rw e
+
+pub edition-wrote : {w : Rewritten} {edition size : ℕ} → w ≡ rewritten.Wrote edition size → record { refusal = 0; edition = edition; bytes = size } ≡ edition-reply-of w
+unfolding edition-reply-of
+edition-wrote e = rw e

@@ -10,6 +10,9 @@ use Rattle.card_format.specs.declared.Written.{Written}
 use Rattle.card_format.specs.declared.Written.the-variants as written
 use Rattle.exported_types.specs.declared.Reply.{Reply}
 use Rattle.exported_types.specs.declared.CardReply.{CardReply}
+use Rattle.editions.specs.declared.Rewritten.{Rewritten}
+use Rattle.editions.specs.declared.Rewritten.the-variants as rewritten
+use Rattle.exported_types.specs.declared.EditionReply.{EditionReply}
 
 -- what Beyond carries, E - 2 G, and 0 for the others
 unfoldable pub floor-of : Verdict → ℤ
@@ -42,3 +45,8 @@ reply-of (Answered a) =
 unfoldable pub card-reply-of : Written → CardReply
 card-reply-of (written.Refused n) = record { reply = reply-of (Refused n); bytes = 0 }
 card-reply-of (written.Filed a size) = record { reply = reply-of (Answered a); bytes = size }
+
+-- of a conversion: a refusal writes no bytes
+unfoldable pub edition-reply-of : Rewritten → EditionReply
+edition-reply-of (rewritten.Refused n) = record { refusal = n; edition = 0; bytes = 0 }
+edition-reply-of (rewritten.Wrote edition size) = record { refusal = 0; edition = edition; bytes = size }

@@ -1,9 +1,10 @@
 // What the entries give back as plain numbers, for programs in other languages.
 //
-// Helpers, which ask nothing of their caller: reply_of, card_reply_of.
+// Helpers, which ask nothing of their caller: reply_of, card_reply_of, edition_reply_of.
 ghost use mathlib.Core.Path.{_≡_};
-ghost use Rattle.exported_types.specs.Replies.{floor-of, shortfall-of, reply-of, card-reply-of};
+ghost use Rattle.exported_types.specs.Replies.{floor-of, shortfall-of, reply-of, card-reply-of, edition-reply-of};
 use card_format::Written;
+use editions::Rewritten;
 use method::Searched;
 use method::Verdict;
 
@@ -104,5 +105,34 @@ pub fn card_reply_of(written: Written) -> CardReply
             let reply = reply_of(Searched::Answered(a));
             CardReply { reply, bytes: size }
         }
+    }
+}
+
+// The reply of a sheet's conversion. A refused call has 0 in `edition` and `bytes`: nothing was written.
+#[repr(C)]
+pub struct EditionReply {
+    // the number that refuses the call, 0 where a sheet was written
+    pub refusal: u32,
+    // the edition that was written, 1 or 2
+    pub edition: u32,
+    // its bytes
+    pub bytes: usize,
+}
+
+// What a conversion gives back as plain numbers.
+pub fn edition_reply_of(given: Rewritten) -> EditionReply
+    ensures { λ r. ⌜ r ≡ edition-reply-of given ⌝ }
+{
+    match given {
+        Rewritten::Refused(n) => EditionReply {
+            refusal: n,
+            edition: 0,
+            bytes: 0,
+        },
+        Rewritten::Wrote(edition, size) => EditionReply {
+            refusal: 0,
+            edition,
+            bytes: size,
+        },
     }
 }

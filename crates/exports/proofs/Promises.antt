@@ -7,6 +7,8 @@ use Rattle.method.specs.Promise.{Outcome-right}
 use Rattle.card_format.specs.declared.Written.{Written}
 use Rattle.card_format.specs.Checking.{Check-right}
 use Rattle.card_format.specs.Filing.{Filing-right}
+use Rattle.editions.specs.declared.Rewritten.{Rewritten}
+use Rattle.editions.specs.Promise.{Edition-right}
 use Rattle.scale_cells.specs.declared.ScaleCell.{ScaleCell}
 use Rattle.scale_cells.specs.declared.SheetValues.{SheetValues}
 use Rattle.scale_cells.specs.Cells.{sheet-values}
@@ -23,6 +25,9 @@ checked-right b s w {slots = q} e f h = subst (λ x. Check-right b s w x q) e h
 
 pub filed-right : (b s : List ℕ) {r o : Written} {output after : List ℕ} → r ≡ o → output ≡ after → Filing-right b s r output → Filing-right b s o output
 filed-right b s {output = q} e f h = subst (λ x. Filing-right b s x q) e h
+
+pub edition-right : (s : List ℕ) {r o : Rewritten} {output after : List ℕ} → r ≡ o → output ≡ after → Edition-right s r output → Edition-right s o output
+edition-right s {output = q} e f h = subst (λ x. Edition-right s x q) e h
 
 -- what is given for cells, said of the lists that they were read from
 pub values-right : (b : List ℕ) {cs ds : List ScaleCell} {r : SheetValues} → cs ≡ ds → (r ≡ sheet-values b cs) × Conversion-right b cs r → (r ≡ sheet-values b ds) × Conversion-right b ds r

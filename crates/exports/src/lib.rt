@@ -1,7 +1,7 @@
 // The library for programs in other languages: thin exported functions over the entries of the other crates.
 //
 // Entries, which ask nothing of their caller: dofitrano_search, dofitrano_write_card, dofitrano_check_card, dofitrano_listing,
-// dofitrano_sheet_values, dofitrano_scale_sheet, dofitrano_better_card.
+// dofitrano_sheet_values, dofitrano_scale_sheet, dofitrano_better_card, dofitrano_other_edition.
 // A slice passes as a pointer and a length; include/dofitrano.h declares the functions for C and says what a caller in another
 // language must see to. The first clause of a contract gives the reply, the second every slot or byte that was lent, the third
 // what the entry behind it promises of both.
@@ -18,7 +18,7 @@ ghost use Rattle.card_format.specs.Filing.{filing, Filing-right};
 ghost use Rattle.card_format.specs.Checking.{Check-right};
 ghost use Rattle.method.specs.Promise.{Outcome-right};
 ghost use Rattle.search_listing.specs.Searches.{search-outcome, search-shares, search-listing};
-ghost use Rattle.exported_types.specs.Replies.{reply-of, card-reply-of};
+ghost use Rattle.exported_types.specs.Replies.{reply-of, card-reply-of, edition-reply-of};
 ghost use Rattle.exports.specs.Buffers.{bytes-after, bytes-put};
 ghost use Rattle.scale_cells.specs.Cells.{sheet-values};
 ghost use Rattle.scale_cells.specs.Promise.{Conversion-right};
@@ -27,9 +27,12 @@ ghost use Rattle.scale_sheet.specs.Promise.{Sheet-right};
 ghost use Rattle.scale_cell_lists.specs.Lists.{flat-cells};
 ghost use Rattle.better_card_promise.specs.Choices.{numbered, part-of, choice};
 ghost use Rattle.better_card_promise.specs.Promise.{Better-right};
+ghost use Rattle.editions.specs.Rewriting.{other-number, other-edition, edition-refusal, rewriting};
+ghost use Rattle.editions.specs.Promise.{Edition-right};
 ghost use Rattle.text.specs.Texts.{text-limit};
 use better_card_promise::Choice;
 use exported_types::CardReply;
+use exported_types::EditionReply;
 use exported_types::Reply;
 use scale_cells::SheetValues;
 use scale_sheet::ScaleSheet;
@@ -150,4 +153,16 @@ pub extern "C" fn dofitrano_better_card(
     ensures { λ r. ⌜ r .offset + r .len ≤ length (numbered (r .card) (now (first .entry)) (now (second .entry))) ⌝ }
 {
     better_card::choose(book, sheet, first, second)
+}
+
+// ENTRY. A sheet in its other edition for other languages: the reply of `other_edition` for this sheet and this output, and its bytes
+// afterwards.
+#[no_mangle]
+pub extern "C" fn dofitrano_other_edition(sheet: &[u8], output: &mut [u8]) -> EditionReply
+    ensures { λ r. ⌜ r ≡ edition-reply-of (rewriting (edition-refusal (now (sheet .entry)) (length (now (output .entry)))) (other-number (now (sheet .entry))) (length (other-edition (now (sheet .entry))))) ⌝ }
+    ensures { λ _. ⌜ now (output .exit) ≡ slots-after (edition-refusal (now (sheet .entry)) (length (now (output .entry)))) (other-edition (now (sheet .entry))) (now (output .entry)) ⌝ }
+    ensures { λ _. ⌜ Edition-right (now (sheet .entry)) (rewriting (edition-refusal (now (sheet .entry)) (length (now (output .entry)))) (other-number (now (sheet .entry))) (length (other-edition (now (sheet .entry))))) (now (output .exit)) ⌝ }
+{
+    let given = other_edition::other_edition(sheet, &mut *output);
+    exported_types::edition_reply_of(given)
 }

@@ -1,6 +1,7 @@
 // A sheet written in the other edition: WSH1 into WSH2 with every factor 1, WSH2 into WSH1 where every factor is 1.
 //
-// Entry, which asks nothing of its caller: other_edition.
+// Entry, which asks nothing of its caller: other_edition. Helpers for other crates, whose callers prove what they require: other_number,
+// other_size.
 ghost use mathlib.Core.Path.{_≡_};
 ghost use Prim.Native.Nat.{_+_, _*_, _≤_};
 ghost use lib.ListN.{length};
@@ -17,7 +18,7 @@ use sheet_output::put_bytes;
 const MOST_BYTES: usize = 40000;
 
 // The edition that a sheet is converted into.
-fn other_number(sheet: &[u8]) -> u32
+pub fn other_number(sheet: &[u8]) -> u32
     requires { ⌜ 16 ≤ length (now sheet) ⌝ }
     ensures { λ r. ⌜ r ≡ other-number (now (sheet .entry)) ⌝ }
 {
@@ -28,7 +29,7 @@ fn other_number(sheet: &[u8]) -> u32
 }
 
 // How many bytes the conversion has: a factor for each column more in WSH2, less in WSH1.
-fn other_size(sheet: &[u8], number: u32) -> usize
+pub fn other_size(sheet: &[u8], number: u32) -> usize
     requires { ⌜ Convertible (now sheet) ⌝ }
     requires { ⌜ number ≡ other-number (now sheet) ⌝ }
     ensures { λ r. ⌜ r ≡ length (other-edition (now (sheet .entry))) ⌝ }
