@@ -65,6 +65,11 @@ def main():
     print(sheet.hex())
     refusal, sheet = exact.scale_sheet(book, cells[:1] + [none] * 63, 9, 1)
     print("refusal %d, bytes %d" % (refusal, len(sheet)))
+    print("editions")
+    refusal, edition, size, other = exact.other_edition(exact.make_sheet([1, 1], 9, 1), bytes(22))
+    print("refusal %d, edition %d, bytes %d" % (refusal, edition, size))
+    print(other.hex())
+    print("refusal %d, edition %d, bytes %d" % exact.other_edition(exact.make_sheet([1, 1], 2, 1, factors=[1, 2]), bytes(22))[:3])
 
 
 main()

@@ -1,5 +1,5 @@
-/* The library from C: a search and its refusal, a search with factors, a listing, a card written and checked, a sheet of scale cells.
- * Files are built in memory. */
+/* The library from C: a search and its refusal, a search with factors, a listing, a card written and checked, a sheet of scale cells, a
+ * sheet in its other edition. Files are built in memory. */
 #include <inttypes.h>
 #include <stdio.h>
 #include <string.h>
@@ -99,6 +99,19 @@ static void weigh(void)
     printf("refusal %" PRIu32 ", bytes %zu\n", made.refusal, made.length);
 }
 
+/* The sheet in its other edition, and one whose factors are not all 1, which has none. */
+static void convert(void)
+{
+    uint8_t other[sizeof sheet + 2];
+    dofitrano_edition_reply made = dofitrano_other_edition(sheet, sizeof sheet, other, sizeof other);
+    printf("refusal %" PRIu32 ", edition %" PRIu32 ", bytes %zu\n", made.refusal, made.edition, made.bytes);
+    for (size_t i = 0; i < made.bytes; i++)
+        printf("%02x", other[i]);
+    printf("\n");
+    made = dofitrano_other_edition(factored, sizeof factored, other, sizeof other);
+    printf("refusal %" PRIu32 ", edition %" PRIu32 ", bytes %zu\n", made.refusal, made.edition, made.bytes);
+}
+
 int main(void)
 {
     printf("search, 9 steps\n");
@@ -119,5 +132,7 @@ int main(void)
     write_and_check();
     printf("cells\n");
     weigh();
+    printf("editions\n");
+    convert();
     return 0;
 }

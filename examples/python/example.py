@@ -39,6 +39,11 @@ class Values(ctypes.Structure):
     _fields_ = [("refusal", ctypes.c_uint32), ("values", ctypes.c_int16 * 64)]
 
 
+class EditionReply(ctypes.Structure):
+    """dofitrano_edition_reply of include/dofitrano.h."""
+    _fields_ = [("refusal", ctypes.c_uint32), ("edition", ctypes.c_uint32), ("bytes", ctypes.c_size_t)]
+
+
 class Sheet(ctypes.Structure):
     """dofitrano_sheet of include/dofitrano.h."""
 
@@ -70,6 +75,8 @@ def load(path):
     library.dofitrano_sheet_values.argtypes = file + cells
     library.dofitrano_scale_sheet.restype = Sheet
     library.dofitrano_scale_sheet.argtypes = file + cells + [ctypes.c_uint32, ctypes.c_uint32]
+    library.dofitrano_other_edition.restype = EditionReply
+    library.dofitrano_other_edition.argtypes = file + buffer
     return library
 
 
@@ -163,6 +170,14 @@ def main(path):
     print(bytes(made.bytes[:made.length]).hex())
     made = library.dofitrano_scale_sheet(book, len(book), *lists_of(cells[:1]), 9, 1)
     print("refusal %d, bytes %d" % (made.refusal, made.length))
+    print("editions")
+    # The sheet in its other edition, and one whose factors are not all 1, which has none.
+    other = ctypes.create_string_buffer(22)
+    for sheet in (sheet_of((1, 1), 9, 1), sheet_of((1, 1), 2, 1, (1, 2))):
+        made = library.dofitrano_other_edition(sheet, len(sheet), other, len(other))
+        print("refusal %d, edition %d, bytes %d" % (made.refusal, made.edition, made.bytes))
+        if made.bytes:
+            print(other.raw[:made.bytes].hex())
 
 
 if __name__ == "__main__":

@@ -83,6 +83,9 @@ module _ (s : List ℕ) where
     pub factor-inside : all-ones (sheet s .factors) ≡ false → k < length fs
     factor-inside e = rw ek (other-inside fs (rw ef e))
 
+    pub factor-few : sheet-refusal-in 1 64 s ≡ 0 → all-ones (sheet s .factors) ≡ false → k < 64
+    factor-few ok e = let p = sheet-passed 1 64 s ok in omega (arith, factor-inside e, ap length ef, p .fits .factor-count, p .most-columns)
+
     pub factor-told : {t₀ t₁ t₂ t₃ t₄ t₅ t₆ : Text} → Holds [] t₀ → Adds t₀ SHEET-COLUMN t₁ → Adds t₁ (decimal (k + 1)) t₂ → Adds t₂ FACTOR-IS t₃ → Adds t₃ (decimal (getD fs k 0)) t₄ → Adds t₄ NOT-ONE t₅ →
         Adds t₅ (10 ∷ []) t₆ → Holds (factor-line s) t₆
     unfolding factor-line

@@ -84,5 +84,5 @@ edition-detail s =
     let own = sheet-refusal-in 1 64 s in
     cond (eqb own 13) (columns-line s)
     (cond (eqb own 0)
-      (cond (not (all-ones (sheet s .factors))) (factor-line s) (cond (ltb file-limit (length (other-edition s))) (size-line s) []))
-      [])
+    (cond (not (all-ones (sheet s .factors))) (factor-line s) (cond (ltb file-limit (length (other-edition s))) (size-line s) []))
+    [])

@@ -127,7 +127,7 @@ module _ (a z : ℕ) (s : List ℕ) (e : sheet-refusal-in a z s ≡ 0) where
     front-and-target =
         take-add (target-offset s) (2 * sheet-columns s) s
         ∙ ap (λ l. take (target-offset s) s ++ l)
-          (ap (take (2 * sheet-columns s)) (sym target-again) ∙ take-at (values-bytes (sheet s .target)) (drop end s) (2 * sheet-columns s) target-long)
+        (ap (take (2 * sheet-columns s)) (sym target-again) ∙ take-at (values-bytes (sheet s .target)) (drop end s) (2 * sheet-columns s) target-long)
 
     body-again : (t : Bool) → sheet-lettered WSH2 s ≡ t → edition-bytes t (sheet s) ≡ drop (target-offset s) s
     unfolding edition-bytes factored-bytes factored-body sheet-bytes factor-bytes trailer

@@ -1,72 +1,75 @@
+-- `edition_text::edition_detail` meets its contract.
+use mathlib.Core.Path.{sym, _∙_}
+use borrow.Author.Tests.{not-true, not-false}
+use Rattle.files.proofs.Accepted.{sheet-passed}
+use Rattle.edition_text.proofs.Telling.{long-enough, told-13, told-number, told-47, told-48, told-none}
 use borrow.Author.Needs.{needs}
 use Rattle.edition_text.proofs.edition_detail.Statement.{statement}
 use Rattle.edition_text.proofs.edition_detail.Tie as tie
-use Rattle.edition_text.proofs.edition_detail.Reads as reads
-use Rattle.edition_text.proofs.edition_detail.Lts as lts
-use Rattle.edition_text.proofs.columns_line.Reads as columns-line-reads
-use Rattle.edition_text.proofs.factor_line.Reads as factor-line-reads
-use Rattle.edition_text.proofs.size_line.Reads as size-line-reads
-use Rattle.factors.proofs.is_plain.Reads as is-plain-reads
-use Rattle.other_edition.proofs.other_number.Reads as other-number-reads
-use Rattle.other_edition.proofs.other_size.Reads as other-size-reads
-use Rattle.text.proofs.Text.empty.Reads as empty-reads
-use Rattle.validation.proofs.sheet_refusal_in.Reads as sheet-refusal-in-reads
 
--- src/lib.rt:89:9
 sheet-refusal-in-requires : tie.Need-sheet-refusal-in-requires
 sheet-refusal-in-requires c κs = search needs
 
--- src/lib.rt:91:9
 columns-line-requires : tie.Need-columns-line-requires
-columns-line-requires c κs = ?
+columns-line-requires c κs = long-enough _ (sym (c .before .sheet-refusal-in .ensures) ∙ c .if1 .taken)
 
--- src/lib.rt:91:9
 returns : tie.Need-returns
-returns c = ?
+returns c = told-13 _ (c .before .before .sheet-refusal-in .ensures) (c .before .if1 .taken) (c .columns-line .ensures)
 
--- src/lib.rt:94:9
 empty-requires : tie.Need-empty-requires
 empty-requires c κs = search needs
 
--- src/lib.rt:94:9
 returns-2 : tie.Need-returns-2
-returns-2 c = ?
+returns-2 c = told-number _ (c .before .before .before .sheet-refusal-in .ensures) (c .before .before .if1 .left) (c .before .if2 .taken) (c .empty .ensures)
 
--- src/lib.rt:96:9
 is-plain-requires : tie.Need-is-plain-requires
-is-plain-requires c κs = ?
+is-plain-requires c κs = sheet-passed 1 64 _ (sym (c .before .before .sheet-refusal-in .ensures) ∙ c .if2 .left) .fits .whole
 
--- src/lib.rt:97:9
 factor-line-requires : tie.Need-factor-line-requires
-factor-line-requires c κs = ?
+factor-line-requires c κs =
+    let at-plain = c .before in
+    let at-own = at-plain .before in
+    (sym (at-own .before .before .sheet-refusal-in .ensures) ∙ at-own .if2 .left, sym (at-plain .is-plain .ensures) ∙ not-true _ (c .if3 .taken))
 
--- src/lib.rt:97:9
 returns-3 : tie.Need-returns-3
-returns-3 c = ?
+returns-3 c =
+    let at-plain = c .before .before in
+    let at-own = at-plain .before in
+    told-47 _ (at-own .before .before .sheet-refusal-in .ensures) (at-own .if2 .left) (at-plain .is-plain .ensures) (c .before .if3 .taken) (c .factor-line .ensures)
 
--- src/lib.rt:99:9
 other-number-requires : tie.Need-other-number-requires
-other-number-requires c κs = ?
+other-number-requires c κs =
+    let at-plain = c .before in
+    let at-own = at-plain .before in
+    sheet-passed 1 64 _ (sym (at-own .before .before .sheet-refusal-in .ensures) ∙ at-own .if2 .left) .fits .at-least
 
--- src/lib.rt:100:9
 other-size-requires : tie.Need-other-size-requires
-other-size-requires c κs = ?
+other-size-requires c κs =
+    let at-plain = c .before .before in
+    let at-own = at-plain .before in
+    ((sym (at-own .before .before .sheet-refusal-in .ensures) ∙ at-own .if2 .left, sym (at-plain .is-plain .ensures) ∙ not-false _ (c .before .if3 .left)), c .other-number .ensures)
 
--- src/lib.rt:102:9
 size-line-requires : tie.Need-size-line-requires
 size-line-requires c κs = search needs
 
--- src/lib.rt:102:9
 returns-4 : tie.Need-returns-4
-returns-4 c = ?
+returns-4 c =
+    let at-size = c .before .before in
+    let at-else = at-size .before .before in
+    let at-plain = at-else .before in
+    let at-own = at-plain .before in
+    told-48 _ (at-own .before .before .sheet-refusal-in .ensures) (at-own .if2 .left) (at-plain .is-plain .ensures) (at-else .if3 .left) (at-size .other-size .ensures) (c .before .if4 .taken) (c .size-line .ensures)
 
--- src/lib.rt:104:5
 empty-requires-2 : tie.Need-empty-requires-2
 empty-requires-2 c κs = search needs
 
--- src/lib.rt:86:1
 returns-5 : tie.Need-returns-5
-returns-5 c = ?
+returns-5 c =
+    let at-size = c .before .before in
+    let at-else = at-size .before .before in
+    let at-plain = at-else .before in
+    let at-own = at-plain .before in
+    told-none _ (at-own .before .before .sheet-refusal-in .ensures) (at-own .if2 .left) (at-plain .is-plain .ensures) (at-else .if3 .left) (at-size .other-size .ensures) (c .before .if4 .left) (c .empty2 .ensures)
 
 pub edition-detail-spec : {M : Type 1} → statement M
 edition-detail-spec =

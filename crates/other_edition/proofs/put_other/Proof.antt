@@ -68,8 +68,7 @@ put-ending-requires c κs =
     let at-body = c .before .before .before .before .before .before .before .before in
     let at-columns = at-body .before in
     let start = at-columns .before .before .before in
-    let h = all-bytes-known _ (at-columns .before .before .shared-slice-known .given) in
-    (
+    let h = all-bytes-known _ (at-columns .before .before .shared-slice-known .given) in (
       omega (arith, at-columns .sheet-columns .ensures .0, fits _ (start .pre .0) .most-columns),
       ending-room _ (start .pre .0) h (start .pre .1 .0) (at-columns .sheet-columns .ensures .0) (at-body .sheet-body .ensures) (c .before .before .steps .ensures) (c .before .tolerance .ensures) _ (start .pre .1 .1) (c .before .before .before .before .before .put-bytes .ensures),
     )
