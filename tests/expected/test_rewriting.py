@@ -26,7 +26,7 @@ def main():
         if not {(0, 1), (0, 2), (47, 0), (48, 0)} <= met:
             sys.exit("sheet_editions.py has no case of some outcome: %s" % sorted(met))
     names = ("", "down", "front", "longest", "too_long", "factor", "columns", "no_steps", "taken", "none")
-    sys.stdout.buffer.write(b"".join([*(sheet_editions.written(*case) for case in found), *map(folder, names)]))
+    sys.stdout.buffer.write(b"".join([*(b"case %d\n" % number + sheet_editions.written(*case) for number, case in enumerate(found)), *map(folder, names)]))
 
 
 main()

@@ -98,21 +98,17 @@ first-ones (suc n) (suc m) h = ap (λ l. 1 ∷ l) (first-ones n m (omega arith))
 pub some-ones : (c : ℕ) → c ≤ 64 → take c (ones 64) ≡ ones c
 some-ones c h = first-ones c 64 h
 
--- the first of 64 bytes, whatever they are
-pub part-long : (c : ℕ) (xs : List ℕ) → length xs ≡ 64 → c ≤ 64 → c ≡ length (take c xs)
-part-long c xs e h = sym (length-take-le c xs (omega arith))
+pub ones-long : (c : ℕ) → c ≤ 64 → c ≡ length (take c (ones 64))
+ones-long c h = sym (ap length (some-ones c h) ∙ ones-count c)
 
 module _ {number : ℕ} (out : List ℕ) (c steps tolerance : ℕ) (h : 2 * c + length (ending number c steps tolerance) ≤ length out) where
   pub ending-put : number ≡ 1 → {o : List ℕ} → o ≡ placed out (2 * c) (sheet-trailer WSH1 (2 * c) c steps tolerance) → o ≡ placed out (2 * c) (ending number c steps tolerance)
   ending-put e q = q ∙ rw (ending-1 {number = number} c steps tolerance e)
 
-  pub bytes-room : (number ≡ 1 → ⊥) → c ≤ 64 → (xs : List ℕ) → length xs ≡ 64 → 2 * c + length (take c xs) ≤ length out
-  bytes-room n few xs e = omega (arith, part-long c xs e few, length-2 {number = number} c steps tolerance n)
-
   module _ (n : number ≡ 1 → ⊥) (few : c ≤ 64) {o₁ : List ℕ} (e₁ : o₁ ≡ placed out (2 * c) (take c (ones 64))) where
     pub trailer-room : 3 * c + 16 ≤ length o₁
     trailer-room =
-        omega (arith, ap length e₁, placed-length out (2 * c) (take c (ones 64)) (omega (arith, part-long c (ones 64) (ones-count 64) few, length-2 {number = number} c steps tolerance n)), length-2 {number = number} c steps tolerance n)
+        omega (arith, ap length e₁, placed-length out (2 * c) (take c (ones 64)) (omega (arith, ones-long c few, length-2 {number = number} c steps tolerance n)), length-2 {number = number} c steps tolerance n)
 
     pub ones-put : {o₂ : List ℕ} → o₂ ≡ placed o₁ (3 * c) (sheet-trailer WSH2 (3 * c) c steps tolerance) → o₂ ≡ placed out (2 * c) (ending number c steps tolerance)
     ones-put e₂ =

@@ -58,13 +58,11 @@ fn case(cases: &[u8], start: usize) -> usize {
 }
 
 // Each case of a file.
-fn each(cases: &[u8]) {
+fn each(cases: &[u8], count: u64) {
     let mut at = 0;
     let mut number = 0;
-    while number < 300 {
-        if cases.len() <= at {
-            return;
-        }
+    while number < count {
+        test_printing::line(b"case", number);
         at = case(cases, at);
         number += 1;
     }
@@ -83,7 +81,7 @@ fn folder(name: &[u8]) {
 fn main() {
     let mut cases = [0u8; 100000];
     let n = file_io::read_file(b"cases.dat", &mut cases);
-    each(&cases[..n]);
+    each(&cases[..n], 236);
     folder(b"");
     folder(b"down");
     folder(b"front");

@@ -1,7 +1,6 @@
 -- `other_edition::put_ending` meets its contract.
-use mathlib.Core.Path.{refl}
 use native.Mathlib.Omega.{arith}
-use Rattle.other_edition.proofs.Putting.{length-1, part-long, ending-put, bytes-room, trailer-room, ones-put}
+use Rattle.other_edition.proofs.Putting.{length-1, length-2, ones-long, ending-put, trailer-room, ones-put}
 use borrow.Author.Needs.{needs}
 use Rattle.other_edition.proofs.put_ending.Statement.{statement}
 use Rattle.other_edition.proofs.put_ending.Tie as tie
@@ -29,12 +28,12 @@ array-share-prefix-ones : tie.Need-array-share-prefix-ones
 array-share-prefix-ones c = search needs
 
 slice-aggregate-put-bytes : tie.Need-slice-aggregate-put-bytes
-slice-aggregate-put-bytes c = part-long _ _ refl (c .before .before .before .before .pre .0)
+slice-aggregate-put-bytes c = ones-long _ (c .before .before .before .before .pre .0)
 
 put-bytes-requires : tie.Need-put-bytes-requires
 put-bytes-requires c κs =
     let start = c .before .before .before .before in
-    bytes-room _ _ _ _ (start .pre .1) (c .before .before .if1 .left) (start .pre .0) _ refl
+    omega (arith, start .pre .1, ones-long _ (start .pre .0), length-2 (start .args .columns) (start .args .steps) (start .args .tolerance) (c .before .before .if1 .left))
 
 mul-put-factored-trailer : tie.Need-mul-put-factored-trailer
 mul-put-factored-trailer c = search needs
