@@ -11,10 +11,10 @@ enum-known-given-2 : tie.Need-enum-known-given-2
 enum-known-given-2 c = search needs
 
 returns : tie.Need-returns
-returns c = edition-refused (c .given .given .1)
+returns c = search (needs, edition-refused)
 
 returns-2 : tie.Need-returns-2
-returns-2 c = edition-wrote (c .given2 .given .1)
+returns-2 c = search (needs, edition-wrote)
 
 pub edition-reply-of-spec : {M : Type 1} → statement M
-edition-reply-of-spec = tie.close (tie.spec enum-known-given returns enum-known-given-2 returns-2)
+edition-reply-of-spec = tie.close (tie.spec enum-known-given enum-known-given-2 returns returns-2)
