@@ -13,20 +13,29 @@ fn size_of(given: Rewritten) -> usize {
     }
 }
 
+// Converts a sheet into the first `room` bytes of a buffer, all of them where it has fewer; prints the line, and gives back how many bytes
+// were written.
+fn rewritten(sheet: &[u8], buffer: &mut [u8], room: usize) -> usize {
+    if buffer.len() < room {
+        return size_of(other_edition::other_edition(sheet, buffer));
+    }
+    let start = 0;
+    size_of(other_edition::other_edition(sheet, &mut buffer[start..room]))
+}
+
 // Converts a sheet into an output of `room` bytes and back into one of 50,000, and prints what is known of a refusal and a sum over each
 // buffer, whose bytes past the output and the result were 7. Then the listings of the search with both sheets, where there is a book.
-fn converted(sheet: &[u8], book: &[u8], asked: usize) {
-    let room = asked % 50001;
+fn converted(sheet: &[u8], book: &[u8], room: usize) {
     let mut output = [7u8; 50000];
     let mut back = [7u8; 50000];
-    let size = size_of(other_edition::other_edition(sheet, &mut output[..room]));
+    let size = rewritten(sheet, &mut output, room);
     file_io::print(edition_text::edition_detail(sheet));
     test_printing::line(b"sum", test_buffers::checksum(&output));
     if size == 0 {
         return;
     }
     let other = between(&output, 0, size);
-    size_of(other_edition::other_edition(other, &mut back));
+    rewritten(other, &mut back, 50000);
     test_printing::line(b"sum", test_buffers::checksum(&back));
     if book.len() == 0 {
         return;
