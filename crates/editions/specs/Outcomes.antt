@@ -10,8 +10,8 @@ use Rattle.method.specs.Problem.{problem}
 use Rattle.method.specs.Answers.{outcome, search-refusal, slots-after, run-answer, run-iterate}
 use Rattle.card_format.specs.Format.{card-shares, card-answer, run-card}
 use Rattle.card_format.specs.Checks.{write-refusal, check-refusal}
-use Rattle.card.specs.declared.Written.{Written}
-use Rattle.card.specs.Filing.{filing}
+use Rattle.card_format.specs.declared.Written.{Written}
+use Rattle.card_format.specs.Filing.{filing}
 use Rattle.better_card_promise.specs.Choices.{better-refusal, better-part, choice}
 
 -- of the search, with a lent share list: what is given back, and the list afterwards

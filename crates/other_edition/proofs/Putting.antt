@@ -18,8 +18,8 @@ use Rattle.files.proofs.Accepted.{Sheet-passes, sheet-passed}
 use Rattle.files.proofs.Fields.{sheet-letters-at}
 use Rattle.factors.specs.Factors.{all-ones}
 use Rattle.method.specs.Answers.{slots-after}
-use Rattle.card_output.specs.Output.{placed}
-use Rattle.card_output.proofs.Placing.{placed-next, placed-length}
+use Rattle.buffers.specs.Placed.{placed}
+use Rattle.buffers.proofs.Placing.{placed-next, placed-length}
 use Rattle.sheet_output.specs.Output.{values-bytes, sheet-trailer, sheet-bytes, factored-body, factored-bytes, edition-bytes}
 use Rattle.sheet_output.proofs.Back.{sheet-trailer-length}
 use Rattle.sheet_output.proofs.Values.{length-values-bytes}

@@ -7,12 +7,12 @@ ghost use Prim.Native.Nat.{_+_, _*_, _≤_};
 ghost use lib.ListN.{length};
 ghost use Rattle.files.specs.Limits.{file-limit};
 ghost use Rattle.method.specs.Answers.{slots-after};
-ghost use Rattle.card_output.specs.Output.{placed};
+ghost use Rattle.buffers.specs.Placed.{placed};
 ghost use Rattle.editions.specs.Rewriting.{other-number, other-edition, edition-refusal, rewriting};
 ghost use Rattle.editions.specs.Promise.{Edition-right};
 ghost use Rattle.other_edition.specs.Ending.{ending, Convertible};
 use editions::Rewritten;
-use sheet_output::put_bytes;
+use buffers::put_bytes;
 
 // The most bytes a file may have.
 const MOST_BYTES: usize = 40000;
