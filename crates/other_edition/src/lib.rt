@@ -11,8 +11,8 @@ ghost use Rattle.buffers.specs.Placed.{placed};
 ghost use Rattle.editions.specs.Rewriting.{other-number, other-edition, edition-refusal, rewriting};
 ghost use Rattle.editions.specs.Promise.{Edition-right};
 ghost use Rattle.other_edition.specs.Ending.{ending, Convertible};
-use editions::Rewritten;
 use buffers::put_bytes;
+use editions::Rewritten;
 
 // The most bytes a file may have.
 const MOST_BYTES: usize = 40000;
