@@ -5,12 +5,10 @@ ghost use Prim.Native.Nat.{_+_, _*_, _<_, max};
 ghost use lib.ListN.{drop};
 ghost use Rattle.files.specs.Book.{boats, columns, rows};
 ghost use Rattle.files.specs.Sheet.{files-refusal};
-ghost use Rattle.files.specs.Limits.{step-limit};
 ghost use Rattle.frank_wolfe.specs.Vectors.{subtract, weighted-norm, ones};
 ghost use Rattle.method.specs.Plain.{plain-problem};
 ghost use Rattle.method.specs.Iterates.{row, farthest, diameter};
 ghost use Rattle.iteration.specs.States.{file-layout, Holds};
-ghost use Rattle.run_loop.specs.Runs.{Shares-at, Scores-at};
 use iteration::Layout;
 use iteration::State;
 use method::Answer;
@@ -84,38 +82,6 @@ fn diameter(book: &[u8], sheet: &[u8], layout: Layout) -> u64
     most
 }
 
-// One step of the method, with the shares and the scores of the boats before it and after it in the first slots.
-fn step(
-    state: State,
-    book: &[u8],
-    sheet: &[u8],
-    layout: Layout,
-    shares: &mut [u16],
-    scores: &mut [i64],
-) -> State
-    requires { ⌜ files-refusal (now book) (now sheet) ≡ 0 ⌝ }
-    requires { ⌜ layout ≡ file-layout (now book) (now sheet) ⌝ }
-    requires { ⌜ Holds (now book) (now sheet) (state .steps) state ⌝ }
-    requires { ⌜ state .steps < step-limit ⌝ }
-    requires { ⌜ Shares-at (now book) (now sheet) (state .steps) (now shares) ⌝ }
-    requires { ⌜ Scores-at (now book) (now sheet) (state .steps) (now scores) ⌝ }
-    ensures { λ r. ⌜ Holds (now (book .entry)) (now (sheet .entry)) (state .steps + 1) r ⌝ }
-    ensures { λ r. ⌜ Shares-at (now (book .entry)) (now (sheet .entry)) (state .steps + 1) (now (shares .exit)) ⌝ }
-    ensures { λ r. ⌜ Scores-at (now (book .entry)) (now (sheet .entry)) (state .steps + 1) (now (scores .exit)) ⌝ }
-{
-    let best = state.best;
-    let k = state.steps + 1;
-    let boats = layout.boats;
-    let mut products = [0i32; 256];
-    let target = iteration::products_of(best, book, sheet, layout, &mut products);
-    let score = scores[best];
-    let own = products[best];
-    run_loop::add_shares(shares, best, k);
-    let least = scoring::rescored(scores, k, &products, boats);
-    let pick = scoring::picked(least, scores, shares, boats);
-    state.next(score, own, target, pick)
-}
-
 // What was found of a book: the first step where the ratio is least, with its W, G and ratio in thousandths, and whether some step
 // and every step keeps to the bound.
 struct Found {
@@ -178,6 +144,9 @@ fn follow(start: State, book: &[u8], sheet: &[u8], layout: Layout, diameter: u64
     let steps = files::steps(sheet);
     let mut shares = [0u16; 256];
     let mut scores = [0i64; 256];
+    let mut tags = [0u8; 257];
+    let mut targets = [0i32; 64];
+    let mut memory = [0i32; 16384];
     let mut state = start;
     let mut found = Found {
         step: 0,
@@ -188,7 +157,17 @@ fn follow(start: State, book: &[u8], sheet: &[u8], layout: Layout, diameter: u64
         every: true,
     };
     while state.steps < steps {
-        state = step(state, book, sheet, layout, &mut shares, &mut scores);
+        state = run_loop::step(
+            state,
+            book,
+            sheet,
+            layout,
+            &mut shares,
+            &mut scores,
+            &mut tags,
+            &mut targets,
+            &mut memory,
+        );
         found = with_step(found, state.answer(sheet), steps, diameter);
     }
     found

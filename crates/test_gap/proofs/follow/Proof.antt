@@ -4,21 +4,24 @@ use Prim.Native.Nat.{_-_}
 use native.Mathlib.Omega.{arith}
 use borrow.Author.Needs.{needs}
 use Rattle.iteration.proofs.States.{sheet-fits}
+use Rattle.run_loop.specs.Runs.{memory-of}
 use Rattle.test_gap.proofs.Following.{Followed, follow-start, few, follow-answerable, follow-more}
 use Rattle.test_gap.proofs.follow.Statement.{statement}
 use Rattle.test_gap.proofs.follow.Tie as tie
 use Rattle.test_gap.proofs.follow.Reads as reads
 use Rattle.test_gap.proofs.follow.Lts as lts
 use Rattle.files.proofs.steps.Reads as steps-reads
-use Rattle.test_gap.proofs.step.Reads as step-reads
+use Rattle.run_loop.proofs.step.Reads as step-reads
 use Rattle.test_gap.proofs.with_step.Reads as with-step-reads
 use Rattle.iteration.proofs.State.answer.Reads as answer-reads
 
 abbrev Inv-loop : tie.InvT-loop
-Inv-loop book sheet layout diameter steps shares₀ scores₀ state₀ found₀ shares scores state found = Followed book sheet state shares scores
+Inv-loop book sheet layout diameter steps shares₀ scores₀ tags₀ targets₀ memory₀ state₀ found₀ shares scores tags targets memory state found =
+    Followed book sheet state shares scores (memory-of tags targets memory)
 
 abbrev μ-loop : tie.MeasureT-loop
-μ-loop book sheet layout diameter steps shares₀ scores₀ state₀ found₀ shares scores state found = steps - state .steps
+μ-loop book sheet layout diameter steps shares₀ scores₀ tags₀ targets₀ memory₀ state₀ found₀ shares scores tags targets memory state found =
+    steps - state .steps
 
 steps-requires : tie.Need-steps-requires Inv-loop μ-loop
 steps-requires c κs = sheet-fits _ _ (c .before .before .pre .0) .at-least
@@ -32,33 +35,40 @@ slice-aggregate-step c = sym (c .before .before .before .loop .inv .shares-long)
 slice-aggregate-step-2 : tie.Need-slice-aggregate-step-2 Inv-loop μ-loop
 slice-aggregate-step-2 c = sym (c .before .before .before .before .loop .inv .long)
 
+slice-aggregate-step-3 : tie.Need-slice-aggregate-step-3 Inv-loop μ-loop
+slice-aggregate-step-3 c = sym (c .before .before .before .before .before .loop .inv .remembers .tags-long)
+
+slice-aggregate-step-4 : tie.Need-slice-aggregate-step-4 Inv-loop μ-loop
+slice-aggregate-step-4 c = sym (c .before .before .before .before .before .before .loop .inv .remembers .targets-long)
+
+slice-aggregate-step-5 : tie.Need-slice-aggregate-step-5 Inv-loop μ-loop
+slice-aggregate-step-5 c = sym (c .before .before .before .before .before .before .before .loop .inv .memory-long)
+
 step-requires : tie.Need-step-requires Inv-loop μ-loop
 step-requires c κs =
-    let at-loop = c .before .before .before .before in
+    let at-loop = c .before .before .before .before .before .before .before in
     let start = at-loop .before .before .before .before in
     let ok = start .pre .0 in
     let f = at-loop .loop .inv in
-    (ok, (start .pre .1 .0, (f .held, (few _ _ ok f (omega (arith, c .before .before .if1 .taken, at-loop .before .steps .ensures)), (f .shared, f .scored)))))
+    (ok, (start .pre .1 .0, (f .held, (few _ _ ok f (omega (arith, c .before .before .before .before .before .if1 .taken, at-loop .before .steps .ensures)), (f .shared, (f .scored, f .remembers))))))
 
 answer-requires : tie.Need-answer-requires Inv-loop μ-loop
 answer-requires c κs =
-    let at-loop = c .before .before .before .before .before .before .before in
-    let start = at-loop .before .before .before .before in
-    follow-answerable _ _ (start .pre .0) (at-loop .loop .inv) (omega (arith, c .before .before .before .before .before .if1 .taken, at-loop .before .steps .ensures)) (c .before .before .step .ensures .0)
+    let at-step = c .before .before .before .before .before in
+    let at-loop = at-step .before .before .before .before .before .before .before .before in
+    follow-answerable _ _ (at-loop .before .before .before .before .pre .0) (at-loop .loop .inv) (omega (arith, at-step .before .before .before .before .before .before .if1 .taken, at-loop .before .steps .ensures)) (at-step .step .ensures .0)
 
 loop-less : tie.Need-loop-less Inv-loop μ-loop
 loop-less c =
-    let at-step = c .before .before .before .before in
-    omega (arith, at-step .step .ensures .0 .steps-are, at-step .before .before .before .if1 .taken)
+    let at-step = c .before .before .before .before .before .before .before in
+    omega (arith, at-step .step .ensures .0 .steps-are, at-step .before .before .before .before .before .before .if1 .taken)
 
 loop-again : tie.Need-loop-again Inv-loop μ-loop
 loop-again c =
-    let at-step = c .before .before .before .before in
-    let at-loop = at-step .before .before .before .before .before in
-    let start = at-loop .before .before .before .before in
-    follow-more _ _ (start .pre .0) (at-loop .loop .inv) (omega (arith, at-step .before .before .before .if1 .taken, at-loop .before .steps .ensures)) (at-step .step .ensures .0)
-    (at-step .step .ensures .1 .0) (search (needs, at-step .step .ok, at-loop .loop .inv .shares-long))
-    (at-step .step .ensures .1 .1) (search (needs, at-step .step .ok, at-loop .loop .inv .long))
+    let at-step = c .before .before .before .before .before .before .before in
+    let at-loop = at-step .before .before .before .before .before .before .before .before in
+    let h = at-step .step .ensures in
+    follow-more _ _ (at-loop .before .before .before .before .pre .0) (at-loop .loop .inv) (omega (arith, at-step .before .before .before .before .before .before .if1 .taken, at-loop .before .steps .ensures)) (h .0) (h .1 .0) (h .1 .1 .0) (h .1 .1 .1)
 
 pub follow-spec : {M : Type 1} → statement M
 follow-spec =
@@ -70,6 +80,9 @@ follow-spec =
     loop-holds
     slice-aggregate-step
     slice-aggregate-step-2
+    slice-aggregate-step-3
+    slice-aggregate-step-4
+    slice-aggregate-step-5
     step-requires
     answer-requires
     (λ c κs. search needs)
