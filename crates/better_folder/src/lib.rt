@@ -23,11 +23,15 @@ pub fn file_better(folder: &[u8]) {
     let m = file_io::read_in(folder, b"sheet.wsh", &mut sheet);
     let k = file_io::read_in(folder, b"first.wcd", &mut first);
     let l = file_io::read_in(folder, b"second.wcd", &mut second);
-    let chosen = better_listing::better_text(&book[..n], &sheet[..m], &first[..k], &second[..l]);
+    let fleet = file_io::first_bytes(&book, n);
+    let asked = file_io::first_bytes(&sheet, m);
+    let one = file_io::first_bytes(&first, k);
+    let other = file_io::first_bytes(&second, l);
+    let chosen = better_listing::better_text(fleet, asked, one, other);
     let choice = chosen.choice;
     let listing = chosen.text;
-    refusal_output::tell_detail(&book[..n], &sheet[..m], listing);
-    let part = better_card::part_of(&first[..k], &second[..l], choice);
+    refusal_output::tell_detail(fleet, asked, listing);
+    let part = better_card::part_of(one, other, choice);
     let path = paths::path_in(folder, b"better.wcd");
     let bytes = path.bytes;
     let name = file_io::first_bytes(&bytes, path.len);
