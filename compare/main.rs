@@ -694,7 +694,7 @@ fn main() {
     println!("picks of a boat that held shares before a lower-numbered one of the same score: {ties}");
     // A comparison that never meets some outcome has lost its meaning. The gate's 5,000 cases of seed 1 meet each; those of another
     // seed need not, so there only a long one is held to it.
-    if count >= 10_000 || (count >= 3_500 && seed == 1) {
+    if count >= 10_000 || (count >= 5_000 && seed == 1) {
         for call in CALLS {
             let refused = refusals(call).into_iter().map(|n| format!("refused {n}"));
             for outcome in refused.chain(answers(call).iter().map(|name| name.to_string())) {
