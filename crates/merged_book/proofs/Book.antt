@@ -18,7 +18,7 @@ use Rattle.book_output.proofs.Back.{book-reads-back}
 use Rattle.merged_book.specs.Merging.{with-rows, merged-rows, merged-book}
 use Rattle.merged_book.proofs.Rows.{place-of, among-at, rows-length, rows-either}
 
-all-rows : (vs : List (List ℤ)) → ((v : List ℤ) → Among vs v → all-in-range v ≡ true) → all-rows-in-range vs ≡ true
+pub all-rows : (vs : List (List ℤ)) → ((v : List ℤ) → Among vs v → all-in-range v ≡ true) → all-rows-in-range vs ≡ true
 unfolding all-rows-in-range
 all-rows [] f = refl
 all-rows (v ∷ vs) f = rw (f v here) (all-rows vs (λ w a. f w (there a)))

@@ -169,8 +169,7 @@ module _ (a b out : List ℕ) where
       let p = passes a b (length out) e in
       let n = length (merged-book a b) in
       let l : length now ≡ length out = ap length f ∙ length-append (merged-book a b) (drop n out) ∙ (omega (arith, length-drop n out, p .fits)) in
-      let w : take n now ≡ merged-book a b = rw f (take-at (merged-book a b) (drop n out) n refl) in
-      (
+      let w : take n now ≡ merged-book a b = rw f (take-at (merged-book a b) (drop n out) n refl) in (
         rw e,
         (
           rw (e, f),

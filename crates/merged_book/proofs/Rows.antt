@@ -7,8 +7,8 @@ use Prim.Native.Nat.{ℕ, zero, suc, _+_, _≤_, _<_}
 use native.Mathlib.Omega.{arith}
 use borrow.Author.Tests.{eqb-true, eq-eqb, ltb-true, ltb-false}
 use lib.Dec.{ltb}
-use lib.ListN.{length, getD, length-append, List·getD-append}
-use lib.Seq.{getD-at}
+use lib.ListN.{length, getD, take, length-append, List·getD-append}
+use lib.Seq.{take-length, take-append-seam, take-take, getD-at}
 use lib.IntN.{ℤ, pos, negsuc}
 use Rattle.frank_wolfe.specs.Vectors.{Among, here, there}
 use Rattle.files.proofs.Refusal.{and-true}
@@ -119,6 +119,12 @@ module _ (vs : List (List ℤ)) (v : List ℤ) where
   pub row-length : length vs ≤ length (with-row vs v)
   row-length = row-cases (λ ws. length vs ≤ length ws) (λ e. omega arith) (λ e. omega (arith, length-append vs (v ∷ [])))
 
+  pub row-length-most : length (with-row vs v) ≤ length vs + 1
+  row-length-most = row-cases (λ ws. length ws ≤ length vs + 1) (λ e. omega arith) (λ e. omega (arith, length-append vs (v ∷ [])))
+
+  row-taken : take (length vs) (with-row vs v) ≡ vs
+  row-taken = row-cases (λ ws. take (length vs) ws ≡ vs) (λ e. take-length vs) (λ e. take-append-seam vs (v ∷ []))
+
   row-kept : (i : ℕ) → i < length vs → getD (with-row vs v) i [] ≡ getD vs i []
   row-kept i h = row-cases (λ ws. getD ws i [] ≡ getD vs i []) (λ e. refl) (λ e. List·getD-append vs (v ∷ []) [] i h)
 
@@ -165,6 +171,12 @@ pub rows-kept : (vs ws : List (List ℤ)) (i : ℕ) → i < length vs → getD (
 unfolding with-rows
 rows-kept vs [] i h = refl
 rows-kept vs (w ∷ ws) i h = rows-kept (with-row vs w) ws i (omega (arith, row-length vs w)) ∙ row-kept vs w i h
+
+pub rows-taken : (vs ws : List (List ℤ)) → take (length vs) (with-rows vs ws) ≡ vs
+unfolding with-rows
+rows-taken vs [] = take-length vs
+rows-taken vs (w ∷ ws) =
+    sym (take-take (length vs) (length (with-row vs w)) (with-rows (with-row vs w) ws) (row-length vs w)) ∙ rw (rows-taken (with-row vs w) ws) (row-taken vs w)
 
 pub rows-before : (vs ws : List (List ℤ)) {v : List ℤ} → Among vs v → Among (with-rows vs ws) v
 unfolding with-rows
