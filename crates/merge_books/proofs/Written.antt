@@ -13,8 +13,8 @@ use Rattle.card_output.proofs.Placing.{placed-next}
 use Rattle.sheet_output.proofs.Writing.{front-inside, front-taken}
 use Rattle.book_output.specs.Output.{rows-bytes, book-trailer, book-bytes}
 use Rattle.book_output.proofs.Rows.{length-rows-bytes}
-use Rattle.merged_book.specs.declared.Merged.the-variants.{Refused, Wrote}
-use Rattle.merged_book.specs.Merging.{merged-rows, merged-book}
+use Rattle.merged_book.specs.declared.Merged.{Merged}
+use Rattle.merged_book.specs.Merging.{merged-rows, merged-book, merge-refusal}
 use Rattle.merged_book.proofs.Book.{merged-fits, merged-of}
 use Rattle.merged_book.proofs.Promise.{Given, by-first, by-second, by-columns, by-boats, by-room, by-none, given-refused, given-written}
 
@@ -23,20 +23,23 @@ unfolding placed
 front-placed out bs = let z : 0 + length bs ≡ length bs = omega arith in rw z
 
 module _ (a b out : List ℕ) where
-  pub first-refused : {n : ℕ} → n ≡ book-refusal a → (n ≡ 0 → ⊥) → Given a b out (Refused n) out
-  first-refused {n} e h = given-refused a b out n h (by-first a b (length out) (λ z. h (e ∙ z)) ∙ sym e)
+  given-by : {r : Merged} {n : ℕ} → r ≡ record { refusal = n; len = 0 } → (n ≡ 0 → ⊥) → merge-refusal a b (length out) ≡ n → Given a b out r out
+  given-by {n = n} er h e = rw er (given-refused a b out n h e)
+
+  pub first-refused : {r : Merged} {n : ℕ} → r ≡ record { refusal = n; len = 0 } → n ≡ book-refusal a → (n ≡ 0 → ⊥) → Given a b out r out
+  first-refused er e h = given-by er h (by-first a b (length out) (λ z. h (e ∙ z)) ∙ sym e)
 
   module _ (first : book-refusal a ≡ 0) where
-    pub second-refused : {n : ℕ} → n ≡ book-refusal b → (n ≡ 0 → ⊥) → Given a b out (Refused n) out
-    second-refused {n} e h = given-refused a b out n h (by-second a b (length out) first (λ z. h (e ∙ z)) ∙ sym e)
+    pub second-refused : {r : Merged} {n : ℕ} → r ≡ record { refusal = n; len = 0 } → n ≡ book-refusal b → (n ≡ 0 → ⊥) → Given a b out r out
+    second-refused er e h = given-by er h (by-second a b (length out) first (λ z. h (e ∙ z)) ∙ sym e)
 
     module _ (second : book-refusal b ≡ 0) where
-      pub columns-refused : (columns a ≡ columns b → ⊥) → Given a b out (Refused 55) out
-      columns-refused h = given-refused a b out 55 (λ z. omega arith) (by-columns a b (length out) first second h)
+      pub columns-refused : {r : Merged} → r ≡ record { refusal = 55; len = 0 } → (columns a ≡ columns b → ⊥) → Given a b out r out
+      columns-refused er h = given-by er (λ z. omega arith) (by-columns a b (length out) first second h)
 
       module _ (same : columns a ≡ columns b) {n c : ℕ} (en : n ≡ length (take 257 (merged-rows a b))) (ec : c ≡ columns a) where
-        pub boats-refused : 256 < n → Given a b out (Refused 56) out
-        boats-refused h = given-refused a b out 56 (λ z. omega arith) (by-boats a b (length out) first second same (omega (arith, en, length-take 257 (merged-rows a b))))
+        pub boats-refused : {r : Merged} → r ≡ record { refusal = 56; len = 0 } → 256 < n → Given a b out r out
+        boats-refused er h = given-by er (λ z. omega arith) (by-boats a b (length out) first second same (omega (arith, en, length-take 257 (merged-rows a b))))
 
         module _ (h : n ≤ 256) where
           few : length (merged-rows a b) ≤ 256
@@ -52,8 +55,8 @@ module _ (a b out : List ℕ) where
           size : length (merged-book a b) ≡ 2 * (n * c) + 12
           size = merged-of a b first second same few .size ∙ rw (count, ec)
 
-          pub room-refused : length out < 2 * (n * c) + 12 → Given a b out (Refused 57) out
-          room-refused l = given-refused a b out 57 (λ z. omega arith) (by-room a b (length out) first second same few (omega (arith, size)))
+          pub room-refused : {r : Merged} → r ≡ record { refusal = 57; len = 0 } → length out < 2 * (n * c) + 12 → Given a b out r out
+          room-refused er l = given-by er (λ z. omega arith) (by-room a b (length out) first second same few (omega (arith, size)))
 
           rows-long : length (rows-bytes (merged-rows a b)) ≡ 2 * (n * c)
           rows-long = length-rows-bytes (columns a) (merged-rows a b) (merged-fits a b first second same few .row-length) ∙ rw (count, ec)
@@ -79,7 +82,7 @@ module _ (a b out : List ℕ) where
             part-is = front-taken (replicate 32896 0) (rows-bytes (merged-rows a b)) rows-here (sym rows-long) (omega (arith, rows-long, cells, length-replicate {A = ℕ} 32896 0))
 
             pub book-written : 2 * (n * c) + 12 ≤ length out → {o₁ o₂ : List ℕ} → o₁ ≡ placed out 0 (take (2 * (n * c)) rows) →
-                o₂ ≡ placed o₁ (2 * (n * c)) (book-trailer (2 * (n * c)) n c) → Given a b out (Wrote (2 * (n * c) + 12)) o₂
+                o₂ ≡ placed o₁ (2 * (n * c)) (book-trailer (2 * (n * c)) n c) → Given a b out (record { refusal = 0; len = 2 * (n * c) + 12 }) o₂
             book-written l e₁ e₂ =
                 let e = placed-next out 0 (rows-bytes (merged-rows a b)) (book-trailer (2 * (n * c)) n c) (2 * (n * c)) (rw part-is at e₁) e₂ (omega (arith, rows-long)) (omega (arith, rows-long)) in
                 rw (← size) (given-written a b out (by-none a b (length out) first second same few (omega (arith, size))) (rw book-here at e ∙ front-placed out (merged-book a b)))

@@ -82,6 +82,13 @@ fn put_rows(rows: &mut [u8], first: &[u8], second: &[u8]) -> usize
     count
 }
 
+// A refusal by `n`: no byte was written.
+fn refused(n: u32) -> Merged
+    ensures { λ r. ⌜ r ≡ record { refusal = n; len = 0 } ⌝ }
+{
+    Merged { refusal: n, len: 0 }
+}
+
 // ENTRY. One fleet book from two, written to the first bytes of `output` without front text: the first book's rows, then each row of the
 // second that equals no row before it. Refuses the first book, then the second (1 to 6), then columns that differ (55), more than 256
 // boats (56) and a buffer shorter than the merged book (57), and leaves the buffer as it was; else gives the merged book's length. Later
@@ -93,26 +100,29 @@ pub fn merge_books(first: &[u8], second: &[u8], output: &mut [u8]) -> Merged
 {
     let of_first = validation::book_refusal(first);
     if of_first != 0 {
-        return Merged::Refused(of_first);
+        return refused(of_first);
     }
     let of_second = validation::book_refusal(second);
     if of_second != 0 {
-        return Merged::Refused(of_second);
+        return refused(of_second);
     }
     let columns = files::columns(first);
     if columns != files::columns(second) {
-        return Merged::Refused(55);
+        return refused(55);
     }
     let mut rows = [0u8; 32896];
     let boats = put_rows(&mut rows, first, second);
     if MOST_BOATS < boats {
-        return Merged::Refused(56);
+        return refused(56);
     }
     let back = 2 * (boats * columns);
     if output.len() < back + 12 {
-        return Merged::Refused(57);
+        return refused(57);
     }
     put_bytes(output, 0, &rows[..back]);
     book_output::put_book_trailer(output, back, boats, columns);
-    Merged::Wrote(back + 12)
+    Merged {
+        refusal: 0,
+        len: back + 12,
+    }
 }

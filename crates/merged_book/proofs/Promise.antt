@@ -16,8 +16,7 @@ use Rattle.files.specs.Book.{boats, columns, rows, book-refusal}
 use Rattle.files.proofs.Accepted.{book-accepted}
 use Rattle.method.specs.Answers.{slots-after}
 use Rattle.merged_book.specs.declared.Merged.{Merged}
-use Rattle.merged_book.specs.declared.Merged.the-variants.{Refused, Wrote}
-use Rattle.merged_book.specs.Merging.{with-rows, merged-rows, merged-book, merge-refusal, merging, merge-number}
+use Rattle.merged_book.specs.Merging.{with-rows, merged-rows, merged-book, merge-refusal, merging}
 use Rattle.merged_book.specs.Mixtures.{both-rows, Mixtures-of}
 use Rattle.merged_book.specs.Promise.{Merged-right, Merge-right}
 use Rattle.merged_book.proofs.Rows.{among-left, among-right, among-append, rows-kept, rows-before, rows-there, rows-either, rows-distinct, distinct-start}
@@ -156,15 +155,14 @@ Given a b out r now =
     × ((now ≡ slots-after (merge-refusal a b (length out)) (merged-book a b) out) × Merge-right a b r now)
 
 module _ (a b out : List ℕ) where
-  pub given-refused : (n : ℕ) → (n ≡ 0 → ⊥) → merge-refusal a b (length out) ≡ n → Given a b out (Refused n) out
-  unfolding merging slots-after merge-number
+  pub given-refused : (n : ℕ) → (n ≡ 0 → ⊥) → merge-refusal a b (length out) ≡ n → Given a b out (record { refusal = n; len = 0 }) out
+  unfolding merging slots-after
   given-refused zero h e = absurd (h refl)
-  given-refused (suc n) h e =
-      (rw e, (rw e, record { number = sym e; refused = λ k q. let s : suc n ≡ k = cc in omega arith; wrote = λ size q. absurd (let z : _≡_ {A = ℕ} 0 1 = cc in omega arith) }))
+  given-refused (suc n) h e = (rw e, (rw e, record { number = sym e; refused = λ k. refl; inside = omega arith; wrote = λ k. absurd (omega arith) }))
 
   pub given-written : {now : List ℕ} → merge-refusal a b (length out) ≡ 0 → now ≡ merged-book a b ++ drop (length (merged-book a b)) out →
-      Given a b out (Wrote (length (merged-book a b))) now
-  unfolding merging slots-after merge-number
+      Given a b out (record { refusal = 0; len = length (merged-book a b) }) now
+  unfolding merging slots-after
   given-written {now} e f =
       let p = passes a b (length out) e in
       let n = length (merged-book a b) in
@@ -175,10 +173,9 @@ module _ (a b out : List ℕ) where
           rw (e, f),
           record {
             number = sym (rw (← l) at e);
-            refused = λ k q. absurd (let z : _≡_ {A = ℕ} 0 1 = cc in omega arith);
-            wrote = λ size q.
-                let s : n ≡ size = cc in
-                (omega (arith, p .fits), rw (← s, w) (merged-right a b (length out) p));
+            refused = λ k. absurd (omega arith);
+            inside = omega (arith, p .fits);
+            wrote = λ k. rw w (merged-right a b (length out) p);
           },
         ),
       )

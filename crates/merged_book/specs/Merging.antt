@@ -8,7 +8,6 @@ use lib.IntN.{ℤ, pos, negsuc}
 use Rattle.files.specs.Book.{columns, rows, book-refusal}
 use Rattle.book_output.specs.Output.{book-bytes}
 use Rattle.merged_book.specs.declared.Merged.{Merged}
-use Rattle.merged_book.specs.declared.Merged.the-variants.{Refused, Wrote}
 
 -- ---- The rows
 
@@ -62,12 +61,7 @@ merge-refusal a b room =
     (cond (ltb room (length (merged-book a b))) 57
     0))))
 
--- a refusal where there is a number, else how many bytes the merged book has
+-- what is given back: a number that refuses and no byte, or 0 and how many bytes the merged book has
 unfoldable pub merging : (refusal size : ℕ) → Merged
-merging zero size = Wrote size
-merging (suc n) size = Refused (suc n)
-
--- the number that refuses, 0 where a book was written
-unfoldable pub merge-number : Merged → ℕ
-merge-number (Refused n) = n
-merge-number (Wrote size) = 0
+merging zero size = record { refusal = 0; len = size }
+merging (suc n) size = record { refusal = suc n; len = 0 }

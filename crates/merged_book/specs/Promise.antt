@@ -10,8 +10,7 @@ use Rattle.files.specs.Book.{boats, columns, rows, book-refusal}
 use Rattle.method.specs.Problem.{Problem}
 use Rattle.method.specs.Fractions.{Fraction}
 use Rattle.merged_book.specs.declared.Merged.{Merged}
-use Rattle.merged_book.specs.declared.Merged.the-variants.{Refused, Wrote}
-use Rattle.merged_book.specs.Merging.{merged-rows, merge-refusal, merge-number}
+use Rattle.merged_book.specs.Merging.{merged-rows, merge-refusal}
 use Rattle.merged_book.specs.Mixtures.{both-rows, Mixtures-of, with-vertices, Reaches, Reachable}
 
 -- of the bytes that were written
@@ -43,8 +42,9 @@ pub record Merged-right (a b out : List ℕ) : Type 0 where
 -- of what is given back and the buffer that is left
 pub record Merge-right (a b : List ℕ) (r : Merged) (output : List ℕ) : Type 0 where
   -- its number is that of the first test that fails, 0 where none does
-  pub number : merge-number r ≡ merge-refusal a b (length output)
-  -- a refusal is never the number 0
-  pub refused : (n : ℕ) → r ≡ Refused n → 1 ≤ n
+  pub number : r .refusal ≡ merge-refusal a b (length output)
+  -- a refusal has written no byte
+  pub refused : 1 ≤ r .refusal → r .len ≡ 0
   -- a book that was written is in the first bytes, as many as are given back
-  pub wrote : (size : ℕ) → r ≡ Wrote size → (size ≤ length output) × Merged-right a b (take size output)
+  pub inside : r .len ≤ length output
+  pub wrote : r .refusal ≡ 0 → Merged-right a b (take (r .len) output)

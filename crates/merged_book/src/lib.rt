@@ -1,8 +1,9 @@
 // One fleet book from two: what the call gives back. The rows, the bytes and the refusals are defined in specs/Merging.antt, what is
 // promised in specs/Promise.antt.
 
-// The number that refuses the books or the buffer, or how many bytes were written.
-pub enum Merged {
-    Refused(u32),
-    Wrote(usize),
+// The number that refuses the books or the buffer, 0 where a book was written, and how many bytes it has, 0 on a refusal.
+#[repr(C)]
+pub struct Merged {
+    pub refusal: u32,
+    pub len: usize,
 }

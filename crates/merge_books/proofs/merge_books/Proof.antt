@@ -12,23 +12,29 @@ use Rattle.merge_books.proofs.merge_books.Tie as tie
 book-refusal-requires : tie.Need-book-refusal-requires
 book-refusal-requires c κs = search needs
 
+refused-requires : tie.Need-refused-requires
+refused-requires c κs = search needs
+
 returns : tie.Need-returns
 returns c =
-    let at-book-refusal = c .before in
+    let at-book-refusal = c .before .before in
     let start = at-book-refusal .before .before .before .before in
-    first-refused (start .args .first .now) (start .args .second .now) (start .args .output .now) (at-book-refusal .book-refusal .ensures) (c .if1 .taken)
+    first-refused (start .args .first .now) (start .args .second .now) (start .args .output .now) (c .refused .ensures) (at-book-refusal .book-refusal .ensures) (c .before .if1 .taken)
 
 book-refusal-requires-2 : tie.Need-book-refusal-requires-2
 book-refusal-requires-2 c κs = search needs
 
+refused-requires-2 : tie.Need-refused-requires-2
+refused-requires-2 c κs = search needs
+
 returns-2 : tie.Need-returns-2
 returns-2 c =
-    let at-book-refusal2 = c .before in
+    let at-book-refusal2 = c .before .before in
     let at-if1 = at-book-refusal2 .before in
     let at-book-refusal = at-if1 .before in
     let start = at-book-refusal .before .before .before .before in
     let first = sym (at-book-refusal .book-refusal .ensures) ∙ at-if1 .if1 .left in
-    second-refused (start .args .first .now) (start .args .second .now) (start .args .output .now) first (at-book-refusal2 .book-refusal2 .ensures) (c .if2 .taken)
+    second-refused (start .args .first .now) (start .args .second .now) (start .args .output .now) first (c .refused2 .ensures) (at-book-refusal2 .book-refusal2 .ensures) (c .before .if2 .taken)
 
 columns-requires : tie.Need-columns-requires
 columns-requires c κs =
@@ -44,9 +50,12 @@ columns-requires-2 c κs =
     let second = sym (at-book-refusal2 .book-refusal2 .ensures) ∙ at-if2 .if2 .left in
     book-accepted _ second .at-least
 
+refused-requires-3 : tie.Need-refused-requires-3
+refused-requires-3 c κs = search needs
+
 returns-3 : tie.Need-returns-3
 returns-3 c =
-    let at-columns2 = c .before in
+    let at-columns2 = c .before .before in
     let at-columns = at-columns2 .before in
     let at-if2 = at-columns .before in
     let at-book-refusal2 = at-if2 .before in
@@ -55,7 +64,7 @@ returns-3 c =
     let start = at-book-refusal .before .before .before .before in
     let first = sym (at-book-refusal .book-refusal .ensures) ∙ at-if1 .if1 .left in
     let second = sym (at-book-refusal2 .book-refusal2 .ensures) ∙ at-if2 .if2 .left in
-    columns-refused (start .args .first .now) (start .args .second .now) (start .args .output .now) first second (λ e. c .if3 .taken (at-columns .columns .ensures .0 ∙ e ∙ sym (at-columns2 .columns2 .ensures .0)))
+    columns-refused (start .args .first .now) (start .args .second .now) (start .args .output .now) first second (c .refused3 .ensures) (λ e. c .before .if3 .taken (at-columns .columns .ensures .0 ∙ e ∙ sym (at-columns2 .columns2 .ensures .0)))
 
 slice-aggregate-put-rows : tie.Need-slice-aggregate-put-rows
 slice-aggregate-put-rows c = search needs
@@ -75,9 +84,12 @@ put-rows-requires c κs =
     let same = sym (at-columns .columns .ensures .0) ∙ at-if3 .if3 .left ∙ at-columns2 .columns2 .ensures .0 in
     ((first, second), (same, omega arith))
 
+refused-requires-4 : tie.Need-refused-requires-4
+refused-requires-4 c κs = search needs
+
 returns-4 : tie.Need-returns-4
 returns-4 c =
-    let at-put-rows = c .before .before in
+    let at-put-rows = c .before .before .before in
     let at-if3 = at-put-rows .before .before in
     let at-columns2 = at-if3 .before in
     let at-columns = at-columns2 .before in
@@ -89,7 +101,7 @@ returns-4 c =
     let first = sym (at-book-refusal .book-refusal .ensures) ∙ at-if1 .if1 .left in
     let second = sym (at-book-refusal2 .book-refusal2 .ensures) ∙ at-if2 .if2 .left in
     let same = sym (at-columns .columns .ensures .0) ∙ at-if3 .if3 .left ∙ at-columns2 .columns2 .ensures .0 in
-    boats-refused (start .args .first .now) (start .args .second .now) (start .args .output .now) first second same (at-put-rows .put-rows .ensures .0) (at-columns .columns .ensures .0) (c .if4 .taken)
+    boats-refused (start .args .first .now) (start .args .second .now) (start .args .output .now) first second same (at-put-rows .put-rows .ensures .0) (at-columns .columns .ensures .0) (c .refused4 .ensures) (c .before .if4 .taken)
 
 mul-back : tie.Need-mul-back
 mul-back c =
@@ -118,9 +130,12 @@ add-if5 c =
     let first = sym (at-book-refusal .book-refusal .ensures) ∙ at-if1 .if1 .left in
     omega (arith, cells-most (c .if4 .left) (columns-most _ first (at-columns .columns .ensures .0)))
 
+refused-requires-5 : tie.Need-refused-requires-5
+refused-requires-5 c κs = search needs
+
 returns-5 : tie.Need-returns-5
 returns-5 c =
-    let at-if4 = c .before in
+    let at-if4 = c .before .before in
     let at-put-rows = at-if4 .before .before in
     let at-if3 = at-put-rows .before .before in
     let at-columns2 = at-if3 .before in
@@ -133,7 +148,7 @@ returns-5 c =
     let first = sym (at-book-refusal .book-refusal .ensures) ∙ at-if1 .if1 .left in
     let second = sym (at-book-refusal2 .book-refusal2 .ensures) ∙ at-if2 .if2 .left in
     let same = sym (at-columns .columns .ensures .0) ∙ at-if3 .if3 .left ∙ at-columns2 .columns2 .ensures .0 in
-    room-refused (start .args .first .now) (start .args .second .now) (start .args .output .now) first second same (at-put-rows .put-rows .ensures .0) (at-columns .columns .ensures .0) (at-if4 .if4 .left) (c .if5 .taken)
+    room-refused (start .args .first .now) (start .args .second .now) (start .args .output .now) first second same (at-put-rows .put-rows .ensures .0) (at-columns .columns .ensures .0) (at-if4 .if4 .left) (c .refused5 .ensures) (c .before .if5 .taken)
 
 array-share-prefix-rows : tie.Need-array-share-prefix-rows
 array-share-prefix-rows c =
@@ -221,18 +236,23 @@ merge-books-spec =
     tie.close
     (tie.spec
     book-refusal-requires
+    refused-requires
     returns
     book-refusal-requires-2
+    refused-requires-2
     returns-2
     columns-requires
     columns-requires-2
+    refused-requires-3
     returns-3
     slice-aggregate-put-rows
     put-rows-requires
+    refused-requires-4
     returns-4
     mul-back
     mul-back-2
     add-if5
+    refused-requires-5
     returns-5
     array-share-prefix-rows
     slice-aggregate-put-bytes
