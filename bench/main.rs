@@ -39,6 +39,14 @@ struct CardReply {
     bytes: usize,
 }
 
+/// dofitrano_merged of include/dofitrano.h.
+#[repr(C)]
+#[derive(Clone, Copy, PartialEq, Debug)]
+struct Merged {
+    refusal: u32,
+    length: usize,
+}
+
 /// float_answer of float.c.
 #[repr(C)]
 #[derive(Clone, Copy)]
@@ -63,6 +71,7 @@ extern "C" {
         qn: usize,
     ) -> Reply;
     fn dofitrano_listing(b: *const u8, bn: usize, s: *const u8, sn: usize, t: *mut u8, tn: usize) -> usize;
+    fn dofitrano_merge_books(a: *const u8, an: usize, b: *const u8, bn: usize, c: *mut u8, cn: usize) -> Merged;
     fn plain_c_search(b: *const u8, bn: usize, s: *const u8, sn: usize, q: *mut u16, qn: usize) -> Reply;
     fn float_search(b: *const u8, bn: usize, s: *const u8, sn: usize, weights: *mut f64) -> FloatAnswer;
     fn stack_of(call: extern "C" fn(*mut c_void), argument: *mut c_void) -> usize;
@@ -84,6 +93,10 @@ fn library_check_card(book: &[u8], sheet: &[u8], card: &[u8], shares: &mut [u16]
 
 fn library_listing(book: &[u8], sheet: &[u8], text: &mut [u8]) -> usize {
     unsafe { dofitrano_listing(book.as_ptr(), book.len(), sheet.as_ptr(), sheet.len(), text.as_mut_ptr(), text.len()) }
+}
+
+fn library_merge_books(first: &[u8], second: &[u8], output: &mut [u8]) -> Merged {
+    unsafe { dofitrano_merge_books(first.as_ptr(), first.len(), second.as_ptr(), second.len(), output.as_mut_ptr(), output.len()) }
 }
 
 fn c_search(book: &[u8], sheet: &[u8], shares: &mut [u16]) -> Reply {
@@ -439,6 +452,37 @@ fn print_factors(repeats: u32) {
     }
 }
 
+/// One book from two at full size, 256 and 256 boats of 64 columns: rows that differ early, rows that agree in all but their last column, and
+/// books that are refused.
+fn print_merges(repeats: u32) {
+    println!("| books | given back | microseconds |");
+    println!("|---|---|---|");
+    let mut rng = Random(5);
+    let drawn = random_rows(&mut rng, 256, 64);
+    let late: Vec<Vec<i16>> = (0..256).map(|i| [vec![7; 63], vec![i]].concat()).collect();
+    let new = random_rows(&mut rng, 128, 64);
+    let half = [drawn[..128].to_vec(), new.clone()].concat();
+    let late_half = [late[128..].to_vec(), late[128..].to_vec()].concat();
+    let cases = [
+        ("256 drawn rows, and the same", &drawn, &drawn),
+        ("128 drawn rows, and 128 of them with 128 new", &drawn[..128].to_vec(), &half),
+        ("256 rows alike but for their last column, and the same in reverse", &late, &late.iter().rev().cloned().collect()),
+        ("128 such rows, and 128 new ones twice", &late[..128].to_vec(), &late_half),
+        ("256 drawn rows, and 128 new: refused", &drawn, &new),
+    ];
+    for (name, first, second) in cases {
+        let (first, second) = (book_of(first), book_of(second));
+        let mut output = vec![0; 32780];
+        let given = library_merge_books(&first, &second, &mut output);
+        let call = |output: &mut [u8]| {
+            black_box(library_merge_books(black_box(&first), black_box(&second), output));
+        };
+        let calls = batch(|| call(&mut output));
+        let times: Vec<f64> = (0..repeats).map(|_| time(calls, || call(&mut output))).collect();
+        println!("| {name} | {}, {} bytes | {:.2} |", given.refusal, given.length, microseconds(&times));
+    }
+}
+
 extern "C" fn search_once(input: *mut c_void) {
     // `print_stack` passes an input that outlives the call.
     let x = unsafe { &*input.cast::<Input>() };
@@ -522,6 +566,10 @@ fn main() {
     println!("The library's search with factors beside the one without:");
     println!();
     print_factors(repeats);
+    println!();
+    println!("One book from two, 256 and 256 boats of 64 columns:");
+    println!();
+    print_merges(repeats);
     println!();
     print_stack();
 }

@@ -1,12 +1,13 @@
 //! The volume comparison: random and damaged files through the exported functions of the library and through the reference
 //! implementation in reference.rs. Replies, share lists, cards, listings and what must stay untouched are compared bit for bit;
-//! cells.rs does the same of scale cells, pairs.rs of two cards, editions.rs of a sheet's other edition.
+//! cells.rs does the same of scale cells, pairs.rs of two cards, editions.rs of a sheet's other edition, merges.rs of two books.
 //!
 //! Use: compare [COUNT [SEED]]. The last line has the count; the exit status is 1 where a case differs, and the case is printed.
 
 mod cells;
 mod editions;
 mod encode;
+mod merges;
 mod pairs;
 mod random;
 mod reference;
@@ -629,6 +630,7 @@ fn refusals(call: &str) -> Vec<u32> {
         "sheet_values" => return (1..=6).chain(41..=43).collect(),
         "scale_sheet" => return (1..=6).chain(41..=43).chain(14..=15).collect(),
         "other_edition" => return (11..=17).chain(46..=48).collect(),
+        "merge_books" => return (1..=6).chain(55..=57).collect(),
         "search" => numbers.push(21),
         "write_card" => numbers.push(22),
         "check_card" => numbers.extend([21].into_iter().chain(31..=39)),
@@ -638,7 +640,7 @@ fn refusals(call: &str) -> Vec<u32> {
     numbers
 }
 
-const CALLS: [&str; 8] = ["search", "write_card", "check_card", "better_card", "listing", "sheet_values", "scale_sheet", "other_edition"];
+const CALLS: [&str; 9] = ["search", "write_card", "check_card", "better_card", "listing", "sheet_values", "scale_sheet", "other_edition", "merge_books"];
 
 /// How a call goes that is not refused.
 fn answers(call: &str) -> &'static [&'static str] {
@@ -646,12 +648,13 @@ fn answers(call: &str) -> &'static [&'static str] {
         "sheet_values" | "scale_sheet" => &["accepted"],
         "better_card" => &["first", "second"],
         "other_edition" => &["edition 1", "edition 2"],
+        "merge_books" => &["some known", "all new"],
         _ => &["within", "beyond", "spent"],
     }
 }
 
 fn one_case(rng: &mut Random) -> Compared {
-    match rng.below(15) {
+    match rng.below(17) {
         0 | 1 => compare_search(rng),
         2 | 3 => compare_write_card(rng),
         4..=6 => compare_check_card(rng),
@@ -659,6 +662,7 @@ fn one_case(rng: &mut Random) -> Compared {
         8 => cells::compare_values(rng),
         9 => cells::compare_sheet(rng),
         10 => editions::compare_other_edition(rng),
+        15 | 16 => merges::compare_merge_books(rng),
         _ => pairs::compare_better_card(rng),
     }
 }

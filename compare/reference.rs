@@ -425,6 +425,25 @@ pub fn better_card(book: &[u8], sheet: &[u8], first: &[u8], second: &[u8]) -> Re
     Ok((number, trailer - back, back + 36))
 }
 
+/// One book from two, or the refusal: the rows of the first, then each of the second that equals no row before it.
+pub fn merged_book(first: &[u8], second: &[u8]) -> Result<Vec<u8>, u32> {
+    let mut rows = read_book(first)?;
+    let others = read_book(second)?;
+    if rows[0].len() != others[0].len() {
+        return Err(55);
+    }
+    for row in others {
+        if !rows.contains(&row) {
+            rows.push(row);
+        }
+    }
+    if rows.len() > 256 {
+        return Err(56);
+    }
+    let rows: Vec<Vec<i16>> = rows.iter().map(|row| row.iter().map(|v| *v as i16).collect()).collect();
+    Ok(crate::encode::book_of(&rows))
+}
+
 /// The listing of a search, or the one line of its refusal.
 pub fn listing(book: &[u8], sheet: &[u8]) -> Vec<u8> {
     let problem = match read_files(book, sheet) {

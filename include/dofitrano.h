@@ -62,7 +62,11 @@ enum dofitrano_refusal {
     /* the scale cells */
     DOFITRANO_CELL_UNWEIGHED = 41, /* a cell not weighed */
     DOFITRANO_CELL_READING = 42,   /* a reading not finite, or a net beyond 1,048,576 kilograms either way */
-    DOFITRANO_CELL_UNIT = 43       /* kilograms per unit outside 1 to 10,000, or a value outside -2,000 to 2,000 */
+    DOFITRANO_CELL_UNIT = 43,      /* kilograms per unit outside 1 to 10,000, or a value outside -2,000 to 2,000 */
+    /* one book from two */
+    DOFITRANO_MERGE_COLUMNS = 55, /* the books' columns differ */
+    DOFITRANO_MERGE_BOATS = 56,   /* a merged book of more than 256 boats */
+    DOFITRANO_MERGE_BUFFER = 57   /* book buffer shorter than the merged book */
 };
 
 enum dofitrano_verdict {
@@ -192,6 +196,22 @@ typedef struct dofitrano_edition_reply {
  * then 46, then 47, then 48. Converted back, the result is the same bytes; every other function here does the same with both. */
 dofitrano_edition_reply dofitrano_other_edition(const uint8_t *sheet, size_t sheet_length,
                                                 uint8_t *output, size_t output_length);
+
+/* One fleet book from two. Where the call is refused, `length` is 0: nothing was written. */
+typedef struct dofitrano_merged {
+    uint32_t refusal; /* the number that refuses the call, 0 for a book */
+    size_t length;    /* the bytes of the book that was written */
+} dofitrano_merged;
+
+/* A book has at most 2 bytes for each of 256 x 64 values and 12 more without front text: a buffer of this length is never too short. */
+#define DOFITRANO_BOOK_MOST 32780
+
+/* Writes one book from two to the first bytes of `output`, without front text: the rows of `first` in order, then each row of `second`
+ * that equals no row before it; later bytes are as they were. Refuses by 1 to 6 of the first book, then of the second, then by 55, 56
+ * and 57. The boats of the first book keep their numbers, and the mixtures are those of the boats of both. */
+dofitrano_merged dofitrano_merge_books(const uint8_t *first, size_t first_length,
+                                       const uint8_t *second, size_t second_length,
+                                       uint8_t *output, size_t output_length);
 
 #ifdef __cplusplus
 }

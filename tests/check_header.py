@@ -13,6 +13,7 @@ TYPES = {"u8": "uint8_t", "u16": "uint16_t", "u32": "uint32_t", "u64": "uint64_t
          "i8": "int8_t", "i16": "int16_t", "i32": "int32_t", "i64": "int64_t", "bool": "bool"}
 # Sizes that the header names, with the file and the text that has each.
 SIZES = {"DOFITRANO_CARD_MOST": ("crates/card_listing/src/lib.rt", "pub const MOST_CARD: usize = %d;"),
+         "DOFITRANO_BOOK_MOST": ("crates/merged_book/src/lib.rt", "pub const MOST_BYTES: usize = %d;"),
          "DOFITRANO_SHEET_MOST": ("crates/scale_sheet/src/lib.rt", "pub bytes: [u8; %d]"),
          "DOFITRANO_LISTING_MOST": ("crates/text/src/lib.rt", "pub const MOST_BYTES: usize = %d;")}
 

@@ -18,6 +18,7 @@ PROGRAMS = {
     "mixcheck": ("card_folder::check_card", "test_program", "folder"),
     "mixbetter": ("better_folder::file_better", "test_program", "folder"),
     "mixbook": ("book_folder::file_book", "test_book", "name"),
+    "mixmerge": ("merge_folder::file_merged", "test_merge", "name"),
     "mixsheet": ("sheet_folder::file_sheet", "test_sheet", "name"),
     "mixedition": ("edition_folder::file_other", "test_rewriting", "name"),
 }

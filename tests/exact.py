@@ -56,6 +56,9 @@ The better of two cards for one book and sheet is the one whose squared
 distance is the lesser fraction, of equal ones the first; what is handed back
 is its body and trailer, without front text.
 
+One book from two has the rows of the first, equal ones too, then each row of
+the second that equals no row before it, and no front text.
+
 A refusal is a number; 0 stands for accepted.  The first that applies, in the
 call's own order, is the one given back: in number order, but a sheet made of
 cells has 41 to 43, cell by cell, right after 6 and before 14 and 15, and 46 is
@@ -93,6 +96,9 @@ the last of a sheet's own, right after 17.
     47  of a conversion into WSH1: a factor other than 1
     48  of a conversion: output shorter than the result, or a result longer
         than 40,000 bytes
+    55  columns of two books that differ
+    56  a merged book of more than 256 boats
+    57  book buffer shorter than the merged book
 
 Use from a shell:  python3 tests/exact.py FLEET SHEET
 """
@@ -528,6 +534,38 @@ def better_part(book: bytes, sheet: bytes, first: bytes, second: bytes):
     """Refusal and the bytes that are handed back."""
     refusal, number, offset, length = better_card(book, sheet, first, second)
     return refusal, (first, second)[number - 1][offset:offset + length]
+
+
+# ------------------------------------------------------- one book from two
+
+
+def merge_books(first: bytes, second: bytes, buffer: bytes):
+    """Refusal, the bytes written, and the buffer afterwards."""
+    for book in (first, second):
+        refusal = book_refusal(book)
+        if refusal:
+            return refusal, 0, buffer
+    merged, others = read_book(first), read_book(second)
+    if len(merged[0]) != len(others[0]):
+        return 55, 0, buffer
+    for row in others:
+        if row not in merged:
+            merged.append(row)
+    if len(merged) > MOST_BOATS:
+        return 56, 0, buffer
+    book = make_book(merged)
+    if len(buffer) < len(book):
+        return 57, 0, buffer
+    return 0, len(book), book + buffer[len(book):]
+
+
+def merge_listing(first: bytes, second: bytes) -> bytes:
+    """The line of one book from two: boats and columns, or the number that refuses; a buffer of 40,000 bytes serves."""
+    refusal, length, written = merge_books(first, second, bytes(MOST_BYTES))
+    if refusal:
+        return refused(refusal)
+    rows = read_book(written[:length])
+    return b"fleet %d %d\n" % (len(rows), len(rows[0]))
 
 
 # ---------------------------------------------------------- the scale cells

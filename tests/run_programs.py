@@ -19,6 +19,7 @@ import csv_books  # noqa: E402
 import csv_sheets  # noqa: E402
 import details  # noqa: E402
 import exact  # noqa: E402
+import merges  # noqa: E402
 import sheet_editions  # noqa: E402
 
 P = [[0, 0], [4, 0], [0, 4]]
@@ -142,8 +143,9 @@ READ = {
     "mixbook": ("fleet.csv",),
     "mixsheet": ("fleet.csv", "sheet.csv"),
     "mixedition": ("sheet.wsh",),
+    "mixmerge": ("fleet.wbk", "bought.wbk"),
 }
-FILED = {"mixcard": "card.wcd", "mixbetter": "better.wcd", "mixedition": "other.wsh"}
+FILED = {"mixcard": "card.wcd", "mixbetter": "better.wcd", "mixedition": "other.wsh", "mixmerge": "merged.wbk"}
 
 
 def told(program, files, refused=False, folder=""):
@@ -154,7 +156,10 @@ def told(program, files, refused=False, folder=""):
             lines.append((folder + name).encode() + b": not found in this folder\n")
         elif files[name] is FOLDER:
             lines.append((folder + name).encode() + b": could not be read whole\n")
-    if "fleet.wbk" in READ[program]:
+    if program == "mixmerge":
+        wrong = [name for name in READ[program] if exact.book_refusal(content(files, name))]
+        lines.extend((folder + name).encode() + b": this book is refused\n" for name in wrong[:1])
+    elif "fleet.wbk" in READ[program]:
         book, sheet = content(files, "fleet.wbk"), content(files, "sheet.wsh")
         lines.append(details.detail(book, sheet, exact.files_refusal(book, sheet)))
     if refused and program in FILED:
@@ -320,10 +325,31 @@ def check_mixedition(program, runs):
         runs.expect("mixedition, " + name, run(program, before, read_only) == (b"", b"other.wsh: could not be written\n", before))
 
 
+def check_mixmerge(program, runs):
+    """Pairs of books, whole, damaged, too long, missing or folders, with an older merged book or none."""
+    books = [("a book", BOOK), ("behind front text", exact.make_book([[4, 0], [1, 1], [1, 1]], b"front")), ("none", None), ("empty", b""), ("a folder", FOLDER),
+             ("40,000 bytes", BOOK.rjust(40000, b"x")), ("40,001 bytes", BOOK.rjust(40001, b"x")), ("cut", BOOK[:-1]), ("other columns", exact.make_book([[1]])),
+             ("a value out of range", WRONG_BOOK), ("200 boats", exact.make_book([[value, 0] for value in range(200)])), ("200 others", exact.make_book([[value, 1] for value in range(200)]))]
+    for first_name, first in books:
+        for second_name, second in books:
+            for older in (None, b"older book"):
+                before = {file: data for file, data, name in (("fleet.wbk", first, first_name), ("bought.wbk", second, second_name)) if name != "none"}
+                if older is not None:
+                    before["merged.wbk"] = older
+                refusal, length, written = exact.merge_books(content(before, "fleet.wbk"), content(before, "bought.wbk"), bytes(40000))
+                after = before if refusal else dict(before, **{"merged.wbk": written[:length]})
+                listing = exact.merge_listing(content(before, "fleet.wbk"), content(before, "bought.wbk"))
+                runs.expect("mixmerge, %s, %s, %s" % (first_name, second_name, older),
+                            run(program, before) == (listing, told("mixmerge", before, refusal != 0), after))
+    for name, older, read_only in (("no room", b"older book", True), ("merged.wbk a folder", FOLDER, False)):
+        before = {"fleet.wbk": BOOK, "bought.wbk": merges.BOUGHT, "merged.wbk": older}
+        runs.expect("mixmerge, " + name, run(program, before, read_only) == (b"", b"merged.wbk: could not be written\n", before))
+
+
 CARD = exact.write_card(BOOK, SHEET, bytes(1060))
 # files on which every program does its work
 ARGUMENT_FILES = {"fleet.csv": b"a,b,c\nd,0,0\ne,4,0\nf,0,4\n", "sheet.csv": b",c,b\nnew,1,1\nsteps,9\ntolerance,1\n",
-                  "fleet.wbk": BOOK, "sheet.wsh": SHEET, "card.wcd": CARD[3][:CARD[2]],
+                  "fleet.wbk": BOOK, "bought.wbk": BOOK, "sheet.wsh": SHEET, "card.wcd": CARD[3][:CARD[2]],
                   "first.wcd": CARD[3][:CARD[2]], "second.wcd": CARD[3][:CARD[2]]}
 
 
@@ -344,7 +370,7 @@ def check_arguments(name, program, files, runs):
 
 # What is tried of each program.
 CHECKS = {"mixlist": (check_mixlist,), "mixcard": (check_mixcard,), "mixcheck": (check_mixcheck, check_report), "mixbetter": (check_mixbetter,),
-          "mixbook": (check_mixbook,), "mixsheet": (check_mixsheet,), "mixedition": (check_mixedition,)}
+          "mixbook": (check_mixbook,), "mixsheet": (check_mixsheet,), "mixedition": (check_mixedition,), "mixmerge": (check_mixmerge,)}
 
 
 def check_programs(place, names, runs):
@@ -387,6 +413,9 @@ STATUSES = [
     ("mixcard", {"fleet.wbk": BOOK, "sheet.wsh": SHEET, "card.wcd": FOLDER}, 2, []),
     ("mixcheck", {"fleet.wbk": BOOK, "sheet.wsh": SHEET, "card.wcd": b"no card"}, 1, []),
     ("mixbetter", {"fleet.wbk": BOOK, "sheet.wsh": SHEET}, 1, []),
+    ("mixmerge", {"fleet.wbk": BOOK, "bought.wbk": merges.BOUGHT}, 0, ["merged.wbk"]),
+    ("mixmerge", {"fleet.wbk": BOOK}, 1, []),
+    ("mixmerge", {"fleet.wbk": BOOK, "bought.wbk": merges.BOUGHT, "merged.wbk": FOLDER}, 2, []),
     ("mixreport", {"fleet.wbk": BOOK, "sheet.wsh": SHEET}, 1, []),
     ("mixreport --other", {"fleet.wbk": BOOK, "sheet.wsh": SHEET}, 2, []),
     ("mixcard && mixreport --mixcheck missing", {"fleet.wbk": BOOK, "sheet.wsh": SHEET}, 2, ["card.wcd"]),

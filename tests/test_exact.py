@@ -1097,11 +1097,34 @@ def other_editions():
     agree("the same search", exact.search(book, up, [7] * 5), exact.search(book, a, [7] * 5))
 
 
+def one_book_from_two():
+    """One book from two: the rows worked out by hand, the limits, the order of the refusals, and what is left in the buffer."""
+    book, line = make_book(P), [[value] for value in range(256)]
+    filled = b"#" * 40
+    merged = make_book(list(P) + [(1, 1)])
+    agree("known and new", exact.merge_books(book, make_book([(4, 0), (1, 1), (1, 1)]), filled), (0, 28, merged + filled[28:]))
+    agree("just enough", exact.merge_books(book, make_book([(4, 0), (1, 1), (1, 1)]), filled[:28]), (0, 28, merged))
+    agree("a byte too little", exact.merge_books(book, make_book([(4, 0), (1, 1), (1, 1)]), filled[:27]), (57, 0, filled[:27]))
+    agree("the first's own equal rows", exact.merge_books(make_book([(0, 0), (0, 0)]), make_book([(0, 0)]), filled)[:2], (0, 20))
+    agree("front text goes", exact.merge_books(make_book(P, b"front"), make_book(P, b"more"), filled), (0, 24, book + filled[24:]))
+    agree("other columns", exact.merge_books(book, make_book([(1,)]), b""), (55, 0, b""))
+    agree("256 boats and a known one", exact.merge_books(make_book(line), make_book([(9,)]), bytes(524)), (0, 524, make_book(line)))
+    agree("a new one", exact.merge_books(make_book(line), make_book([(256,)]), bytes(600))[0], 56)
+    agree("56 before 57", exact.merge_books(make_book(line), make_book([(256,)]), b"")[0], 56)
+    agree("200 and 56", exact.merge_books(make_book(line[:200]), make_book(4 * line[200:]), bytes(600))[:2], (0, 524))
+    agree("200 and 57", exact.merge_books(make_book(line[:200]), make_book(4 * (line[200:] + [[256]])), bytes(600))[0], 56)
+    agree("the first's number first", exact.merge_books(book[:-1], b"", filled)[0], 2)
+    agree("then the second's", exact.merge_books(book, make_book([(0, 2001)]), b"")[0], 6)
+    agree("the second's before 55", exact.merge_books(book, make_book([(2001,)]), b"")[0], 6)
+    agree("the line", exact.merge_listing(book, make_book([(1, 1)])), b"fleet 4 2\n")
+    agree("the line of a refusal", exact.merge_listing(book, b""), b"refused 1\n")
+
+
 def main():
     for part in (marked_sheets, readers, book_and_sheet_refusals, lent_lists, card_refusals,
                  two_tests, editions, filed_before, two_faults, ties_and_start, drawn_ties, random_books, factored_sheets, factored_cards, factored_books,
                  drawn_sheets_with_factors, full_size, damaged_files,
-                 from_a_shell, whole_numbers, scale_cells, subtractions, gap_bounds, better_of_two, other_editions):
+                 from_a_shell, whole_numbers, scale_cells, subtractions, gap_bounds, better_of_two, other_editions, one_book_from_two):
         part()
     if differences:
         print("exact.py: %d of %d checks differ" % (differences, checks))

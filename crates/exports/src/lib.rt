@@ -1,7 +1,7 @@
 // The library for programs in other languages: thin exported functions over the entries of the other crates.
 //
 // Entries, which ask nothing of their caller: dofitrano_search, dofitrano_write_card, dofitrano_check_card, dofitrano_listing,
-// dofitrano_sheet_values, dofitrano_scale_sheet, dofitrano_better_card, dofitrano_other_edition.
+// dofitrano_sheet_values, dofitrano_scale_sheet, dofitrano_better_card, dofitrano_other_edition, dofitrano_merge_books.
 // A slice passes as a pointer and a length; include/dofitrano.h declares the functions for C and says what a caller in another
 // language must see to. The first clause of a contract gives the reply, the second every slot or byte that was lent, the third
 // what the entry behind it promises of both.
@@ -30,10 +30,13 @@ ghost use Rattle.better_card_promise.specs.Promise.{Better-right};
 ghost use Rattle.editions.specs.Rewriting.{other-number, other-edition, edition-refusal, rewriting};
 ghost use Rattle.editions.specs.Promise.{Edition-right};
 ghost use Rattle.text.specs.Texts.{text-limit};
+ghost use Rattle.merged_book.specs.Merging.{merged-book, merge-refusal, merging};
+ghost use Rattle.merged_book.specs.Promise.{Merge-right};
 use better_card_promise::Choice;
 use exported_types::CardReply;
 use exported_types::EditionReply;
 use exported_types::Reply;
+use merged_book::Merged;
 use scale_cells::SheetValues;
 use scale_sheet::ScaleSheet;
 
@@ -165,4 +168,15 @@ pub extern "C" fn dofitrano_other_edition(sheet: &[u8], output: &mut [u8]) -> Ed
 {
     let given = other_edition::other_edition(sheet, &mut *output);
     exported_types::edition_reply_of(given)
+}
+
+// ENTRY. One fleet book from two for other languages: what `merge_books` gives back for these books and this buffer, and its bytes
+// afterwards.
+#[no_mangle]
+pub extern "C" fn dofitrano_merge_books(first: &[u8], second: &[u8], output: &mut [u8]) -> Merged
+    ensures { λ r. ⌜ r ≡ merging (merge-refusal (now (first .entry)) (now (second .entry)) (length (now (output .entry)))) (length (merged-book (now (first .entry)) (now (second .entry)))) ⌝ }
+    ensures { λ _. ⌜ now (output .exit) ≡ slots-after (merge-refusal (now (first .entry)) (now (second .entry)) (length (now (output .entry)))) (merged-book (now (first .entry)) (now (second .entry))) (now (output .entry)) ⌝ }
+    ensures { λ r. ⌜ Merge-right (now (first .entry)) (now (second .entry)) r (now (output .exit)) ⌝ }
+{
+    merge_books::merge_books(first, second, output)
 }

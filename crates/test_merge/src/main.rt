@@ -1,0 +1,69 @@
+// One fleet book from two, for pairs written by hand and drawn, and mixmerge in one folder after another. The cases and folders are made
+// by tests/merges.py, the expected output by tests/expected/test_merge.py.
+use test_buffers::between;
+use test_buffers::u16_at;
+
+// Prints what is given back for two books and a buffer of `room` bytes, and a sum of all bytes of a longer one.
+fn merged(first: &[u8], second: &[u8], room: usize) {
+    let mut output = [7u8; merged_book::MOST_BYTES];
+    let made = if room < merged_book::MOST_BYTES {
+        merge_books::merge_books(first, second, &mut output[..room])
+    } else {
+        merge_books::merge_books(first, second, &mut output)
+    };
+    test_printing::line(b"refused", made.refusal as u64);
+    test_printing::line(b"bytes", made.len as u64);
+    test_printing::line(b"sum", test_buffers::checksum(&output));
+}
+
+// The case at `start`: three numbers of 2 bytes each, then both books. Gives back where the next case starts.
+fn case(cases: &[u8], start: usize) -> usize {
+    let at = start % 1000000;
+    let first = at + 6;
+    let second = first + u16_at(cases, at) as usize;
+    let end = second + u16_at(cases, at + 2) as usize;
+    merged(
+        between(cases, first, second),
+        between(cases, second, end),
+        u16_at(cases, at + 4) as usize,
+    );
+    end
+}
+
+// Each case of a file.
+fn each(cases: &[u8], count: u64) {
+    let mut at = 0;
+    let mut number = 0;
+    while number < count {
+        test_printing::line(b"case", number);
+        at = case(cases, at);
+        number += 1;
+    }
+}
+
+// mixmerge in a folder, and the book that stands there afterwards.
+fn folder(name: &[u8]) {
+    let mut book = [0u8; 40001];
+    test_printing::title(name);
+    merge_folder::file_merged(name);
+    let n = file_io::read_in(name, b"merged.wbk", &mut book);
+    test_printing::line(b"bytes", n as u64);
+    test_printing::line(b"sum", test_buffers::checksum(&book[..n]));
+}
+
+fn main() {
+    let mut cases = [0u8; 400000];
+    let n = file_io::read_file(b"cases.dat", &mut cases);
+    each(&cases[..n], 400);
+    folder(b"");
+    folder(b"older");
+    folder(b"other_columns");
+    folder(b"too_many");
+    folder(b"known");
+    folder(b"first_refused");
+    folder(b"second_refused");
+    folder(b"no_first");
+    folder(b"no_second");
+    folder(b"long");
+    folder(b"merged_a_folder");
+}
