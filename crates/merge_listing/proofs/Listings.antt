@@ -5,7 +5,7 @@ use Prim.Native.Nat.{ℕ, zero, suc, _-_}
 use native.Mathlib.Omega.{arith}
 use lib.ListN.{length, take, drop}
 use lib.Seq.{take-at}
-use Rattle.files.specs.Book.{boats, columns}
+use Rattle.files.specs.Book.{boats, columns, book-refusal}
 use Rattle.method.specs.Answers.{slots-after}
 use Rattle.text.specs.Lines.{pair-line}
 use Rattle.text.specs.Texts.{Holds, Adds}
@@ -14,6 +14,7 @@ use Rattle.text.proofs.Texts.{adds-to-empty}
 use Rattle.listing.specs.Lines.{fleet-word, refused-line}
 use Rattle.merged_book.specs.declared.Merged.{Merged}
 use Rattle.merged_book.specs.Merging.{merging}
+use Rattle.merged_book.specs.Promise.{Merge-right}
 use Rattle.merge_listing.specs.Listings.{merge-line}
 
 module _ {t u : Text} (n : ℕ) (b : List ℕ) where
@@ -34,3 +35,7 @@ pub merge-listed : (n : ℕ) (bs out : List ℕ) {r : Merged} {now : List ℕ} {
 unfolding merging slots-after merge-line
 merge-listed zero bs out {r} {now} er ew h = let z : length bs - 0 ≡ length bs = omega arith in rw (er, ew, z, take-at bs _ (length bs) refl) at h
 merge-listed (suc n) bs out er ew h = rw er at h
+
+-- and it is accepted where nothing is refused
+pub part-accepted : {a b : List ℕ} {r : Merged} {now : List ℕ} → Merge-right a b r now → r .refusal ≡ 0 → book-refusal (take (r .len - 0) (drop 0 now)) ≡ 0
+part-accepted {r = r} d h = let z : r .len - 0 ≡ r .len = omega arith in rw z (d .wrote h .accepted)

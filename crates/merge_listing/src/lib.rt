@@ -20,7 +20,7 @@ pub struct Listed {
 
 // The line of a book, or of the number that refuses.
 fn line_of(book: &[u8], refusal: u32) -> Text
-    requires { ⌜ refusal ≡ 0 → book-refusal (now book) ≡ 0 ⌝ }
+    requires { ⌜ (refusal ≡ 0 → book-refusal (now book) ≡ 0) ⌝ }
     ensures { λ r. ⌜ Holds (merge-line refusal (now (book .entry))) r ⌝ }
 {
     if refusal != 0 {
