@@ -468,6 +468,7 @@ fn print_merges(repeats: u32) {
         ("128 drawn rows, and 128 of them with 128 new", &drawn[..128].to_vec(), &half),
         ("256 rows alike but for their last column, and the same in reverse", &late, &late.iter().rev().cloned().collect()),
         ("128 such rows, and 128 new ones twice", &late[..128].to_vec(), &late_half),
+        ("256 such rows, and the last of them 256 times: the most comparisons", &late, &vec![late[255].clone(); 256]),
         ("256 drawn rows, and 128 new: refused", &drawn, &new),
     ];
     for (name, first, second) in cases {

@@ -15,8 +15,8 @@ use Rattle.files.specs.Book.{boats, columns, rows, rows-from, rows-offset, all-
 use Rattle.files.proofs.Accepted.{book-accepted}
 use Rattle.files.proofs.Access.{rows-at, row-at}
 use Rattle.files.proofs.Rows.{values-take-some}
-use Rattle.card_output.specs.Output.{placed}
-use Rattle.card_output.proofs.Placing.{placed-nil, placed-next}
+use Rattle.buffers.specs.Placed.{placed}
+use Rattle.buffers.proofs.Placing.{placed-nil, placed-next}
 use Rattle.sheet_output.specs.Output.{values-bytes}
 use Rattle.book_output.specs.Output.{rows-bytes}
 use Rattle.book_output.proofs.Rows.{length-rows-bytes, rows-back}

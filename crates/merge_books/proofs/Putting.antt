@@ -9,8 +9,8 @@ use lib.IntN.{ℤ}
 use Rattle.files.specs.Bytes.{values}
 use Rattle.files.specs.Book.{rows-from}
 use Rattle.files.proofs.Rows.{length-rows-from}
-use Rattle.card_output.specs.Output.{placed}
-use Rattle.card_output.proofs.Placing.{placed-nil}
+use Rattle.buffers.specs.Placed.{placed}
+use Rattle.buffers.proofs.Placing.{placed-nil}
 use Rattle.merged_book.specs.Merging.{is-among, with-row}
 use Rattle.merged_book.proofs.Rows.{known-row, new-row}
 use Rattle.merge_books.specs.Putting.{new-bytes}

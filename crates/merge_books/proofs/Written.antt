@@ -8,9 +8,9 @@ use lib.Seq.{take-all, length-take-le}
 use Rattle.files.proofs.Accepted.{book-accepted}
 use Rattle.derived_files.proofs.Rows.{cells-most}
 use Rattle.files.specs.Book.{columns, book-refusal}
-use Rattle.card_output.specs.Output.{placed}
-use Rattle.card_output.proofs.Placing.{placed-next}
-use Rattle.sheet_output.proofs.Writing.{front-inside, front-taken}
+use Rattle.buffers.specs.Placed.{placed}
+use Rattle.buffers.proofs.Placing.{placed-next}
+use Rattle.buffers.proofs.Writing.{front-inside, front-taken}
 use Rattle.book_output.specs.Output.{rows-bytes, book-trailer, book-bytes}
 use Rattle.book_output.proofs.Rows.{length-rows-bytes}
 use Rattle.merged_book.specs.declared.Merged.{Merged}

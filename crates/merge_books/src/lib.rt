@@ -7,13 +7,13 @@ ghost use lib.ListN.{length, take};
 ghost use Rattle.files.specs.Bytes.{values};
 ghost use Rattle.files.specs.Book.{columns, rows-from, book-refusal};
 ghost use Rattle.method.specs.Answers.{slots-after};
-ghost use Rattle.card_output.specs.Output.{placed};
+ghost use Rattle.buffers.specs.Placed.{placed};
 ghost use Rattle.book_output.specs.Output.{rows-bytes};
 ghost use Rattle.merged_book.specs.Merging.{is-among, with-row, merged-rows, merged-book, merge-refusal, merging};
 ghost use Rattle.merged_book.specs.Promise.{Merge-right};
 ghost use Rattle.merge_books.specs.Putting.{new-bytes};
+use buffers::put_bytes;
 use merged_book::Merged;
-use sheet_output::put_bytes;
 
 // The most boats of a book.
 const MOST_BOATS: usize = 256;

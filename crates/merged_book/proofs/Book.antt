@@ -34,6 +34,10 @@ module _ (b : List ℕ) (ok : book-refusal b ≡ 0) where
   book-row v a = let p = place-of a in rw (p .is) at (row-in-range (rows b) (book-accepted b ok .rows-in-range) (p .index))
 
 module _ (a b : List ℕ) (first : book-refusal a ≡ 0) (second : book-refusal b ≡ 0) (same : columns a ≡ columns b) where
+  merged-some : boats a ≤ length (merged-rows a b)
+  unfolding merged-rows
+  merged-some = omega (arith, rows-length (rows a) (rows b), book-accepted a first .row-count)
+
   pub merged-wide : Wide (columns a) (merged-rows a b)
   unfolding merged-rows
   merged-wide = record { each = λ v m. by v (rows-either (rows a) (rows b) m) }
@@ -49,10 +53,6 @@ module _ (a b : List ℕ) (first : book-refusal a ≡ 0) (second : book-refusal 
       by : Among (rows a) v ⊎ Among (rows b) v → all-in-range v ≡ true
       by (inl m) = book-row a first v m
       by (inr m) = book-row b second v m
-
-  merged-some : boats a ≤ length (merged-rows a b)
-  unfolding merged-rows
-  merged-some = omega (arith, rows-length (rows a) (rows b), book-accepted a first .row-count)
 
   pub merged-fits : length (merged-rows a b) ≤ 256 → Rows-fit (merged-rows a b) (columns a)
   merged-fits h =

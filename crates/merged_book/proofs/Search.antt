@@ -23,8 +23,8 @@ bounded p answer shares vs m r =
     record {
       gap-bound = λ qs e h. rw (same-distance p vs (p .vertices) m qs e, m qs e .total) at (r .answer .gap-bound (m qs e .shares) (m qs e .share-count) (some qs e h));
       step-bound = λ qs e h. rw (same-distance p vs (p .vertices) m qs e, m qs e .total) at (r .step-bound (m qs e .shares) (m qs e .share-count) (some qs e h));
-      beyond = λ f v qs e h. rw (same-distance p vs (p .vertices) m qs e, m qs e .total) at (r .answer .beyond f v (m qs e .shares) (m qs e .share-count) (some qs e h));
-      spent = λ f v qs e h. rw (same-distance p vs (p .vertices) m qs e, m qs e .total) at (r .spent f v (m qs e .shares) (m qs e .share-count) (some qs e h));
+      beyond = λ v qs e h. rw (same-distance p vs (p .vertices) m qs e, m qs e .total) at (r .answer .beyond v (m qs e .shares) (m qs e .share-count) (some qs e h));
+      spent = λ v qs e h. rw (same-distance p vs (p .vertices) m qs e, m qs e .total) at (r .spent v (m qs e .shares) (m qs e .share-count) (some qs e h));
     }
   where
     some : (qs : List ℕ) (e : length qs ≡ length vs) → 1 ≤ sum qs → 1 ≤ sum (m qs e .shares)

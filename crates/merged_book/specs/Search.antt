@@ -3,13 +3,12 @@ use mathlib.Core.Path.{_≡_}
 use mathlib.Core.List.{List}
 use Prim.Native.Nat.{ℕ, _+_, _*_, _≤_, _<_}
 use lib.ListN.{length}
-use lib.IntN.{ℤ}
 use Rattle.frank_wolfe.specs.Vectors.{sum}
 use Rattle.files.specs.Book.{rows}
-use Rattle.method.specs.declared.Verdict.the-variants.{Beyond, Spent}
 use Rattle.method.specs.declared.Answer.{Answer}
 use Rattle.method.specs.Problem.{Problem, problem}
 use Rattle.method.specs.Iterates.{mixture-distance, diameter}
+use Rattle.method.specs.Answers.{verdict-number}
 use Rattle.method.specs.Bounds.{Run-bounds, Step-bound}
 use Rattle.merged_book.specs.Merging.{merged-book, merge-refusal}
 use Rattle.merged_book.specs.Mixtures.{both-rows, with-vertices}
@@ -23,10 +22,10 @@ pub record Bounded-against (p : Problem) (a : Answer) (m : Problem) : Type 0 whe
   pub step-bound : (qs : List ℕ) → length qs ≡ length (m .vertices) → 1 ≤ sum qs →
       Step-bound (p .schedule) (a .steps) (diameter p) (a .distance) (a .weight * a .weight) (sum qs) (mixture-distance m qs)
   -- Beyond: every squared distance is above the tolerance
-  pub beyond : (floor : ℤ) → a .verdict ≡ Beyond floor → (qs : List ℕ) → length qs ≡ length (m .vertices) → 1 ≤ sum qs →
+  pub beyond : verdict-number (a .verdict) ≡ 2 → (qs : List ℕ) → length qs ≡ length (m .vertices) → 1 ≤ sum qs →
       p .tolerance * (sum qs * sum qs) < mixture-distance m qs
   -- Spent: none is below the tolerance less that bound
-  pub spent : (shortfall : ℕ) → a .verdict ≡ Spent shortfall → (qs : List ℕ) → length qs ≡ length (m .vertices) → 1 ≤ sum qs →
+  pub spent : verdict-number (a .verdict) ≡ 3 → (qs : List ℕ) → length qs ≡ length (m .vertices) → 1 ≤ sum qs →
       Step-bound (p .schedule) (a .steps) (diameter p) (p .tolerance) 1 (sum qs) (mixture-distance m qs)
 
 -- the answer of a search of the merged book of a and b with a sheet s, against the boats of a, of b and of both with that sheet

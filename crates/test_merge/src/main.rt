@@ -1,16 +1,22 @@
 // One fleet book from two, for pairs written by hand and drawn, and mixmerge in one folder after another. The cases and folders are made
 // by tests/merges.py, the expected output by tests/expected/test_merge.py.
+use merged_book::Merged;
 use test_buffers::between;
 use test_buffers::u16_at;
+
+// One book from two in the first `room` bytes of a buffer, all of them where it has fewer.
+fn merged_within(first: &[u8], second: &[u8], output: &mut [u8], room: usize) -> Merged {
+    if output.len() < room {
+        return merge_books::merge_books(first, second, output);
+    }
+    let start = 0;
+    merge_books::merge_books(first, second, &mut output[start..room])
+}
 
 // Prints what is given back for two books and a buffer of `room` bytes, and a sum of all bytes of a longer one.
 fn merged(first: &[u8], second: &[u8], room: usize) {
     let mut output = [7u8; merged_book::MOST_BYTES];
-    let made = if room < merged_book::MOST_BYTES {
-        merge_books::merge_books(first, second, &mut output[..room])
-    } else {
-        merge_books::merge_books(first, second, &mut output)
-    };
+    let made = merged_within(first, second, &mut output, room);
     test_printing::line(b"refused", made.refusal as u64);
     test_printing::line(b"bytes", made.len as u64);
     test_printing::line(b"sum", test_buffers::checksum(&output));
