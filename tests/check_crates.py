@@ -1,5 +1,5 @@
 #!/usr/bin/env python3
-"""Sees that README's map of the layers and its table of the crates are those of crates.txt.
+"""Sees that the map of the layers and the table of the crates in docs/architecture.md are those of crates.txt.
 
 Every crate stands in one row of the table, under its layer, and below the crates that it uses; a row's last column names only crates that
 its crates reach. A line of the map has a layer and the layers below it that its crates use, none too many and none too few.
@@ -9,6 +9,7 @@ import re
 import sys
 
 ROOT = os.path.dirname(os.path.dirname(os.path.abspath(__file__)))
+PAGE = "docs/architecture.md"
 
 
 def read(path):
@@ -57,31 +58,31 @@ def layers(text):
 
 
 def main():
-    text, uses, faults = read("README.md"), crates(), []
+    text, uses, faults = read(PAGE), crates(), []
     rows, map_of = table(text), layers(text)
     place = {}
     for number, (layer, names, _) in enumerate(rows):
         for name in names:
             if name in place:
-                faults.append("README.md: two rows for the crate %s" % name)
+                faults.append("%s: two rows for the crate %s" % (PAGE, name))
             place[name] = (number, layer)
     for name in sorted(set(place) ^ set(uses)):
-        faults.append("only one of README.md and crates.txt has the crate %s" % name)
+        faults.append("only one of %s and crates.txt has the crate %s" % (PAGE, name))
     for layer, names, said in rows:
         reached = set(names).union(*(reach(name, uses) for name in names if name in uses))
-        faults += ["README.md: %s does not use %s" % (", ".join(names), name) for name in said if name not in reached]
+        faults += ["%s: %s does not use %s" % (PAGE, ", ".join(names), name) for name in said if name not in reached]
     found = {layer: set() for layer in map_of}
     for name in set(place) & set(uses):
         for used in set(uses[name]) & set(place):
             if place[used][0] > place[name][0]:
-                faults.append("README.md: %s stands above %s, which it uses" % (name, used))
+                faults.append("%s: %s stands above %s, which it uses" % (PAGE, name, used))
             if place[used][1] != place[name][1]:
                 found.setdefault(place[name][1], set()).add(place[used][1])
     if [layer for layer in dict.fromkeys(layer for layer, _, _ in rows)] != list(map_of):
-        faults.append("README.md: the layers of the table are not those of the map, in its order")
+        faults.append("%s: the layers of the table are not those of the map, in its order" % PAGE)
     for layer in map_of:
         for other in sorted(found[layer] ^ set(map_of[layer])):
-            faults.append("README.md, the map: %s %s %s" % (layer, "rests on" if other in found[layer] else "does not rest on", other))
+            faults.append("%s, the map: %s %s %s" % (PAGE, layer, "rests on" if other in found[layer] else "does not rest on", other))
     for fault in faults:
         print(fault)
     print("crates: %d, layers: %d, faults: %d" % (len(uses), len(map_of), len(faults)))

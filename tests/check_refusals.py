@@ -1,10 +1,10 @@
 #!/usr/bin/env python3
-"""Sees that the definitions, the code, the tests, README, the C header and docs/refusals.md agree on the refusals.
+"""Sees that the definitions, the code, the tests, the C header and docs/refusals.md agree on the refusals.
 
-A row of the index docs/refusals.md has a number and, each with its file, the definition that gives it, the function that returns it,
-the proof of that function and a test case. tests/check_names.py sees that these names stand in their files; here the number must stand
-in the definition and in the function, the case must be refused by it, and the remedy must be README's, word for word. The numbers of
-README, the header and the index are the same. Of a card's numbers, each is given by one line of all the definitions.
+docs/refusals.md has two tables: what each number means and what to do about it, and an index. A row of the index has a number and, each with its
+file, the definition that gives it, the function that returns it, the proof of that function and a test case. tests/check_names.py sees that these
+names stand in their files; here the number must stand in the definition and in the function, and the case must be refused by it. The numbers of
+both tables and of the header are the same. Of a card's numbers, each is given by one line of all the definitions.
 """
 import glob
 import os
@@ -50,22 +50,21 @@ def refused(path, case, number):
 
 def main():
     faults = []
-    index = rows("docs/refusals.md", "| number | definition | code | proof | test | what to do |\n")
-    readme = rows("README.md", "| number | means | what to do |\n")
+    index = rows("docs/refusals.md", "| number | definition | code | proof | test |\n")
+    meant = rows("docs/refusals.md", "| number | means | what to do |\n")
     enum = re.search(r"enum dofitrano_refusal \{(.*?)\};", read("include/dofitrano.h"), re.S)[1]
     header = {int(number): comment for number, comment in re.findall(r"DOFITRANO_\w+ = (\d+),?[ \t]*(/\*.*?\*/)?", enum) if number != "0"}
-    if set(readme) != set(header):
-        faults.append("README.md and include/dofitrano.h: only one of them has %s" % sorted(set(readme) ^ set(header)))
+    if set(meant) != set(header):
+        faults.append("docs/refusals.md and include/dofitrano.h: only one of them has %s" % sorted(set(meant) ^ set(header)))
     faults += ["include/dofitrano.h: %d has no comment" % number for number in header if not header[number]]
-    differ = set(index) ^ set(readme)
+    differ = set(index) ^ set(meant)
     if differ:
-        faults.append("docs/refusals.md and README.md: only one of them has %s" % sorted(differ))
+        faults.append("docs/refusals.md: only one of its tables has %s" % sorted(differ))
     for number, cells in sorted(index.items()):
         (definition, d_file), (code, c_file), _, (case, t_file) = (re.findall(r"`([^`]+)`", cell) for cell in cells[:4])
         for what, ok in (("the definition %s has no such number" % definition, re.search(r"\b%d\b" % number, part(d_file, definition))),
                          ("the function %s does not return it" % code, re.search(r"\b%d\b" % number, part(c_file, code))),
-                         ("%s does not have the case `%s` with this number" % (t_file, case), refused(t_file, case, number)),
-                         ("README.md says to do something else", readme.get(number, [None])[-1] == cells[4])):
+                         ("%s does not have the case `%s` with this number" % (t_file, case), refused(t_file, case, number))):
             if not ok:
                 faults.append("docs/refusals.md, %d: %s" % (number, what))
     for number in range(31, 40):
