@@ -7,6 +7,7 @@ crates/NAME/must-fail is tried in each gate, crates/NAME/edits by tools/edits. t
 Use: check_edits.py                 compare the tree with tests/edits.txt, and the edits' form
      check_edits.py --write         store the counts
      check_edits.py --refused LOG   see in the output of rt ci that each edit of the gate was refused
+     check_edits.py --reasons DIR   list the edits whose logs in DIR (target/must-fail) do not name a fact first: safety, or what a callee requires
 """
 import glob
 import os
@@ -16,6 +17,10 @@ import sys
 ROOT = os.path.join(os.path.dirname(os.path.abspath(__file__)), "..")
 COUNTS = os.path.join(ROOT, "tests", "edits.txt")
 TIERS = ("must-fail", "edits")
+
+# What the checker asks for so that code is safe and callees may be called; and what it says of the rest.
+SAFETY = re.compile(r"-requires(-\d+)?$|^(add|sub|mul|div|rem|neg|cast|shl|shr|array|slice|shared-slice|same-length)-?|-less$")
+ERROR = re.compile(r"^\S+: error: `([^`]+)`: (.*)$|it is not proved that what the function ensures holds when it returns \(`([^`]+)`\)", re.M)
 
 
 def read(path):
@@ -113,7 +118,24 @@ def refused(log):
     return len(missing)
 
 
+def reasons(folder):
+    """Lists the edits whose logs have no error at a fact, or one about safety before it; gives the number of those that have none."""
+    without = 0
+    logs = sorted(glob.glob(os.path.join(folder, "*", "*", ".log")))
+    for log in logs:
+        named = [name or returns for name, said, returns in ERROR.findall(read(log)) if "was not admitted" not in said]
+        facts = [name for name in named if not SAFETY.search(name)]
+        if not facts:
+            without += 1
+        if not facts or SAFETY.search(named[0]):
+            print("edits: %s fails first at %s; facts: %s" % ("/".join(log.split(os.sep)[-3:-1]), named[0] if named else "nothing", ", ".join(facts[:3]) or "none"))
+    print("edits: %d logs, %d without a fact" % (len(logs), without))
+    return without
+
+
 def main(arguments):
+    if len(arguments) == 2 and arguments[0] == "--reasons":
+        return 1 if reasons(arguments[1]) else 0
     if arguments == ["--write"]:
         with open(COUNTS, "w", encoding="utf-8") as file:
             file.write(counts())
