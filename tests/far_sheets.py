@@ -1,8 +1,8 @@
 #!/usr/bin/env python3
 """How many steps drawn sheets far off take, by the former test of Beyond and by the sharper one.
 
-Prints a table for docs/changes.md: sheets of 360 steps whose target lies outside the hull of the boats, at tolerances that are a part of
-the least squared distance that 360 steps reach.
+Prints a table, of which docs/changes.md has the gist: sheets of 360 steps whose target lies outside the hull of the boats, at tolerances
+that are a part of the least squared distance that 360 steps reach.
 """
 import os
 import sys
