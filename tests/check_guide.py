@@ -76,7 +76,7 @@ def thousandths(guide, fleet):
                 Fraction(total, 1000), "%.3f" % (Fraction(weight) * Fraction(lever)), displacement * length, "%.2f" % exactly, round(exactly)):
             wrong.append("thousandths of " + name)
     lines = [line.split(",") for line in fleet.decode().splitlines()]
-    boat = next(line for line in lines if line[0] == re.search(r"Of ([^,]+), with D = ", guide)[1])
+    boat = next(line for line in lines if line[0] == re.search(r"For ([^,]+), with D = ", guide)[1])
     if [(row[0], row[-1]) for row in [*weights, *moments]] != list(zip(lines[0][1:], boat[1:])):
         wrong.append("thousandths: the values are not those of examples/yard")
     said = ("D × L = %.2f t m" % (displacement * length), "total %s kg" % format(total, ","), "here %.1f kg" % (displacement / 2))
