@@ -1,10 +1,11 @@
 #!/usr/bin/env python3
 """Fails where a page in docs/ names a lemma, a function or a test case that does not stand in the file named behind it, or a page a
-file that is not there.
+file or a heading that is not there.
 
 In a table row of a page, the backquoted words before a path `crates/..` in backquotes are names that this file must declare. A row may
-have several such paths; what stands behind the last is free. Links and backquoted paths of README, CONTRIBUTING and docs/ must be
-there; docs/changes.md may name what was.
+have several such paths; what stands behind the last is free. Links and backquoted paths of README, CONTRIBUTING, docs/ and
+tests/README.md must be there; docs/changes.md may name paths that were. A link to a heading must find it. The index at the top of
+docs/DECISIONS.md and docs/changes.md has a link to each section of the page.
 """
 
 import os
@@ -43,13 +44,41 @@ def missing(page):
     return [path for path in paths if not re.search(r"\b(?:NAME|LABEL|F)\b", path) and not os.path.exists(os.path.join(ROOT, path))]
 
 
+def read(page):
+    with open(os.path.join(ROOT, page), encoding="utf-8") as file:
+        return file.read()
+
+
+def headings(page, level="#+"):
+    """The anchors of a page's headings, as GitHub makes them: small letters, a hyphen for each space, other marks left out."""
+    return [re.sub(r"[^\w\- ]", "", title.lower()).replace(" ", "-") for title in re.findall(r"(?m)^%s (.+)$" % level, read(page))]
+
+
+def lost(page):
+    """The links of a page to headings that are not there, on another page or on its own."""
+    for path, anchor in re.findall(r"\]\(([^)#:\s]*)#([^)\s]+)\)", read(page)):
+        target = os.path.normpath(os.path.join(os.path.dirname(page), path)) if path else page
+        if os.path.exists(os.path.join(ROOT, target)) and anchor not in headings(target):
+            yield "%s#%s" % (path, anchor)
+
+
 def main():
     names = faults = 0
-    pages = ["README.md", "CONTRIBUTING.md"] + ["docs/" + f for f in sorted(os.listdir(os.path.join(ROOT, "docs"))) if f.endswith(".md")]
+    pages = ["README.md", "CONTRIBUTING.md", "tests/README.md"]
+    pages += ["docs/" + f for f in sorted(os.listdir(os.path.join(ROOT, "docs"))) if f.endswith(".md")]
     for page in pages:
         for path in missing(page) if page != "docs/changes.md" else []:
             print("%s: there is no %s" % (page, path))
             faults += 1
+        for link in lost(page):
+            print("%s: there is no heading for the link %s" % (page, link))
+            faults += 1
+    for page in ("docs/DECISIONS.md", "docs/changes.md"):
+        index = read(page).split("\n## ")[0]
+        for anchor in headings(page, "##"):
+            if "(#%s)" % anchor not in index:
+                print("%s: the index has no link to #%s" % (page, anchor))
+                faults += 1
     docs = os.path.join(ROOT, "docs")
     for entry in sorted(os.listdir(docs)):
         if not entry.endswith(".md"):
