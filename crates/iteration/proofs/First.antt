@@ -1,37 +1,33 @@
--- The needs of `first_answer`: the residual and the least score that it finds are those of the iterate after the first step. Assumes nothing.
+-- The needs of `first_answer`: E, the target's score and the least score that it finds are those of the iterate after the first step. Assumes nothing.
 use mathlib.Core.Path.{_≡_, refl, sym, ap, _∙_}
-use mathlib.Core.List.{List, _++_}
-use Prim.Native.Nat.{ℕ, _+_, _*_, _-_, _≤_, _<_}
+use mathlib.Core.List.{List}
+use Prim.Native.Nat.{ℕ, _<_}
 use native.Mathlib.Omega.{arith}
-use lib.IntN.{ℤ, pos, natAbs}
-use lib.ListN.{length, getD, take, drop, replicate, getD-replicate, length-append, length-replicate}
-use lib.Seq.{take-at}
-use Rattle.integers.proofs.Filling.{replicate-parts}
-use Rattle.files.specs.Bytes.{values}
+use lib.IntN.{ℤ, pos, one, _*ℤ_, +ℤ-idl, *ℤ-one, *ℤ-comm}
+use lib.ListN.{getD, replicate}
+use mir.Syntax.{w32, w64}
+use mir.Val.{SFits, toZ, ofZ}
+use Rattle.integers.proofs.Bounds.{fits}
 use Rattle.files.specs.Book.{boats, columns, rows}
 use Rattle.files.specs.Sheet.{sheet, files-refusal}
-use Rattle.files.specs.Limits.{entry-limit}
-use Rattle.frank_wolfe.specs.Vectors.{add, subtract, scale, ones}
+use Rattle.frank_wolfe.specs.Vectors.{weighted, ones}
+use Rattle.frank_wolfe.proofs.Vectors.{weighted-symmetric, weighted-zero}
 use Rattle.method.specs.declared.Test.the-variants.{Sharper}
 use Rattle.method.specs.declared.Answer.{Answer}
-use Rattle.method.specs.Problem.{weight}
 use Rattle.method.specs.Plain.{plain-problem}
-use Rattle.method.specs.Iterates as M
-use Rattle.method.specs.Iterates.{iterate, direction, residual}
+use Rattle.method.specs.Iterates.{iterate, residual, row, natural}
 use Rattle.method.specs.Answers.{answer-at}
-use Rattle.method.specs.Minimum.{minimum}
 use Rattle.method.proofs.Argmin.{argmin-at}
 use Rattle.method.proofs.Shares.{residual-start}
-use Rattle.method.proofs.Plain.{mixed, residual-entries, residual-length}
-use Rattle.sums.specs.Operands.{Span, Movable}
-use Rattle.scoring.specs.Scores.{least-of}
+use Rattle.scoring.specs.Scores.{least-of, pick-of}
 use Rattle.scoring.specs.declared.Least.{Least}
-use Rattle.iteration.specs.declared.Layout.{Layout}
 use Rattle.iteration.specs.declared.State.{State}
-use Rattle.iteration.specs.States.{file-layout, iterate-of, pick-at, boat-products, Holds}
-use Rattle.iteration.specs.Measures.{measure, Measurable}
-use Rattle.iteration.proofs.States.{book-fits, sheet-fits, row-span, target-span, target-is, movable, moved-is, bounded-front, fresh-holds, best-below, residual-next, first-scores}
-use Rattle.iteration.proofs.Mixed.{mixed-answerable, mixed-answer}
+use Rattle.iteration.specs.States.{iterate-of, scores-of, pick-at, boat-products, target-product, Holds}
+use Rattle.iteration.specs.Moves.{moved-distance, Moves, next-state}
+use Rattle.iteration.specs.Measures.{answer-by, Answerable}
+use Rattle.iteration.proofs.Measuring.{natural-pos}
+use Rattle.iteration.proofs.States.{sheet-fits, fresh-holds, best-below, steppable, next-holds, first-scores}
+use Rattle.iteration.proofs.Answering.{answerable, answer-right}
 
 module _ (b s : List ℕ) (ok : files-refusal b s ≡ 0) {i : ℕ} (h : i ≡ pick-at b s 0) where
   abbrev first : Least
@@ -49,51 +45,53 @@ module _ (b s : List ℕ) (ok : files-refusal b s ≡ 0) {i : ℕ} (h : i ≡ pi
   pub pick-below : i < boats b
   pick-below = rw picks at (best-below b s ok fresh-held)
 
-  module _ {l : Layout} (e : l ≡ file-layout b s) where
-    pub first-moved : Span b (l .rows + 2 * (i * l .columns)) (l .columns) × (Span s (l .target) (l .columns)
-        × Movable (replicate 64 (pos 0)) (values (l .columns) (drop (l .rows + 2 * (i * l .columns)) b)) (values (l .columns) (drop (l .target) s)) (l .columns) 1)
-    unfolding file-layout
-    first-moved = rw e (row-span b s ok i pick-below, (target-span b s ok, movable b s ok (replicate 64 (pos 0)) i 1 pick-below (omega arith) zero-entry))
-      where
-        zero-entry : (j : ℕ) → j < columns b → natAbs (getD (replicate 64 (pos 0)) j (pos 0)) + 4000 * 1 ≤ entry-limit
-        zero-entry j k = rw (getD-replicate 64 j (pos 0) (pos 0) (omega (arith, book-fits b s ok .most-columns))) (omega arith)
+  -- before the first step every score is 0
+  no-score : pos 0 ≡ weighted (ones (columns b)) (residual (plain-problem b s) 0 (iterate-of b s 0)) (row (rows b) (fresh .best))
+  unfolding plain-problem iterate
+  no-score =
+      rw (residual-start (plain-problem b s) (sheet-fits b s ok .target-length))
+      (sym (weighted-symmetric (ones (columns b)) (replicate (columns b) (pos 0)) (row (rows b) (fresh .best)) ∙ weighted-zero (ones (columns b)) (row (rows b) (fresh .best)) (columns b)))
 
-    module _ {r : List ℤ}
-        (er : r ≡ add (take (l .columns) (replicate 64 (pos 0))) (scale 1 (subtract (values (l .columns) (drop (l .rows + 2 * (i * l .columns)) b)) (values (l .columns) (drop (l .target) s)))) ++ drop (l .columns) (replicate 64 (pos 0)))
+  -- the product of the boat's own row and that of the target, as the machine has them
+  module _ {own target : ℤ} (eo : own ≡ getD (boat-products b s i) i (pos 0)) (et : target ≡ target-product b s i) where
+    own-is : own ≡ getD (boat-products b s (fresh .best)) (fresh .best) (pos 0)
+    own-is = rw picks eo
+
+    target-is : target ≡ target-product b s (fresh .best)
+    target-is = rw picks et
+
+    pub first-moves : Moves 0 1 (pos 0) (pos 0) (toZ w32 (ofZ w32 own)) (toZ w32 (ofZ w32 target))
+    first-moves = steppable b s ok fresh-held no-score own-is target-is (omega arith) .moves
+
+    pub target-cast : SFits w64 (toZ w32 (ofZ w32 target))
+    target-cast = fits w64 512000000 (first-moves .target-size) tt
+
+    -- E, the target's score and the least score
+    module _ {e : ℕ} (ee : pos e ≡ moved-distance 0 1 (pos 0) (pos 0) (toZ w32 (ofZ w32 own)) (toZ w32 (ofZ w32 target))) {a : ℤ} (ea : a ≡ toZ w32 (ofZ w32 target))
         {p : Least} (ep : p ≡ least-of (boat-products b s i)) {z : ℤ} (ez : z ≡ p .score) where
-      abbrev moved : List ℤ
-      moved = residual (plain-problem b s) 1 (iterate-of b s 1)
+      -- the state that the step leads to
+      abbrev next : State
+      next = next-state fresh (pos 0) (toZ w32 (ofZ w32 own)) (toZ w32 (ofZ w32 target)) (pick-of (iterate-of b s 1 .shares) (scores-of b s 1))
 
-      none-yet : replicate 64 (pos 0) ≡ residual (plain-problem b s) 0 (iterate-of b s 0) ++ replicate (64 - columns b) (pos 0)
-      unfolding plain-problem iterate
-      none-yet = rw (residual-start (plain-problem b s) (sheet-fits b s ok .target-length)) (replicate-parts (columns b) 64 (pos 0) (book-fits b s ok .most-columns))
+      held : Holds b s 1 next
+      held = next-holds b s ok fresh-held no-score own-is target-is (omega arith) refl refl
 
-      residual-is : r ≡ moved ++ replicate (64 - columns b) (pos 0)
-      unfolding file-layout
-      residual-is =
-          moved-is b s ok (residual (plain-problem b s) 0 (iterate-of b s 0)) (replicate (64 - columns b) (pos 0)) i 1 pick-below (residual-length b s ok 0) none-yet (rw e at er)
-          ∙ ap (λ (z : List ℤ). z ++ replicate (64 - columns b) (pos 0)) (sym (rw picks at (residual-next b s ok fresh-held)))
+      distance-is : e ≡ next .distance
+      unfolding next-state
+      distance-is = natural-pos ee
 
-      front : take (columns b) r ≡ moved
-      front = ap (take (columns b)) residual-is ∙ take-at moved (replicate (64 - columns b) (pos 0)) (columns b) (residual-length b s ok 1)
+      target-score-is : a ≡ next .«target_score»
+      unfolding next-state one
+      target-score-is = ea ∙ sym (+ℤ-idl (pos 1 *ℤ toZ w32 (ofZ w32 target)) ∙ *ℤ-comm (pos 1) (toZ w32 (ofZ w32 target)) ∙ *ℤ-one (toZ w32 (ofZ w32 target)))
 
-      long : length r ≡ 64
-      long = rw (residual-is, length-append, length-replicate, residual-length b s ok 1) (omega (arith, book-fits b s ok .most-columns))
+      least-is : z ≡ next .least
+      unfolding next-state least-of pick-of
+      least-is = ez ∙ ap (λ (x : Least). x .score) ep ∙ argmin-at (boat-products b s i) ∙ rw (← picks, first-scores b s ok fresh-held)
 
-      least-is : z ≡ minimum (M.scores (ones (columns b)) moved (rows b))
-      unfolding least-of direction
-      least-is = ez ∙ ap (λ (x : Least). x .score) ep ∙ argmin-at (boat-products b s i) ∙ ap minimum (rw picks at (first-scores b s ok fresh-held))
+      pub first-answerable : Answerable e 1 a z s
+      unfolding next-state
+      first-answerable = rw (distance-is, target-score-is, least-is) (answerable b s ok held (omega arith))
 
-      pub first-measurable : Measurable r 1 z s l
-      unfolding weight file-layout
-      first-measurable =
-          rw e
-          (record {
-            target = target-span b s ok;
-            entries = bounded-front b s ok 4000 r moved long front (residual-entries b s ok 1) (omega arith);
-            numbers = rw (front, target-is b s ok, least-is) (mixed-answerable b s ok (omega arith) (omega arith) (mixed b s ok 1));
-          })
-
-      pub first-right : {a : Answer} → a ≡ measure Sharper 1 1 (sheet s .tolerance) (take (l .columns) r) (values (l .columns) (drop (l .target) s)) z → a ≡ answer-at Sharper (plain-problem b s) 1 (iterate-of b s 1)
-      unfolding weight file-layout
-      first-right f = f ∙ rw (e, front, target-is b s ok, least-is) (mixed-answer b s ok (omega arith) (omega arith) (mixed b s ok 1) Sharper)
+      pub first-right : {x : Answer} → x ≡ answer-by Sharper 1 1 (sheet s .tolerance) e a z → x ≡ answer-at Sharper (plain-problem b s) 1 (iterate-of b s 1)
+      unfolding next-state
+      first-right f = f ∙ rw (distance-is, target-score-is, least-is) (answer-right b s ok held (omega arith))

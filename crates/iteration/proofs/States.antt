@@ -183,7 +183,7 @@ module _ (b s : List ℕ) (ok : files-refusal b s ≡ 0) where
   pub product-count : (i : ℕ) → length (boat-products b s i) ≡ boats b
   product-count i = length-scores (ones (columns b)) (subtract (row (rows b) i) (sheet s .target)) (rows b) ∙ book-fits .row-count
 
-  product-size : (i : ℕ) → i < boats b → (q : ℕ) → q < boats b → natAbs (getD (boat-products b s i) q (pos 0)) ≤ 512000000
+  pub product-size : (i : ℕ) → i < boats b → (q : ℕ) → q < boats b → natAbs (getD (boat-products b s i) q (pos 0)) ≤ 512000000
   unfolding plain-problem
   product-size i h q k =
       let f = in-range b s ok in

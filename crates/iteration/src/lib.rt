@@ -41,20 +41,6 @@ pub fn layout_of(book: &[u8], sheet: &[u8]) -> Layout
     }
 }
 
-// A boat's row less the target.
-fn difference_of(boat: usize, book: &[u8], sheet: &[u8], layout: Layout) -> [i16; 64]
-    requires { ⌜ files-refusal (now book) (now sheet) ≡ 0 ⌝ }
-    requires { ⌜ layout ≡ file-layout (now book) (now sheet) ⌝ }
-    requires { ⌜ boat < boats (now book) ⌝ }
-    ensures { λ d. ⌜ d ≡ boat-difference (now (book .entry)) (now (sheet .entry)) boat ++ replicate (64 - columns (now (book .entry))) (pos 0) ⌝ }
-{
-    let rows = layout.rows;
-    let target = layout.target;
-    let columns = layout.columns;
-    let row = rows + 2 * (boat * columns);
-    sums::difference(book, row, sheet, target, columns)
-}
-
 // The products <v - u, w> of a boat's row v less the target u with every row w, in the first slots of `to`, and that with the target.
 pub fn products_of(boat: usize, book: &[u8], sheet: &[u8], layout: Layout, to: &mut [i32]) -> i32
     requires { ⌜ files-refusal (now book) (now sheet) ≡ 0 ⌝ }
@@ -68,9 +54,11 @@ pub fn products_of(boat: usize, book: &[u8], sheet: &[u8], layout: Layout, to: &
     let target = layout.target;
     let boats = layout.boats;
     let columns = layout.columns;
-    let d = difference_of(boat, book, sheet, layout);
+    let row = rows + 2 * (boat * columns);
+    let mut d = [0i16; 64];
+    sums::difference(book, row, sheet, target, columns, &mut d);
     scoring::products(&d, book, rows, boats, columns, to);
-    sums::padded_inner(&d, sheet, target, columns)
+    sums::narrow_inner(&d, sheet, target, columns)
 }
 
 // The least of a boat's products. Of boat 0 it gives the first pick, before which no boat holds shares.
@@ -80,11 +68,10 @@ pub fn least_product_of(boat: usize, book: &[u8], sheet: &[u8], layout: Layout) 
     requires { ⌜ boat < boats (now book) ⌝ }
     ensures { λ x. ⌜ x ≡ least-of (boat-products (now (book .entry)) (now (sheet .entry)) boat) ⌝ }
 {
-    let rows = layout.rows;
     let boats = layout.boats;
-    let columns = layout.columns;
-    let d = difference_of(boat, book, sheet, layout);
-    scoring::least_product(&d, book, rows, boats, columns)
+    let mut products = [0i32; 256];
+    products_of(boat, book, sheet, layout, &mut products);
+    scoring::least_product(&products, boats)
 }
 
 // E of the residual r + k d, where d is a row v less the target u, from E of r: E + 2 k (<r, v> - <r, u>) + k² (<d, v> - <d, u>).
@@ -203,13 +190,13 @@ pub fn first_answer(boat: usize, book: &[u8], sheet: &[u8], layout: Layout) -> A
     requires { ⌜ boat ≡ pick-at (now book) (now sheet) 0 ⌝ }
     ensures { λ x. ⌜ x ≡ answer-at Sharper (plain-problem (now (book .entry)) (now (sheet .entry))) 1 (iterate-of (now (book .entry)) (now (sheet .entry)) 1) ⌝ }
 {
-    let rows = layout.rows;
-    let target = layout.target;
-    let columns = layout.columns;
-    let at = rows + 2 * (boat * columns);
-    let pick = least_product_of(boat, book, sheet, layout);
-    let r = sums::moved([0i32; 64], book, at, sheet, target, columns, 1);
-    measured(Test::Sharper, 1, 1, &r, pick.score, sheet, layout)
+    let boats = layout.boats;
+    let mut products = [0i32; 256];
+    let target = products_of(boat, book, sheet, layout, &mut products);
+    let own = products[boat];
+    let pick = scoring::least_product(&products, boats);
+    let e = distance_after(0, 1, 0, 0, own, target);
+    answered(Test::Sharper, 1, 1, e, target as i64, pick.score, sheet)
 }
 
 impl State {

@@ -57,24 +57,20 @@ pub fn products(d: &[i16], book: &[u8], at: usize, boats: usize, columns: usize,
     }
 }
 
-// One pass over the rows at `at`, as least_score makes it, for a small vector d.
-pub fn least_product(d: &[i16], book: &[u8], at: usize, boats: usize, columns: usize) -> Least
-    requires { ⌜ Grid (now book) at boats columns ⌝ }
-    requires { ⌜ Padded columns (now d) ⌝ }
-    requires { ⌜ Rows-bounded (rows-from boats columns (drop at (now book))) columns ⌝ }
-    ensures { λ x. ⌜ x ≡ least-of (scores (ones columns) (take columns (now (d .entry))) (rows-from boats columns (drop at (now (book .entry))))) ⌝ }
+// The boat of least product, of the first products, one a boat; the lowest-numbered of equals.
+pub fn least_product(products: &[i32], boats: usize) -> Least
+    requires { ⌜ (1 ≤ boats) × Bounded 512000000 boats (now products) ⌝ }
+    ensures { λ x. ⌜ x ≡ least-of (take boats (now (products .entry))) ⌝ }
 {
     let mut boat = 0;
-    let mut least = sums::padded_inner(d, book, at, columns);
-    let mut p = at + 2 * columns;
+    let mut least = products[0];
     let mut i = 1;
     while i < boats {
-        let s = sums::padded_inner(d, book, p, columns);
-        if s < least {
+        let product = products[i];
+        if product < least {
             boat = i;
-            least = s;
+            least = product;
         }
-        p += 2 * columns;
         i += 1;
     }
     Least {

@@ -2,8 +2,8 @@
 // All functions are helpers for other crates, whose callers prove what they require.
 ghost use mathlib.Core.Path.{_≡_};
 ghost use mathlib.Core.List.{_++_};
-ghost use Prim.Native.Nat.{_-_, _*_, _≤_};
-ghost use lib.ListN.{take, drop, replicate};
+ghost use Prim.Native.Nat.{_*_, _≤_};
+ghost use lib.ListN.{length, take, drop};
 ghost use lib.IntN.{pos, natAbs, _+ℤ_, _-ℤ_, _*ℤ_};
 ghost use Rattle.files.specs.Bytes.{values};
 ghost use Rattle.files.specs.Limits.{entry-limit};
@@ -26,7 +26,7 @@ pub fn inner_at(r: &[i32], bytes: &[u8], at: usize, columns: usize) -> i64
 }
 
 // <d, v> in 32 bits, where v is the row of `columns` values at `at`.
-fn narrow_inner(d: &[i16], bytes: &[u8], at: usize, columns: usize) -> i32
+pub fn narrow_inner(d: &[i16], bytes: &[u8], at: usize, columns: usize) -> i32
     requires { ⌜ Span (now bytes) at columns ⌝ }
     requires { ⌜ Bounded 4000 columns (now d) × Multipliable columns (now d) (values columns (drop at (now bytes))) ⌝ }
     ensures { λ x. ⌜ x ≡ inner (take columns (now (d .entry))) (values columns (drop at (now (bytes .entry)))) ⌝ }
@@ -117,20 +117,19 @@ pub fn moved(
     next
 }
 
-// v - u, where v is the row at `at` of a book and u the target at `from` of a sheet.
-pub fn difference(book: &[u8], at: usize, sheet: &[u8], from: usize, columns: usize) -> [i16; 64]
+// v - u in the first slots of `to`, where v is the row at `at` of a book and u the target at `from` of a sheet.
+pub fn difference(book: &[u8], at: usize, sheet: &[u8], from: usize, columns: usize, to: &mut [i16])
     requires { ⌜ Span (now book) at columns ⌝ }
     requires { ⌜ Span (now sheet) from columns ⌝ }
     requires { ⌜ Bounded 2000 columns (values columns (drop at (now book))) × Bounded 2000 columns (values columns (drop from (now sheet))) ⌝ }
-    ensures { λ x. ⌜ x ≡ subtract (values columns (drop at (now (book .entry)))) (values columns (drop from (now (sheet .entry)))) ++ replicate (64 - columns) (pos 0) ⌝ }
+    requires { ⌜ columns ≤ length (now to) ⌝ }
+    ensures { λ _. ⌜ now (to .exit) ≡ subtract (values columns (drop at (now (book .entry)))) (values columns (drop from (now (sheet .entry)))) ++ drop columns (now (to .entry)) ⌝ }
 {
-    let mut d = [0i16; 64];
     let mut i = 0;
     while i < columns {
-        d[i] = (files::value_at(book, at + 2 * i) - files::value_at(sheet, from + 2 * i)) as i16;
+        to[i] = (files::value_at(book, at + 2 * i) - files::value_at(sheet, from + 2 * i)) as i16;
         i += 1;
     }
-    d
 }
 
 // G of a residual r of total w: E + w (<r, u> - the least score).

@@ -1,50 +1,32 @@
 -- `scoring::least_product` meets its contract; `Inv-loop` is what its loop keeps.
-use borrow.Author.Needs.{needs, sfits-of}
+use borrow.Author.Needs.{needs}
 use mathlib.Core.Logic.{⊎-elim}
-use mir.Syntax.{w32}
-use mir.Val.{SFits, toZ}
 use mir.Facts.{toZ-ofZ}
-use lib.ListN.{take}
-use lib.Seq.{length-take-le}
 use Prim.Native.Nat.{_-_}
 use native.Mathlib.Omega.{arith}
-use Rattle.scoring.proofs.Passes.{Passed, first-place, row-span, row-range, passed-start, passed-better, passed-same, passed-end}
+use Rattle.scoring.proofs.ProductScan.{Scanned, scanned-start, scanned-better, scanned-same, scanned-end, least-fits}
 use Rattle.scoring.proofs.least_product.Statement.{statement}
 use Rattle.scoring.proofs.least_product.Tie as tie
 use Rattle.scoring.proofs.least_product.Reads as reads
 use Rattle.scoring.proofs.least_product.Lts as lts
-use Rattle.sums.proofs.padded_inner.Reads as padded-inner-reads
 
 abbrev Inv-loop : tie.InvT-loop
-Inv-loop d book at boats columns boat₀ least₀ p₀ i₀ boat least p i = Passed (take columns d) book at boats columns w32 boat least p i × SFits w32 (toZ w32 least)
+Inv-loop products boats boat₀ least₀ i₀ boat least i = Scanned products boats boat least i
 
 abbrev μ-loop : tie.MeasureT-loop
-μ-loop d book at boats columns boat₀ least₀ p₀ i₀ boat least p i = boats - i
+μ-loop products boats boat₀ least₀ i₀ boat least i = boats - i
 
-padded-inner-requires : tie.Need-padded-inner-requires Inv-loop μ-loop
-padded-inner-requires c κs = (row-span (c .before .pre .0) (c .before .pre .0 .some-boats) (first-place (c .before .pre .0)), (c .before .pre .1 .0, row-range (c .before .pre .0) (c .before .pre .0 .some-boats) (first-place (c .before .pre .0)) (c .before .pre .1 .1)))
-
-mul-p : tie.Need-mul-p Inv-loop μ-loop
-mul-p c = search needs
-
-add-p : tie.Need-add-p Inv-loop μ-loop
-add-p c = omega (arith, row-span (c .before .before .pre .0) (c .before .before .pre .0 .some-boats) (first-place (c .before .before .pre .0)))
+shared-slice-copy-out-least : tie.Need-shared-slice-copy-out-least Inv-loop μ-loop
+shared-slice-copy-out-least c = omega (arith, c .pre .0, c .pre .1 .long)
 
 loop-holds : tie.Need-loop-holds Inv-loop μ-loop
-loop-holds c =
-    let f = toZ-ofZ {w = w32} (sfits-of (c .padded-inner .ok)) in
-    (passed-start (c .before .before .pre .0) (length-take-le _ _ (c .before .before .pre .1 .0 .entries .long)) (c .padded-inner .ensures) f, rw f (sfits-of (c .padded-inner .ok)))
+loop-holds c = scanned-start (c .before .pre .1) (c .before .pre .0)
 
-padded-inner-requires-2 : tie.Need-padded-inner-requires-2 Inv-loop μ-loop
-padded-inner-requires-2 c κs =
-    let start = c .before .before .before .before in
-    (row-span (start .pre .0) (c .loop-test .taken) (c .before .loop .inv .0 .place), (start .pre .1 .0, row-range (start .pre .0) (c .loop-test .taken) (c .before .loop .inv .0 .place) (start .pre .1 .1)))
+mul-product : tie.Need-mul-product Inv-loop μ-loop
+mul-product c = search needs
 
-mul-p-2 : tie.Need-mul-p-2 Inv-loop μ-loop
-mul-p-2 c = search needs
-
-add-p-2 : tie.Need-add-p-2 Inv-loop μ-loop
-add-p-2 c = omega (arith, row-span (c .before .before .before .before .before .before .pre .0) (c .before .before .loop-test .taken) (c .before .before .before .loop .inv .0 .place))
+shared-slice-copy-out-product : tie.Need-shared-slice-copy-out-product Inv-loop μ-loop
+shared-slice-copy-out-product c = omega (arith, c .loop-test .taken, c .before .before .before .pre .1 .long)
 
 add-i : tie.Need-add-i Inv-loop μ-loop
 add-i c = search needs
@@ -53,21 +35,20 @@ loop-less : tie.Need-loop-less Inv-loop μ-loop
 loop-less c = search needs
 
 loop-again : tie.Need-loop-again Inv-loop μ-loop
-loop-again c = let g = c .before .before .before .before .before .before .pre .0 in
+loop-again c =
+    let b = c .before .before .before .before .before .pre .1 in
     let d = c .before .before .before .loop .inv in
     let h = c .before .before .loop-test .taken in
-    let e = c .before .padded-inner2 .ensures in
-    let f = toZ-ofZ {w = w32} (sfits-of (c .before .padded-inner2 .ok)) in
     ⊎-elim
-    (λ w. rw (w .1, w .2) (passed-better g (d .0) h e f (rw f at (w .0 .taken)), rw f (sfits-of (c .before .padded-inner2 .ok))))
-    (λ w. rw (w .1, w .2) (passed-same g (d .0) h e (rw f at (w .0 .left)), d .1))
+    (λ w. rw (w .1, w .2) (scanned-better b d h (w .0 .taken)))
+    (λ w. rw (w .1, w .2) (scanned-same b d h (w .0 .left)))
     (c .if1 .came)
 
-cast-t14 : tie.Need-cast-t14 Inv-loop μ-loop
-cast-t14 c = search (needs, c .before .loop .inv .1)
+cast-t13 : tie.Need-cast-t13 Inv-loop μ-loop
+cast-t13 c = least-fits (c .before .before .before .pre .1) (c .before .loop .inv)
 
 returns : tie.Need-returns Inv-loop μ-loop
-returns c = passed-end (c .before .before .before .before .pre .0) (c .before .loop .inv .0) (c .loop-test .left) (toZ-ofZ (cast-t14 c))
+returns c = scanned-end (c .before .before .before .pre .1) (c .before .loop .inv) (c .loop-test .left) (toZ-ofZ (cast-t13 c))
 
 pub least-product-spec : {M : Type 1} → statement M
 least-product-spec =
@@ -75,15 +56,12 @@ least-product-spec =
     (tie.spec
     Inv-loop
     μ-loop
-    padded-inner-requires
-    mul-p
-    add-p
+    shared-slice-copy-out-least
     loop-holds
-    padded-inner-requires-2
-    mul-p-2
-    add-p-2
+    mul-product
+    shared-slice-copy-out-product
     add-i
     loop-less
     loop-again
-    cast-t14
+    cast-t13
     returns)

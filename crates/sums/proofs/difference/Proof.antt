@@ -2,7 +2,7 @@
 use borrow.Author.Needs.{needs}
 use Prim.Native.Nat.{_-_}
 use native.Mathlib.Omega.{arith}
-use Rattle.sums.proofs.Differences.{Differing, differing-start, differing-end, differing-more, wide-fits, narrow-fits}
+use Rattle.sums.proofs.Differences.{Differing, differing-start, differing-long, differing-end, differing-more, wide-fits, narrow-fits}
 use Rattle.sums.proofs.difference.Statement.{statement}
 use Rattle.sums.proofs.difference.Tie as tie
 use Rattle.sums.proofs.difference.Reads as reads
@@ -10,10 +10,10 @@ use Rattle.sums.proofs.difference.Lts as lts
 use Rattle.files.proofs.value_at.Reads as value-at-reads
 
 abbrev Inv-loop : tie.InvT-loop
-Inv-loop book at sheet from columns d₀ j₀ d j = Differing book at sheet from columns j d
+Inv-loop book at sheet from columns to₀ i₀ to i = Differing book at sheet from columns to₀ i to
 
 abbrev μ-loop : tie.MeasureT-loop
-μ-loop book at sheet from columns d₀ j₀ d j = columns - j
+μ-loop book at sheet from columns to₀ i₀ to i = columns - i
 
 loop-holds : tie.Need-loop-holds Inv-loop μ-loop
 loop-holds c = differing-start
@@ -36,21 +36,23 @@ add-value-at-2 c = search needs
 value-at-requires-2 : tie.Need-value-at-requires-2 Inv-loop μ-loop
 value-at-requires-2 c κs = search needs
 
-sub-d : tie.Need-sub-d Inv-loop μ-loop
-sub-d c =
-    let start = c .before .before .before .before .before .before in
-    wide-fits (c .before .before .before .loop .inv) (start .pre .0 .few-columns) (start .pre .1 .1 .0) (start .pre .1 .1 .1) (c .before .before .loop-test .taken) (c .before .value-at .ensures) (c .value-at2 .ensures)
+sub-to : tie.Need-sub-to Inv-loop μ-loop
+sub-to c =
+    let p = c .before .before .before .before .before .before .pre .1 .1 in
+    wide-fits (c .before .before .before .loop .inv) (p .1) (p .0 .0) (p .0 .1) (c .before .before .loop-test .taken) (c .before .value-at .ensures) (c .value-at2 .ensures)
 
-cast-d : tie.Need-cast-d Inv-loop μ-loop
-cast-d c =
-    let start = c .before .before .before .before .before .before in
-    narrow-fits (c .before .before .before .loop .inv) (start .pre .0 .few-columns) (start .pre .1 .1 .0) (start .pre .1 .1 .1) (c .before .before .loop-test .taken) (c .before .value-at .ensures) (c .value-at2 .ensures)
+cast-to : tie.Need-cast-to Inv-loop μ-loop
+cast-to c =
+    let p = c .before .before .before .before .before .before .pre .1 .1 in
+    narrow-fits (c .before .before .before .loop .inv) (p .1) (p .0 .0) (p .0 .1) (c .before .before .loop-test .taken) (c .before .value-at .ensures) (c .value-at2 .ensures)
 
-mul-d : tie.Need-mul-d Inv-loop μ-loop
-mul-d c = search needs
+mul-t17 : tie.Need-mul-t17 Inv-loop μ-loop
+mul-t17 c = search needs
 
-array-set-from-d : tie.Need-array-set-from-d Inv-loop μ-loop
-array-set-from-d c = omega (arith, c .before .before .before .before .before .before .pre .0 .few-columns)
+slice-set-from-to : tie.Need-slice-set-from-to Inv-loop μ-loop
+slice-set-from-to c =
+    let room = c .before .before .before .before .before .before .pre .1 .1 .1 in
+    omega (arith, c .before .before .loop-test .taken, differing-long (c .before .before .before .loop .inv) room, room)
 
 add-i : tie.Need-add-i Inv-loop μ-loop
 add-i c = search needs
@@ -60,11 +62,14 @@ loop-less c = search needs
 
 loop-again : tie.Need-loop-again Inv-loop μ-loop
 loop-again c =
-    let start = c .before .before .before .before .before .before in
-    differing-more (c .before .before .before .loop .inv) (start .pre .0 .few-columns) (start .pre .1 .1 .0) (start .pre .1 .1 .1) (c .before .before .loop-test .taken) (c .before .value-at .ensures) (c .value-at2 .ensures)
+    let p = c .before .before .before .before .before .before .pre .1 .1 in
+    differing-more (c .before .before .before .loop .inv) (p .1) (p .0 .0) (p .0 .1) (c .before .before .loop-test .taken) (c .before .value-at .ensures) (c .value-at2 .ensures)
+
+same-length : tie.Need-same-length Inv-loop μ-loop
+same-length c = differing-long (c .before .loop .inv) (c .before .before .before .before .pre .1 .1 .1)
 
 returns : tie.Need-returns Inv-loop μ-loop
-returns c = differing-end (c .before .loop .inv) (c .before .before .before .before .pre .0 .few-columns) (c .loop-test .left)
+returns c = differing-end (c .before .loop .inv) (c .loop-test .left)
 
 pub difference-spec : {M : Type 1} → statement M
 difference-spec =
@@ -79,11 +84,12 @@ difference-spec =
     mul-value-at-2
     add-value-at-2
     value-at-requires-2
-    sub-d
-    cast-d
-    mul-d
-    array-set-from-d
+    sub-to
+    cast-to
+    mul-t17
+    slice-set-from-to
     add-i
     loop-less
     loop-again
+    same-length
     returns)
