@@ -143,7 +143,7 @@ module _ {r f : ℕ} {csv out : List ℕ} {sep : ℕ} {place : Place} {mode : Mo
         (e, (omega (arith, few-bytes r f csv), writing-end (d .so-far) none))
 
   pub celling-past : {b : Bool} → b ≡ is-past r f place → b ≡ true → (n ≡ length (cell-text r f csv)) × ((n ≤ 200) × (now ≡ placed out 0 (cell-text r f csv)))
-  celling-past e h = celling-all (past-no-bytes r f f n place (tokens sep mode (drop i csv)) (sym e ∙ h) (omega arith))
+  celling-past e h = celling-all (past-no-bytes r f n place (tokens sep mode (drop i csv)) (sym e ∙ h))
 
   pub celling-end : length csv ≤ i → (n ≡ length (cell-text r f csv)) × ((n ≤ 200) × (now ≡ placed out 0 (cell-text r f csv)))
   celling-end h = celling-all (no-bytes-left r f n sep place mode csv i h)

@@ -4,3 +4,4 @@ pub mod Past
 pub mod Places
 pub mod Celling
 pub mod Widths
+pub mod Scans

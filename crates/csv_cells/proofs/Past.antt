@@ -8,7 +8,7 @@ use borrow.Author.Tests.{ltb-true, eqb-true, eqb-false, eq-eqb, ne-eqb}
 use lib.Dec.{ltb, eqb}
 use Rattle.csv_fields.specs.Fields.{byte-if}
 use Rattle.csv_cells.specs.declared.Place.{Place}
-use Rattle.csv_cells.specs.Cells.{moved, is-in, is-past, cell-from, line-from}
+use Rattle.csv_cells.specs.Cells.{moved, is-in, is-past, cell-from}
 use Rattle.csv_cells.proofs.Steps.{moved-faulty, moved-near}
 
 -- ---- the test
@@ -76,18 +76,5 @@ unfolding cell-from
 none-from m h [] = refl
 none-from {r} {f} m {p} h (k ∷ ks) = rw (past-none h k, no-byte m k) (none-from (m + 0) (past-moved h k) ks)
 
--- of the field that is tested, and of those before it
-pub past-no-bytes : (r f g m : ℕ) (p : Place) (ks : List ℕ) → is-past r g p ≡ true → f ≤ g → cell-from r f m p ks ≡ []
-past-no-bytes r f g m p ks h l = none-from m (before (past r g p h)) ks
-  where
-    before : Past r g p → Past r f p
-    before (wrong i) = wrong i
-    before (beyond i j) = beyond i (λ q. omega (arith, j q))
-
--- ---- a row that is before a place has its line
-pub past-line : (r n : ℕ) (p : Place) (ks : List ℕ) → r < p .row → line-from r n p ks ≡ n
-unfolding line-from
-past-line r n p [] h = refl
-past-line r n p (k ∷ ks) h =
-    let q = moved-near p k .onward in
-    rw (ne-eqb (p .row) r (λ e. omega arith)) (past-line r n (moved p k) ks (omega arith))
+pub past-no-bytes : (r f m : ℕ) (p : Place) (ks : List ℕ) → is-past r f p ≡ true → cell-from r f m p ks ≡ []
+past-no-bytes r f m p ks h = none-from m (past r f p h) ks

@@ -12,7 +12,6 @@ use Rattle.csv_fleet_reader.proofs.Reading.{mark-inside, next-tokens, last-toke
 use Rattle.csv_cells.specs.declared.Place.{Place}
 use Rattle.csv_cells.specs.Cells.{start, moved, place-from, last-place, line-at, line-from, line-of}
 use Rattle.csv_cells.proofs.Steps.{moved-near}
-use Rattle.csv_cells.proofs.Past.{past-line}
 
 -- after i bytes a place is not far
 pub record Within (csv : List ℕ) (p : Place) (i : ℕ) : Type 0 where
@@ -51,20 +50,16 @@ module _ {csv : List ℕ} {sep : ℕ} {p : Place} {m : Mode} {i : ℕ} (d : Plac
 
 -- ---- the line of a row
 pub record Lining (r : ℕ) (csv : List ℕ) (sep : ℕ) (p : Place) (m : Mode) (n i : ℕ) : Type 0 where
-  pub near : Within csv p i
   pub later : line-from r n p (tokens sep m (drop i csv)) ≡ line-of r csv
 
 pub lining-start : {r : ℕ} {csv : List ℕ} {sep i : ℕ} {p : Place} → sep ≡ separator csv → p ≡ start → i ≡ mark-size csv → Lining r csv sep p Start 0 i
 unfolding line-of csv-tokens
-lining-start {csv = csv} es ep ei = rw (es, ep, ei) (record { near = within-start csv; later = refl })
+lining-start es ep ei = rw (es, ep, ei) (record { later = refl })
 
 module _ {r : ℕ} {csv : List ℕ} {sep : ℕ} {p : Place} {m : Mode} {n i : ℕ} (d : Lining r csv sep p m n i) where
   pub lining-more : i < length csv → {s : Step} → s ≡ step sep m (getD csv i 0) → {l : ℕ} → l ≡ line-at r n p → {q : Place} → q ≡ moved p (s .token) → Lining r csv sep q (s .mode) l (i + 1)
   unfolding line-from
-  lining-more h {s} es el eq = rw (el, eq) (record { near = within-more (d .near) h (s .token); later = rw (next-tokens sep m csv i h es) at (d .later) })
-
-  pub lining-past : r < p .row → n ≡ line-of r csv
-  lining-past h = sym (past-line r n p (tokens sep m (drop i csv)) h) ∙ d .later
+  lining-more h es el eq = rw (el, eq) (record { later = rw (next-tokens sep m csv i h es) at (d .later) })
 
   pub lining-end : length csv ≤ i → {l : ℕ} → l ≡ line-at r n p → l ≡ line-of r csv
   unfolding line-from

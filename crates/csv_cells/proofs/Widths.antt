@@ -15,9 +15,8 @@ use Rattle.csv_fleet_reader.proofs.Reading.{next-tokens}
 use Rattle.csv_fields.specs.Fields.{byte-if}
 use Rattle.csv_fields.proofs.Fielding.{both}
 use Rattle.csv_cells.specs.declared.Place.{Place}
-use Rattle.csv_cells.specs.Cells.{start, moved, is-in, is-past, cell-from, cell-text, width-to, width, width-at}
+use Rattle.csv_cells.specs.Cells.{start, moved, is-in, cell-from, cell-text, width-to, width, width-at}
 use Rattle.csv_cells.proofs.Steps.{moved-near, few-fields}
-use Rattle.csv_cells.proofs.Past.{past-no-bytes}
 use Rattle.csv_cells.proofs.Places.{Within, within-start, within-more}
 use Rattle.csv_cells.proofs.Celling.{no-bytes-left}
 
@@ -173,9 +172,6 @@ module _ {r : ℕ} {csv : List ℕ} {sep : ℕ} {p : Place} {m : Mode} {n i : �
     known : (n ≡ width r csv) × (n ≤ 65)
     unfolding width
     known = (sym (widest 65 (d .most) (omega arith)), d .most)
-
-  pub widening-past : {b : Bool} → b ≡ is-past r 64 p → b ≡ true → (n ≡ width r csv) × (n ≤ 65)
-  widening-past e h = known (λ f l. past-no-bytes r f 64 0 p (tokens sep m (drop i csv)) (sym e ∙ h) l)
 
   pub widening-end : length csv ≤ i → (n ≡ width r csv) × (n ≤ 65)
   widening-end h = known (λ f l. no-bytes-left r f 0 sep p m csv i h)

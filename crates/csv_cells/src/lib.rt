@@ -1,7 +1,7 @@
 // The fields of a CSV by place: how many rows it has, what stands in each field, the line of a row.
 //
 // Place::start asks nothing of its caller. Helpers for other crates, whose callers prove what they require: Place::moved,
-// last_place, put_cell, line_of, width.
+// put_cell, scan, last_place, line_of, width.
 ghost use mathlib.Core.Path.{_≡_};
 ghost use Prim.Native.Nat.{_≤_, _<_};
 ghost use lib.ListN.{length};
@@ -154,24 +154,6 @@ impl Place {
     }
 }
 
-// How many rows a CSV has, or its first fault with the line and field.
-pub fn last_place(csv: &[u8]) -> Place
-    requires { ⌜ length (now csv) ≤ 200000 ⌝ }
-    ensures { λ r. ⌜ r ≡ last-place (now (csv .entry)) ⌝ }
-{
-    let separator = csv::separator(csv);
-    let mut place = Place::start();
-    let mut mode = Mode::Start;
-    let mut i = csv::mark_size(csv);
-    while i < csv.len() {
-        let step = csv::read_byte(separator, mode, csv[i]);
-        place = place.moved(step.token);
-        mode = step.mode;
-        i += 1;
-    }
-    place.moved(csv::ending(mode))
-}
-
 // Whether a token is a byte of a field: `row` and `field` say which, `place` is the token's, and `fault` that of the place after it.
 fn is_in(row: usize, field: usize, place: Place, token: u32, fault: u32) -> bool
     requires { ⌜ fault ≡ moved place token .fault ⌝ }
@@ -241,29 +223,6 @@ fn line_at(row: usize, line: usize, place: Place) -> usize
     line
 }
 
-// The line of a row.
-pub fn line_of(csv: &[u8], row: usize) -> usize
-    requires { ⌜ length (now csv) ≤ 200000 ⌝ }
-    ensures { λ r. ⌜ r ≡ line-of row (now (csv .entry)) ⌝ }
-{
-    let separator = csv::separator(csv);
-    let mut place = Place::start();
-    let mut mode = Mode::Start;
-    let mut line = 0;
-    let mut i = csv::mark_size(csv);
-    while i < csv.len() {
-        if row < place.row {
-            return line;
-        }
-        let step = csv::read_byte(separator, mode, csv[i]);
-        line = line_at(row, line, place);
-        place = place.moved(step.token);
-        mode = step.mode;
-        i += 1;
-    }
-    line_at(row, line, place)
-}
-
 // How many fields a row has as far as it is known: up to the field of a token that is a byte of the row, else what it was. `fault` is that of the
 // place after the token.
 fn width_at(row: usize, n: usize, place: Place, token: u32, fault: u32) -> usize
@@ -277,28 +236,68 @@ fn width_at(row: usize, n: usize, place: Place, token: u32, fault: u32) -> usize
     n
 }
 
+// What a pass over a whole CSV finds: the last place, and the line and the width of a row.
+pub struct Scanned {
+    pub place: Place,
+    pub line: usize,
+    pub width: usize,
+}
+
+// One pass over a CSV.
+pub fn scan(csv: &[u8], row: usize) -> Scanned
+    requires { ⌜ length (now csv) ≤ 200000 ⌝ }
+    ensures { λ r. ⌜ r .place ≡ last-place (now (csv .entry)) ⌝ }
+    ensures { λ r. ⌜ r .line ≡ line-of row (now (csv .entry)) ⌝ }
+    ensures { λ r. ⌜ r .width ≡ width row (now (csv .entry)) ⌝ }
+    ensures { λ r. ⌜ r .width ≤ 65 ⌝ }
+{
+    let separator = csv::separator(csv);
+    let mut place = Place::start();
+    let mut mode = Mode::Start;
+    let mut line = 0;
+    let mut n = 0;
+    let mut i = csv::mark_size(csv);
+    while i < csv.len() {
+        let step = csv::read_byte(separator, mode, csv[i]);
+        let token = step.token;
+        let next = place.moved(token);
+        line = line_at(row, line, place);
+        n = width_at(row, n, place, token, next.fault);
+        place = next;
+        mode = step.mode;
+        i += 1;
+    }
+    Scanned {
+        place: place.moved(csv::ending(mode)),
+        line: line_at(row, line, place),
+        width: n,
+    }
+}
+
+// How many rows a CSV has, or its first fault with the line and field.
+pub fn last_place(csv: &[u8]) -> Place
+    requires { ⌜ length (now csv) ≤ 200000 ⌝ }
+    ensures { λ r. ⌜ r ≡ last-place (now (csv .entry)) ⌝ }
+{
+    let found = scan(csv, 0);
+    found.place
+}
+
+// The line of a row.
+pub fn line_of(csv: &[u8], row: usize) -> usize
+    requires { ⌜ length (now csv) ≤ 200000 ⌝ }
+    ensures { λ r. ⌜ r ≡ line-of row (now (csv .entry)) ⌝ }
+{
+    let found = scan(csv, row);
+    found.line
+}
+
 // How many fields a row has up to the last with bytes.
 pub fn width(csv: &[u8], row: usize) -> usize
     requires { ⌜ length (now csv) ≤ 200000 ⌝ }
     ensures { λ r. ⌜ r ≡ width row (now (csv .entry)) ⌝ }
     ensures { λ r. ⌜ r ≤ 65 ⌝ }
 {
-    let separator = csv::separator(csv);
-    let mut place = Place::start();
-    let mut mode = Mode::Start;
-    let mut n = 0;
-    let mut i = csv::mark_size(csv);
-    while i < csv.len() {
-        if is_past(row, 64, place) {
-            return n;
-        }
-        let step = csv::read_byte(separator, mode, csv[i]);
-        let token = step.token;
-        let next = place.moved(token);
-        n = width_at(row, n, place, token, next.fault);
-        place = next;
-        mode = step.mode;
-        i += 1;
-    }
-    n
+    let found = scan(csv, row);
+    found.width
 }

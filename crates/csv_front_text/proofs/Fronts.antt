@@ -6,7 +6,8 @@ use Prim.Native.Nat.{ℕ, _+_, _-_, _≤_, _<_}
 use native.Mathlib.Omega.{arith}
 use borrow.Author.Tests.{le-leb, lt-leb, leb-true}
 use lib.Dec.{leb}
-use lib.ListN.{length, length-append}
+use lib.ListN.{length, take, length-append}
+use lib.Seq.{take-all}
 use Rattle.buffers.specs.Placed.{placed}
 use Rattle.buffers.proofs.Placing.{placed-nil, placed-next, placed-length}
 use Rattle.csv_front_text.specs.declared.Front.{Front}
@@ -46,11 +47,9 @@ module _ {f : Front} (csv out : List ℕ) where
     unfolding front-text
     text-names = rw e
 
-    pub names-room : length (front-text f csv) ≤ length out → length (names-text csv) ≤ length out
-    names-room h = rw text-names at h
-
-    pub names-put : {n : ℕ} {new : List ℕ} → n ≡ length (names-text csv) → new ≡ placed out 0 (names-text csv) → (n ≡ length (front-text f csv)) × (new ≡ placed out 0 (front-text f csv))
-    names-put k h = rw text-names (k, h)
+    pub names-put : length (front-text f csv) ≤ length out → {n : ℕ} {new : List ℕ} → n ≡ length (names-text csv) → new ≡ placed out 0 (take (length out) (names-text csv)) →
+        (n ≡ length (front-text f csv)) × (new ≡ placed out 0 (front-text f csv))
+    names-put l k h = rw text-names (k, rw (take-all (length out) (names-text csv) (rw text-names at l)) at h)
 
   pub nothing-put : f ≡ Nothing → (0 ≡ length (front-text f csv)) × (out ≡ placed out 0 (front-text f csv))
   unfolding front-text

@@ -1,17 +1,17 @@
 -- The bytes of a CSV that are no values, one after the other.
-use mathlib.Core.Path.{_≡_, sym, ap, _∙_}
+use mathlib.Core.Path.{_≡_, refl, sym, ap, _∙_}
 use mathlib.Core.Bool.{Bool, true, false, cond}
 use mathlib.Core.List.{List, [], _∷_, _++_}
-use Prim.Native.Nat.{ℕ, _+_, _≤_, _<_}
+use Prim.Native.Nat.{ℕ, _+_, _-_, _≤_, _<_}
 use native.Mathlib.Numerals.{add-one}
+use native.Mathlib.Nat.{min-le-left, sub-zero}
 use native.Mathlib.Omega.{arith}
-use borrow.Author.Tests.{eq-eqb, ne-eqb}
-use lib.Dec.{eqb}
-use lib.ListN.{length, getD, drop, set, length-append, drop-of-length-le}
-use lib.Seq.{drop-cons}
+use borrow.Author.Tests.{eq-eqb, ne-eqb, leb-true, leb-false}
+use lib.Dec.{eqb, leb}
+use lib.ListN.{length, getD, take, drop, set, length-append, length-take, drop-of-length-le}
+use lib.Seq.{drop-cons, take-all, take-nil, take-append-le, take-append-add}
 use Rattle.buffers.specs.Placed.{placed}
-use Rattle.buffers.proofs.Placing.{placed-nil, placed-set}
-use Rattle.buffers.proofs.Writing.{Writing, writing-start, writing-more, writing-end, writing-room}
+use Rattle.buffers.proofs.Placing.{placed-nil, placed-length, placed-then, placed-set}
 use Rattle.csv.specs.declared.Mode.{Mode}
 use Rattle.csv.specs.declared.Mode.the-variants.{Start}
 use Rattle.csv.specs.declared.Step.{Step}
@@ -56,13 +56,47 @@ module _ (t : Table) (k b : ℕ) {r : Bool} (er : r ≡ is-kept t k) where
   pub none-more : (n : ℕ) → r ≡ false → n ≡ n + length (kept-byte t k b)
   none-more n h = rw (byte-left h) (omega arith)
 
-  pub put-there : (n : ℕ) (out : List ℕ) → n + length (kept-byte t k b) ≤ length out → r ≡ true → (n + 1 ≡ n + length (kept-byte t k b)) × (set out n b ≡ placed out n (kept-byte t k b))
-  put-there n out l h =
-      let e = byte-kept h in
-      (one-more n h, rw e (placed-set out n b (omega (arith, one-more n h))))
+  module _ (n : ℕ) (out : List ℕ) where
+    pub put-nothing : r ≡ false → (n ≡ n + length (kept-byte t k b)) × (out ≡ placed out n (take (length out - n) (kept-byte t k b)))
+    put-nothing h = (none-more n h, rw (byte-left h, take-nil {A = ℕ} (length out - n)) (sym (placed-nil out n)))
 
-  pub put-nothing : (n : ℕ) (out : List ℕ) → r ≡ false → (n ≡ n + length (kept-byte t k b)) × (out ≡ placed out n (kept-byte t k b))
-  put-nothing n out h = (none-more n h, rw (byte-left h) (sym (placed-nil out n)))
+    module _ (h : r ≡ true) where
+      pub put-there : n < length out → (n + 1 ≡ n + length (kept-byte t k b)) × (set out n b ≡ placed out n (take (length out - n) (kept-byte t k b)))
+      put-there l = (one-more n h, rw (byte-kept h, take-all (length out - n) (b ∷ []) (omega arith)) (placed-set out n b l))
+
+      pub put-past : length out ≤ n → (n + 1 ≡ n + length (kept-byte t k b)) × (out ≡ placed out n (take (length out - n) (kept-byte t k b)))
+      put-past l =
+          let z : length out - n ≡ 0 = omega arith in
+          (one-more n h, rw z (sym (placed-nil out n)))
+
+-- ---- as much as there is room for: xs, and ys right after them
+module _ (now : List ℕ) (n : ℕ) (xs ys : List ℕ) {new : List ℕ} (e : new ≡ placed now n (take (length now - n) xs)) where
+  pub cut-long : length new ≡ length now
+  cut-long = by (leb n (length now)) refl
+    where
+      by : (b : Bool) → leb n (length now) ≡ b → length new ≡ length now
+      by true l =
+          let h = leb-true n (length now) l in
+          ap length e ∙ placed-length now n (take (length now - n) xs) (omega (arith, length-take (length now - n) xs, min-le-left (length now - n) (length xs)))
+      by false l =
+          let h = leb-false n (length now) l in
+          let z : length now - n ≡ 0 = omega arith in
+          ap length (rw z at e ∙ placed-nil now n)
+
+  pub cut-next : placed new (n + length xs) (take (length now - (n + length xs)) ys) ≡ placed now n (take (length now - n) (xs ++ ys))
+  cut-next = by (leb (n + length xs) (length now)) refl
+    where
+      by : (b : Bool) → leb (n + length xs) (length now) ≡ b → placed new (n + length xs) (take (length now - (n + length xs)) ys) ≡ placed now n (take (length now - n) (xs ++ ys))
+      by true l =
+          let h = leb-true (n + length xs) (length now) l in
+          let p : length now - n ≡ length xs + (length now - (n + length xs)) = omega arith in
+          let q : take (length now - n) (xs ++ ys) ≡ xs ++ take (length now - (n + length xs)) ys = rw p (take-append-add xs ys _) in
+          let f : new ≡ placed now n xs = rw (take-all (length now - n) xs (omega arith)) at e in
+          rw (q, f) (placed-then now n xs (take (length now - (n + length xs)) ys) h)
+      by false l =
+          let h = leb-false (n + length xs) (length now) l in
+          let z : length now - (n + length xs) ≡ 0 = omega arith in
+          rw (z, placed-nil new (n + length xs), take-append-le (length now - n) xs ys (omega arith)) e
 
 -- ---- the bytes that are left
 next-kept : (sep : ℕ) (t : Table) (m : Mode) (bs : List ℕ) (i : ℕ) → i < length bs → {s : Step} → s ≡ step sep m (getD bs i 0) →
@@ -109,35 +143,35 @@ module _ {csv : List ℕ} {sep : ℕ} {table : Table} {mode : Mode} {n i : ℕ} 
   pub counting-end : length csv ≤ i → n ≡ length (names-text csv)
   counting-end h = omega (arith, d .counts, ap length (none-left sep table mode csv i h))
 
--- they stand in the buffer
+-- they stand in the buffer as far as there is room
 pub record Naming (csv out : List ℕ) (sep : ℕ) (table : Table) (mode : Mode) (n i : ℕ) (now : List ℕ) : Type 0 where
   pub counting : Counting csv sep table mode n i
-  pub so-far : Writing out 0 (names-text csv) n (names-from sep table mode (drop i csv)) now
+  pub long : length now ≡ length out
+  pub later : placed now n (take (length out - n) (names-from sep table mode (drop i csv))) ≡ placed out 0 (take (length out) (names-text csv))
 
-begins : (csv out : List ℕ) → Writing out 0 (names-text csv) 0 (names-from (separator csv) start Start (drop (mark-size csv) csv)) out
+begins : (csv out : List ℕ) → placed out 0 (take (length out - 0) (names-from (separator csv) start Start (drop (mark-size csv) csv))) ≡ placed out 0 (take (length out) (names-text csv))
 unfolding names-text
-begins csv out = writing-start
+begins csv out = rw sub-zero
 
 pub naming-start : {csv out : List ℕ} {sep i : ℕ} {t : Table} → sep ≡ separator csv → t ≡ start → i ≡ mark-size csv → Naming csv out sep t Start 0 i out
-naming-start {csv} {out} es et ei = record { counting = counting-start es et ei; so-far = rw (es, et, ei) (begins csv out) }
+naming-start {csv} {out} es et ei = record { counting = counting-start es et ei; long = refl; later = rw (es, et, ei) (begins csv out) }
 
-module _ {csv out : List ℕ} {sep : ℕ} {table : Table} {mode : Mode} {n i : ℕ} {now : List ℕ} (d : Naming csv out sep table mode n i now) (l : length (names-text csv) ≤ length out) where
-  module _ (h : i < length csv) {s : Step} (es : s ≡ step sep mode (getD csv i 0)) where
-    pub naming-room : n + length (kept-byte table (s .token) (getD csv i 0)) ≤ length now
-    naming-room =
-        omega (
-          arith,
-          writing-room (d .so-far) (kept-byte table (s .token) (getD csv i 0)) (names-from sep (after table (s .token)) (s .mode) (drop (i + 1) csv)) (next-kept sep table mode csv i h es),
-          d .so-far .long,
-        )
+module _ {csv out : List ℕ} {sep : ℕ} {table : Table} {mode : Mode} {n i : ℕ} {now : List ℕ} (d : Naming csv out sep table mode n i now) where
+  pub naming-more : i < length csv → {s : Step} → s ≡ step sep mode (getD csv i 0) → {m : ℕ} → m ≡ n + length (kept-byte table (s .token) (getD csv i 0)) →
+      {new : List ℕ} → new ≡ placed now n (take (length now - n) (kept-byte table (s .token) (getD csv i 0))) → {next : Table} → next ≡ after table (s .token) →
+      Naming csv out sep next (s .mode) m (i + 1) new
+  naming-more h {s} es em {new} en et =
+      let x = kept-byte table (s .token) (getD csv i 0) in
+      let rest = names-from sep (after table (s .token)) (s .mode) (drop (i + 1) csv) in
+      let l = d .long in
+      let p : placed new (n + length x) (take (length out - (n + length x)) rest) ≡ placed now n (take (length out - n) (x ++ rest)) = rw l at (cut-next now n x rest en) in
+      record {
+        counting = counting-more (d .counting) h es em et;
+        long = cut-long now n x rest en ∙ l;
+        later = rw (et, em) (p ∙ (rw (next-kept sep table mode csv i h es) at (d .later)));
+      }
 
-    pub naming-more : {m : ℕ} → m ≡ n + length (kept-byte table (s .token) (getD csv i 0)) → {new : List ℕ} → new ≡ placed now n (kept-byte table (s .token) (getD csv i 0)) →
-        {next : Table} → next ≡ after table (s .token) → Naming csv out sep next (s .mode) m (i + 1) new
-    naming-more em en et =
-        record {
-          counting = counting-more (d .counting) h es em et;
-          so-far = rw et (writing-more (d .so-far) _ _ (next-kept sep table mode csv i h es) (omega arith) em en);
-        }
-
-  pub naming-end : length csv ≤ i → (n ≡ length (names-text csv)) × (now ≡ placed out 0 (names-text csv))
-  naming-end h = (counting-end (d .counting) h, writing-end (d .so-far) (none-left sep table mode csv i h))
+  pub naming-end : length csv ≤ i → (n ≡ length (names-text csv)) × (now ≡ placed out 0 (take (length out) (names-text csv)))
+  naming-end h =
+      let e = none-left sep table mode csv i h in
+      (counting-end (d .counting) h, sym (placed-nil now n) ∙ (rw (e, take-nil {A = ℕ} (length out - n)) at (d .later)))

@@ -1,6 +1,6 @@
 -- `csv_front_text::put_front` meets its contract.
 use borrow.Author.Needs.{needs}
-use Rattle.csv_front_text.proofs.Fronts.{whole-room, names-room, whole-put, names-put, nothing-put}
+use Rattle.csv_front_text.proofs.Fronts.{whole-room, whole-put, names-put, nothing-put}
 use Rattle.csv_front_text.proofs.put_front.Statement.{statement}
 use Rattle.csv_front_text.proofs.put_front.Tie as tie
 
@@ -10,9 +10,6 @@ put-bytes-requires c κs =
     let start = told .before .before .before .before in
     whole-room (start .args .csv .now) (start .args .output .now) (told .enum-told .given .1) (start .pre .1)
 
-put-names-requires : tie.Need-put-names-requires
-put-names-requires c κs = search (needs, names-room)
-
 returns : tie.Need-returns
 returns c =
     let at-put = c .before .before in
@@ -21,7 +18,8 @@ returns c =
 returns-2 : tie.Need-returns-2
 returns-2 c =
     let at-put = c .before .before in
-    names-put _ _ (at-put .before .before .enum-told2 .given .1) (at-put .put-names .ensures .0) (at-put .put-names .ensures .1)
+    let told = at-put .before .before in
+    names-put _ _ (told .enum-told2 .given .1) (told .before .before .before .before .pre .1) (at-put .put-names .ensures .0) (at-put .put-names .ensures .1)
 
 returns-3 : tie.Need-returns-3
 returns-3 c = nothing-put _ _ (c .enum-told3 .given .1)
@@ -33,7 +31,7 @@ put-front-spec =
     (λ c. search needs)
     put-bytes-requires
     (λ c. search needs)
-    put-names-requires
+    (λ c κs. search needs)
     (λ c. search needs)
     (λ c. search needs)
     returns

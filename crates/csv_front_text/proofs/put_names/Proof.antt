@@ -3,7 +3,7 @@ use borrow.Author.Needs.{needs}
 use native.Mathlib.Omega.{arith}
 use Prim.Native.Nat.{_-_}
 use lib.ListN.{length}
-use Rattle.csv_front_text.proofs.Keeping.{Naming, naming-start, naming-room, naming-more, naming-end}
+use Rattle.csv_front_text.proofs.Keeping.{Naming, naming-start, naming-more, naming-end}
 use Rattle.csv_front_text.proofs.put_names.Statement.{statement}
 use Rattle.csv_front_text.proofs.put_names.Tie as tie
 
@@ -17,7 +17,9 @@ loop-holds : tie.Need-loop-holds Inv-loop μ-loop
 loop-holds c = search (needs, naming-start)
 
 put-kept-requires : tie.Need-put-kept-requires Inv-loop μ-loop
-put-kept-requires c κs = search (needs, naming-room)
+put-kept-requires c κs =
+    let at-loop = c .before .before .before .before in
+    omega (arith, at-loop .loop .inv .counting .few, at-loop .loop .inv .counting .within)
 
 after-requires : tie.Need-after-requires Inv-loop μ-loop
 after-requires c κs =
@@ -28,13 +30,10 @@ loop-again : tie.Need-loop-again Inv-loop μ-loop
 loop-again c = search (needs, naming-more)
 
 same-length : tie.Need-same-length Inv-loop μ-loop
-same-length c = c .before .loop .inv .so-far .long
+same-length c = c .before .loop .inv .long
 
 returns : tie.Need-returns Inv-loop μ-loop
-returns c =
-    let at-loop = c .before in
-    let start = at-loop .before .before .before .before .before .before in
-    naming-end (at-loop .loop .inv) (start .pre .1) (c .loop-test .left)
+returns c = naming-end (c .before .loop .inv) (c .loop-test .left)
 
 pub put-names-spec : {M : Type 1} → statement M
 put-names-spec =
