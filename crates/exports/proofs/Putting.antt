@@ -1,11 +1,12 @@
 -- A text put into a buffer, or a buffer too short for it, is as the definition says. Assumes nothing.
-use mathlib.Core.Path.{_≡_}
+use mathlib.Core.Path.{_≡_, sym, ap, _∙_}
 use mathlib.Core.Bool.{true, false}
-use mathlib.Core.List.{List, _++_}
+use mathlib.Core.List.{List}
 use Prim.Native.Nat.{ℕ, _≤_, _<_}
 use borrow.Author.Tests.{lt-ltb, le-ltb}
 use lib.Dec.{ltb}
-use lib.ListN.{length, take, drop}
+use lib.ListN.{length, take, length-take}
+use native.Mathlib.Nat.{zero-add, min-le-right}
 use native.Mathlib.Omega.{arith}
 use Rattle.method.specs.declared.Searched.{Searched}
 use Rattle.method.specs.declared.Searched.the-variants.{Refused, Answered}
@@ -14,7 +15,15 @@ use Rattle.text.specs.Lines.{number-line, pair-line}
 use Rattle.text.specs.Texts.{text-limit, Holds}
 use Rattle.listing.specs.Lines.{head-lines, listing-of, outcome-listing}
 use Rattle.search_listing.specs.Searches.{search-outcome, search-shares, search-listing}
+use Rattle.buffers.specs.Placed.{placed}
 use Rattle.exports.specs.Buffers.{bytes-after, bytes-put}
+
+module _ {l : List ℕ} {t : Text} (h : Holds l t) where
+  pub as-long : t .len ≡ length (take (t .len) (t .bytes))
+  as-long = h .length-is ∙ sym (ap length (h .bytes-are))
+
+  pub inside : t .len ≤ length (t .bytes)
+  inside = omega (arith, as-long, length-take (t .len) (t .bytes), min-le-right (t .len) (length (t .bytes)))
 
 module _ {l : List ℕ} {t : Text} (h : Holds l t) (old : List ℕ) where
   -- what the count and the buffer's bytes afterwards must be
@@ -30,11 +39,11 @@ module _ {l : List ℕ} {t : Text} (h : Holds l t) (old : List ℕ) where
       let e : ltb (length old) (length l) ≡ true = rw (← h .length-is) (lt-ltb (length old) (t .len) k) in
       (rw e, rw e)
 
-  pub put : t .len ≤ length old → {new : List ℕ} → new ≡ take (t .len) (t .bytes) ++ drop (t .len) old → Lists (t .len) new
-  unfolding bytes-after bytes-put
+  pub put : t .len ≤ length old → {new : List ℕ} → new ≡ placed old 0 (take (t .len) (t .bytes)) → Lists (t .len) new
+  unfolding bytes-after bytes-put placed
   put k e =
       let f : ltb (length old) (length l) ≡ false = rw (← h .length-is) (le-ltb (length old) (t .len) k) in
-      (rw f (h .length-is), rw (f, ← h .length-is, ← h .bytes-are) e)
+      (rw f (h .length-is), rw f (rw (h .bytes-are, zero-add) at e))
 
 -- ---- No listing is empty: its first line starts with a word
 not-empty : (b s : List ℕ) (r : Searched) (slots : List ℕ) → 1 ≤ length (outcome-listing b s r slots)

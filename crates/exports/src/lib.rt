@@ -6,9 +6,8 @@
 // language must see to. The first clause of a contract gives the reply, the second every slot or byte that was lent, the third
 // what the entry behind it promises of both.
 ghost use mathlib.Core.Path.{_≡_};
-ghost use mathlib.Core.List.{_++_};
 ghost use Prim.Native.Nat.{_+_, _≤_};
-ghost use lib.ListN.{length, take, drop};
+ghost use lib.ListN.{length};
 ghost use Rattle.method.specs.Problem.{problem};
 ghost use Rattle.method.specs.Answers.{outcome, search-refusal, slots-after, run-answer, run-iterate};
 ghost use Rattle.files.specs.Book.{boats};
@@ -78,18 +77,6 @@ pub extern "C" fn dofitrano_write_card(book: &[u8], sheet: &[u8], output: &mut [
     exported_types::card_reply_of(written)
 }
 
-// The first `count` bytes of `to` as those of `from`; later bytes as they were.
-fn put_bytes(from: [u8; text::MOST_BYTES], count: usize, to: &mut [u8])
-    requires { ⌜ (count ≤ text-limit) × (count ≤ length (now to)) ⌝ }
-    ensures { λ _. ⌜ now (to .exit) ≡ take count from ++ drop count (now (to .entry)) ⌝ }
-{
-    let mut i = 0;
-    while i < count {
-        to[i] = from[i];
-        i += 1;
-    }
-}
-
 // ENTRY. The listing of a search for other languages, put into the first bytes of `output`: how many bytes it has. Later bytes are as
 // they were. A buffer shorter than the listing is left as it was, and 0 is given back. No listing is empty or longer than 4,096 bytes.
 #[no_mangle]
@@ -104,7 +91,7 @@ pub extern "C" fn dofitrano_listing(book: &[u8], sheet: &[u8], output: &mut [u8]
         return 0;
     }
     let bytes = text.bytes;
-    put_bytes(bytes, count, output);
+    buffers::put_bytes(output, 0, &bytes[..count]);
     count
 }
 
