@@ -7,9 +7,7 @@ ghost use lib.ListN.{length};
 ghost use Rattle.buffers.specs.Placed.{placed};
 ghost use Rattle.book_output.specs.Output.{book-trailer};
 use buffers::put;
-
-// The letters WBK1 as a number.
-const WBK1: u64 = 827015767;
+use buffers::put_bytes;
 
 // A fleet book's trailer from `at` on, which is also its back count.
 pub fn put_book_trailer(output: &mut [u8], at: usize, boats: usize, columns: usize)
@@ -19,5 +17,5 @@ pub fn put_book_trailer(output: &mut [u8], at: usize, boats: usize, columns: usi
     put(output, at, 4, at as u64);
     put(output, at + 4, 2, boats as u64);
     put(output, at + 6, 2, columns as u64);
-    put(output, at + 8, 4, WBK1);
+    put_bytes(output, at + 8, b"WBK1");
 }

@@ -33,14 +33,14 @@ module _ (out : List ℕ) {o₁ o₂ o₃ o₄ : List ℕ} (at a b c d : ℕ) (h
       placed-next out at ((number-bytes 4 a ++ number-bytes 2 b) ++ number-bytes 2 c) (number-bytes 4 d) (at + 8) p₃ e₄ refl (omega arith)
 
 module _ (out : List ℕ) {o₁ o₂ o₃ o₄ o₅ : List ℕ} (at a b c d : ℕ) (h : at + 24 ≤ length out) (e₁ : o₁ ≡ placed out at (number-bytes 8 a)) (e₂ : o₂ ≡ placed o₁ (at + 8) (number-bytes 8 b))
-    (e₃ : o₃ ≡ placed o₂ (at + 16) (number-bytes 2 c)) (e₄ : o₄ ≡ placed o₃ (at + 18) (number-bytes 2 d)) (e₅ : o₅ ≡ placed o₄ (at + 20) (number-bytes 4 843334487)) where
+    (e₃ : o₃ ≡ placed o₂ (at + 16) (number-bytes 2 c)) (e₄ : o₄ ≡ placed o₃ (at + 18) (number-bytes 2 d)) (e₅ : o₅ ≡ placed o₄ (at + 20) WCD2) where
   pub rest-placed : o₅ ≡ placed out at (number-bytes 8 a ++ (number-bytes 8 b ++ (number-bytes 2 c ++ (number-bytes 2 d ++ WCD2))))
   unfolding number-bytes
   rest-placed =
       let p₂ = placed-next out at (number-bytes 8 a) (number-bytes 8 b) (at + 8) e₁ e₂ refl (omega arith) in
       let p₃ = placed-next out at (number-bytes 8 a ++ number-bytes 8 b) (number-bytes 2 c) (at + 16) p₂ e₃ refl (omega arith) in
       let p₄ = placed-next out at ((number-bytes 8 a ++ number-bytes 8 b) ++ number-bytes 2 c) (number-bytes 2 d) (at + 18) p₃ e₄ refl (omega arith) in
-      placed-next out at (((number-bytes 8 a ++ number-bytes 8 b) ++ number-bytes 2 c) ++ number-bytes 2 d) (number-bytes 4 843334487) (at + 20) p₄ e₅ refl (omega arith)
+      placed-next out at (((number-bytes 8 a ++ number-bytes 8 b) ++ number-bytes 2 c) ++ number-bytes 2 d) WCD2 (at + 20) p₄ e₅ refl (omega arith)
 
 pub trailer-placed : (out : List ℕ) {now new : List ℕ} (at tolerance n c v : ℕ) (a : Answer) → at + 36 ≤ length out → v ≡ verdict-number (a .verdict) →
     now ≡ placed out at (number-bytes 4 at ++ (number-bytes 2 v ++ (number-bytes 2 (a .steps) ++ number-bytes 4 tolerance))) →

@@ -9,10 +9,8 @@ ghost use Rattle.method.specs.Iterates.{support};
 ghost use Rattle.card_format.specs.Format.{pair, pairs, WCD2, trailer-bytes, answer-fields};
 ghost use Rattle.buffers.specs.Placed.{placed};
 use buffers::put;
+use buffers::put_bytes;
 use method::Answer;
-
-// The letters WCD2 as a number.
-const LETTERS: u64 = 843334487;
 
 // A boat and its share, where the share is not 0; gives back the offset after them.
 pub fn put_pair(output: &mut [u8], at: usize, boat: usize, share: u16) -> usize
@@ -85,7 +83,7 @@ fn put_rest(output: &mut [u8], at: usize, distance: u64, gap: u64, boats: u64, c
     put(output, at + 8, 8, gap);
     put(output, at + 16, 2, boats);
     put(output, at + 18, 2, columns);
-    put(output, at + 20, 4, LETTERS);
+    put_bytes(output, at + 20, b"WCD2");
 }
 
 // The trailer from `at` on, which is also its back count: the pairs start at the first byte.

@@ -5,16 +5,12 @@ ghost use mathlib.Core.Path.{_≡_};
 ghost use mathlib.Core.Bool.{true};
 ghost use Prim.Native.Nat.{_+_, _*_, _≤_};
 ghost use lib.ListN.{length, take};
-ghost use Rattle.files.specs.Bytes.{number-bytes, all-in-range};
+ghost use Rattle.files.specs.Bytes.{all-in-range};
 ghost use Rattle.files.specs.Sheet.{WSH1, WSH2};
 ghost use Rattle.buffers.specs.Placed.{placed};
 ghost use Rattle.sheet_output.specs.Output.{bits, values-bytes, sheet-trailer};
 use buffers::put;
-
-// The letters WSH1 as a number.
-const LETTERS_1: u64 = 826823511;
-// The letters WSH2 as a number.
-const LETTERS_2: u64 = 843600727;
+use buffers::put_bytes;
 
 // The 16 bits of a value.
 pub fn bits_of(value: i16) -> u64
@@ -37,23 +33,23 @@ pub fn put_values(output: &mut [u8], values: [i16; 64], count: usize)
     }
 }
 
-// A trailer with these letters, as a number, from `at` on.
+// A trailer with these letters from `at` on.
 fn put_trailer(
     output: &mut [u8],
     at: usize,
     columns: usize,
     steps: u32,
     tolerance: u32,
-    letters: u64,
+    letters: &[u8; 4],
 )
     requires { ⌜ at + 16 ≤ length (now output) ⌝ }
-    ensures { λ _. ⌜ now (output .exit) ≡ placed (now (output .entry)) at (sheet-trailer (number-bytes 4 letters) at columns steps tolerance) ⌝ }
+    ensures { λ _. ⌜ now (output .exit) ≡ placed (now (output .entry)) at (sheet-trailer (now (letters .entry)) at columns steps tolerance) ⌝ }
 {
     put(output, at, 4, at as u64);
     put(output, at + 4, 2, columns as u64);
     put(output, at + 6, 2, steps as u64);
     put(output, at + 8, 4, tolerance as u64);
-    put(output, at + 12, 4, letters);
+    put_bytes(output, at + 12, letters);
 }
 
 // The trailer of a sheet WSH1 from `at` on, which is also its back count.
@@ -61,7 +57,7 @@ pub fn put_sheet_trailer(output: &mut [u8], at: usize, columns: usize, steps: u3
     requires { ⌜ at + 16 ≤ length (now output) ⌝ }
     ensures { λ _. ⌜ now (output .exit) ≡ placed (now (output .entry)) at (sheet-trailer WSH1 at columns steps tolerance) ⌝ }
 {
-    put_trailer(output, at, columns, steps, tolerance, LETTERS_1);
+    put_trailer(output, at, columns, steps, tolerance, b"WSH1");
 }
 
 // The trailer of a sheet WSH2 from `at` on, which is also its back count.
@@ -75,5 +71,5 @@ pub fn put_factored_trailer(
     requires { ⌜ at + 16 ≤ length (now output) ⌝ }
     ensures { λ _. ⌜ now (output .exit) ≡ placed (now (output .entry)) at (sheet-trailer WSH2 at columns steps tolerance) ⌝ }
 {
-    put_trailer(output, at, columns, steps, tolerance, LETTERS_2);
+    put_trailer(output, at, columns, steps, tolerance, b"WSH2");
 }

@@ -19,22 +19,22 @@ add-put-2 c = search needs
 put-requires-3 : tie.Need-put-requires-3
 put-requires-3 c κs = search needs
 
-add-put-3 : tie.Need-add-put-3
-add-put-3 c = search needs
+add-put-bytes : tie.Need-add-put-bytes
+add-put-bytes c = search needs
 
-put-requires-4 : tie.Need-put-requires-4
-put-requires-4 c κs = search needs
+put-bytes-requires : tie.Need-put-bytes-requires
+put-bytes-requires c κs = search needs
 
 same-length : tie.Need-same-length
 same-length c = search needs
 
 returns : tie.Need-returns
 returns c =
-    let at-put3 = c .before .before .before .before .before .before in
+    let at-put3 = c .before .before .before .before .before .before .before in
     let at-put2 = at-put3 .before .before .before .before in
     let at-put = at-put2 .before .before .before .before in
     let start = at-put .before .before .before in
-    book-trailer-placed _ _ _ _ (start .pre) (at-put .put .ensures) (at-put2 .put2 .ensures) (at-put3 .put3 .ensures) (c .before .before .put4 .ensures)
+    book-trailer-placed _ _ _ _ (start .pre) (at-put .put .ensures) (at-put2 .put2 .ensures) (at-put3 .put3 .ensures) (c .before .before .put-bytes .ensures)
 
 pub put-book-trailer-spec : {M : Type 1} → statement M
 put-book-trailer-spec =
@@ -45,7 +45,8 @@ put-book-trailer-spec =
     put-requires-2
     add-put-2
     put-requires-3
-    add-put-3
-    put-requires-4
+    add-put-bytes
+    (λ c. search needs)
+    put-bytes-requires
     same-length
     returns)

@@ -28,23 +28,23 @@ add-put-3 c = search needs
 put-requires-4 : tie.Need-put-requires-4
 put-requires-4 c κs = search needs
 
-add-put-4 : tie.Need-add-put-4
-add-put-4 c = search needs
+add-put-bytes : tie.Need-add-put-bytes
+add-put-bytes c = search needs
 
-put-requires-5 : tie.Need-put-requires-5
-put-requires-5 c κs = search needs
+put-bytes-requires : tie.Need-put-bytes-requires
+put-bytes-requires c κs = search needs
 
 same-length : tie.Need-same-length
 same-length c = search needs
 
 returns : tie.Need-returns
 returns c =
-    let at-put4 = c .before .before .before .before .before .before in
+    let at-put4 = c .before .before .before .before .before .before .before in
     let at-put3 = at-put4 .before .before .before .before in
     let at-put2 = at-put3 .before .before .before .before in
     let at-put = at-put2 .before .before .before .before in
     let start = at-put .before .before .before in
-    rest-placed _ _ _ _ _ _ (start .pre) (at-put .put .ensures) (at-put2 .put2 .ensures) (at-put3 .put3 .ensures) (at-put4 .put4 .ensures) (c .before .before .put5 .ensures)
+    rest-placed _ _ _ _ _ _ (start .pre) (at-put .put .ensures) (at-put2 .put2 .ensures) (at-put3 .put3 .ensures) (at-put4 .put4 .ensures) (c .before .before .put-bytes .ensures)
 
 pub put-rest-spec : {M : Type 1} → statement M
 put-rest-spec =
@@ -57,7 +57,8 @@ put-rest-spec =
     put-requires-3
     add-put-3
     put-requires-4
-    add-put-4
-    put-requires-5
+    add-put-bytes
+    (λ c. search needs)
+    put-bytes-requires
     same-length
     returns)
