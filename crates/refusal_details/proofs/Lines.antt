@@ -70,27 +70,27 @@ module _ (b s : List ℕ) {at k v : ℕ} {f : List ℕ} (ef : f ≡ names-csv b)
   target-told e p q x = rw (← ef, ← o .first, o .value-is, ← ev) (adds-to-empty e (adds-both p (adds-both q x)))
 
 -- ---- the line of a refusal
-module _ (b s : List ℕ) {n r : ℕ} (en : n ≡ files-refusal b s) {t : Text} where
-  pub not-refused : (n ≡ r → ⊥) → Holds [] t → Holds (detail b s r) t
+module _ (b s : List ℕ) {r : ℕ} {t : Text} where
+  pub not-refused : {n : ℕ} → n ≡ files-refusal b s → (n ≡ r → ⊥) → Holds [] t → Holds (detail b s r) t
   unfolding detail
-  not-refused d h = rw (← en, ne-eqb n r d) h
+  not-refused {n} en d h = rw (← en, ne-eqb n r d) h
 
-  module _ (e : n ≡ r) where
+  module _ (e : files-refusal b s ≡ r) where
     pub told-6 : r ≡ 6 → Holds (value-line (first-out (book-values b)) b) t → Holds (detail b s r) t
     unfolding detail line-of
-    told-6 z h = rw (eq-eqb (files-refusal b s) r (sym en ∙ e), z) h
+    told-6 z h = rw (eq-eqb (files-refusal b s) r e, z) h
 
     pub told-13 : r ≡ 13 → Holds (columns-line b s) t → Holds (detail b s r) t
     unfolding detail line-of
-    told-13 z h = rw (eq-eqb (files-refusal b s) r (sym en ∙ e), z) h
+    told-13 z h = rw (eq-eqb (files-refusal b s) r e, z) h
 
     pub told-17 : r ≡ 17 → Holds (target-line (first-out (sheet s .target)) b s) t → Holds (detail b s r) t
     unfolding detail line-of
-    told-17 z h = rw (eq-eqb (files-refusal b s) r (sym en ∙ e), z) h
+    told-17 z h = rw (eq-eqb (files-refusal b s) r e, z) h
 
     pub told-other : (r ≡ 6 → ⊥) → (r ≡ 13 → ⊥) → (r ≡ 17 → ⊥) → Holds [] t → Holds (detail b s r) t
     unfolding detail line-of
-    told-other x y z h = rw (eq-eqb (files-refusal b s) r (sym en ∙ e), ne-eqb r 6 x, ne-eqb r 13 y, ne-eqb r 17 z) h
+    told-other x y z h = rw (eq-eqb (files-refusal b s) r e, ne-eqb r 6 x, ne-eqb r 13 y, ne-eqb r 17 z) h
 
 -- ---- the row of the first boat
 different : (xs ys : List ℕ) → (length xs ≡ length ys → ⊥) → same xs ys ≡ false

@@ -1,14 +1,14 @@
 // What is known of a refusal of a fleet book or a sheet, in one line for standard error: the boat and column of the first value out of
 // range, or both numbers of columns.
 //
-// The entry, which asks nothing of its caller: detail.
+// The entry, which asks nothing of its caller: detail. Helper for other crates, whose callers prove what it requires: known_detail.
 ghost use mathlib.Core.Path.{_≡_};
 ghost use Prim.Native.Nat.{_+_, _*_, _≤_, _<_};
 ghost use lib.ListN.{length, drop};
 ghost use Rattle.files.specs.Limits.{file-limit};
 ghost use Rattle.files.specs.Bytes.{value, values};
 ghost use Rattle.files.specs.Book.{columns, Book-whole, book-refusal};
-ghost use Rattle.files.specs.Sheet.{sheet-refusal};
+ghost use Rattle.files.specs.Sheet.{sheet-refusal, files-refusal};
 ghost use Rattle.files.specs.Sheet as Sheets;
 ghost use Rattle.text.specs.Texts.{text-limit, Holds, Adds};
 ghost use Rattle.csv_fleet_round_trip.specs.Writing.{figures};
@@ -171,14 +171,12 @@ fn columns_line(book: &[u8], sheet: &[u8]) -> Text
     both.with_bytes(b"\n")
 }
 
-// ENTRY. What is known of a refusal of a book and a sheet, in one line; no text where another number or none refuses them, or nothing more
-// is known.
-pub fn detail(book: &[u8], sheet: &[u8], refusal: u32) -> Text
+// What is known of the refusal of a book and a sheet by this number, in one line; no text where nothing more is known. The caller proves
+// that the number is theirs, so the files are not judged again.
+pub fn known_detail(book: &[u8], sheet: &[u8], refusal: u32) -> Text
+    requires { ⌜ files-refusal (now book) (now sheet) ≡ refusal ⌝ }
     ensures { λ r. ⌜ Holds (detail (now (book .entry)) (now (sheet .entry)) refusal) r ⌝ }
 {
-    if validation::files_refusal(book, sheet) != refusal {
-        return Text::empty();
-    }
     if refusal == 6 {
         return value_line(book);
     }
@@ -189,4 +187,15 @@ pub fn detail(book: &[u8], sheet: &[u8], refusal: u32) -> Text
         return target_line(book, sheet);
     }
     Text::empty()
+}
+
+// ENTRY. What is known of a refusal of a book and a sheet, in one line; no text where another number or none refuses them, or nothing more
+// is known.
+pub fn detail(book: &[u8], sheet: &[u8], refusal: u32) -> Text
+    ensures { λ r. ⌜ Holds (detail (now (book .entry)) (now (sheet .entry)) refusal) r ⌝ }
+{
+    if validation::files_refusal(book, sheet) != refusal {
+        return Text::empty();
+    }
+    known_detail(book, sheet, refusal)
 }

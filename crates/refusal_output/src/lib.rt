@@ -18,6 +18,6 @@ fn is_refusal(listing: Text) -> bool
 pub fn tell_detail(book: &[u8], sheet: &[u8], listing: Text) {
     if is_refusal(listing) {
         let refusal = validation::files_refusal(book, sheet);
-        file_io::tell_text(refusal_details::detail(book, sheet, refusal));
+        file_io::tell_text(refusal_details::known_detail(book, sheet, refusal));
     }
 }
