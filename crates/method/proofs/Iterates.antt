@@ -2,7 +2,7 @@
 use mathlib.Core.Path.{_≡_, refl, sym, ap, ap₂, _∙_, subst}
 use mathlib.Core.List.{List, [], _∷_}
 use Prim.Native.Nat.{ℕ, zero, suc, _+_, _*_, _≤_}
-use native.Mathlib.Nat.{le-trans, le-refl, add-le-add, mul-le-mul-right, mul-one, le-max-left, le-max-right}
+use native.Mathlib.Nat.{le-trans, le-refl, add-le-add, mul-le-mul-right, le-of-mul-le-mul-right, mul-one, le-max-left, le-max-right}
 use native.Mathlib.Omega.{arith}
 use lib.Dec.{lit≤}
 use lib.IntN.{ℤ, pos, _-ℤ_}
@@ -16,10 +16,10 @@ use Rattle.frank_wolfe.specs.Theorem.{Compared}
 use Rattle.frank_wolfe.specs.Vectors.{subtract, scale, weighted, weighted-norm, sum, combination, Among, here, there}
 use Rattle.frank_wolfe.proofs.Vectors.{factored, Wide, wide-rest, plus-is, residual-is, compared-is, norm-weighted, weighted-zero, weighted-subtract, scale-one}
 use Rattle.frank_wolfe.proofs.Theorem.{frank-wolfe}
-use Rattle.method.specs.Problem.{Schedule, fixed, Problem, share, weight}
+use Rattle.method.specs.Problem.{Schedule, fixed, lent, Problem, share, weight}
 use Rattle.method.specs.Iterates.{start, residual, row, direction, pick, with-shares, step, iterate, distance, mixture-distance, farthest, row-diameter, diameter}
 use Rattle.method.specs.Bounds.{Step-bound}
-use Rattle.method.proofs.Weights.{weight-total}
+use Rattle.method.proofs.Weights.{weight-total, weight-positive}
 use Rattle.method.proofs.Argmin.{among-row}
 use Rattle.method.proofs.Picks.{pick-row}
 use Rattle.method.proofs.Shares.{mixed-length, iterate-mixed}
@@ -107,6 +107,10 @@ module _ {p : Problem} (h : Well-formed p) where
   pub weight-by : {a : ℕ → ℕ} → share (p .schedule) ≡ a → (t : ℕ) → weight (p .schedule) t ≡ total a t
   weight-by e t = weight-total (p .schedule) t ∙ ap (λ a. total a t) e
 
+  -- what the theorem asks of the shares
+  squares : (k : ℕ) → share (p .schedule) k * share (p .schedule) k ≤ 2 * total (share (p .schedule)) (suc k)
+  squares k = rw (weight-total (p .schedule) (suc k)) at (h .schedule-fits .squares k)
+
   module _ (t : ℕ) (qs : List ℕ) (e : length qs ≡ length (p .vertices)) where
     compared : Compared S (Among (p .vertices)) u (sum qs) (combination (p .columns) qs (p .vertices)) (ρ qs)
     compared = compared-is (p .factors) (p .columns) u qs (p .vertices) (h .target-length) e (h .wide)
@@ -132,12 +136,36 @@ module _ {p : Problem} (h : Well-formed p) where
         (rw (← norm-weighted (p .factors) (residual p t (iterate p t)), ← weight-by g t) (≤→≤ℤ b)))))
         (add-le-add (le-refl _) (mul-le-mul-right (sum qs * sum qs) (mul-le-mul-right (diameter p) hc)))
 
+    abbrev w : ℕ
+    w = weight (p .schedule) t
+
+    -- of any shares that fit; the constant is c, 2 or more
+    any-bound : (c : ℕ) → 2 ≤ c → distance p t (iterate p t) * (sum qs * sum qs) ≤ mixture-distance p qs * (w * w) + c * diameter p * t * w * (sum qs * sum qs)
+    unfolding distance mixture-distance
+    any-bound c hc =
+        le-trans
+        (≤ℤ→≤ (rw (← norm-weighted (p .factors) (residual p t (iterate p t)), ← norm-weighted (p .factors) (ρ qs), ← weight-total (p .schedule) t) at
+        (frank-wolfe S (Among (p .vertices)) u .table-bound (h .schedule-fits .some-share) squares (diameter-is (p .factors) (h .wide)) (iterate-run h t) (residual-total h t) compared)))
+        (add-le-add (le-refl _) (mul-le-mul-right (sum qs * sum qs) (mul-le-mul-right w (mul-le-mul-right t (mul-le-mul-right (diameter p) hc)))))
+
+    any-step : (c : ℕ) → 2 ≤ c →
+        distance p t (iterate p t) * (sum qs * sum qs) * w ≤ mixture-distance p qs * (w * w) * w + c * diameter p * t * (w * w) * (sum qs * sum qs)
+    any-step c hc = le-trans (mul-le-mul-right w (any-bound c hc)) (omega arith)
+
+    any-spent : (c : ℕ) → 2 ≤ c → (τ : ℕ) → 1 ≤ t → τ * (w * w) ≤ distance p t (iterate p t) →
+        τ * (sum qs * sum qs) * w ≤ mixture-distance p qs * w + c * diameter p * t * (sum qs * sum qs)
+    any-spent c hc τ ht b =
+        le-of-mul-le-mul-right
+        (le-trans (omega (arith, mul-le-mul-right (sum qs * sum qs) b)) (le-trans (any-bound c hc) (omega arith)))
+        (weight-positive (h .schedule-fits) ht)
+
     pub step-bound : Step-bound (p .schedule) t (diameter p) (distance p t (iterate p t)) (weight (p .schedule) t * weight (p .schedule) t) (sum qs) (mixture-distance p qs)
     unfolding Step-bound share
     step-bound = by (p .schedule) refl
       where
         by : (a : Schedule) → p .schedule ≡ a → Step-bound a t (diameter p) (distance p t (iterate p t)) (weight (p .schedule) t * weight (p .schedule) t) (sum qs) (mixture-distance p qs)
         by fixed f = fixed-bound _ (lit≤ tt) (ap share f)
+        by (lent table) f = rw (← f) (any-step _ (lit≤ tt))
 
     pub spent-bound : (τ : ℕ) → 1 ≤ t → τ * (weight (p .schedule) t * weight (p .schedule) t) ≤ distance p t (iterate p t) →
         Step-bound (p .schedule) t (diameter p) τ 1 (sum qs) (mixture-distance p qs)
@@ -146,3 +174,4 @@ module _ {p : Problem} (h : Well-formed p) where
       where
         by : (a : Schedule) → p .schedule ≡ a → Step-bound a t (diameter p) τ 1 (sum qs) (mixture-distance p qs)
         by fixed f = simp mul-one (fixed-spent _ (lit≤ tt) (ap share f) τ ht b)
+        by (lent table) f = rw (← f) (simp mul-one (any-spent _ (lit≤ tt) τ ht b))

@@ -9,6 +9,7 @@ pub mod Iterates
 pub mod Verdicts
 pub mod Running
 pub mod Accepted
+pub mod Table
 pub mod Plain
 pub mod Bounds
 pub mod Fractions

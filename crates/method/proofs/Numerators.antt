@@ -3,17 +3,17 @@
 use mathlib.Core.Path.{_≡_, refl, sym, ap, ap₂, _∙_}
 use mathlib.Core.Bool.{Bool, true, false, not, _&&_, _||_, cond}
 use mathlib.Core.List.{List, [], _∷_}
-use Prim.Native.Nat.{ℕ, zero, suc, _+_, _*_, _≤_}
+use Prim.Native.Nat.{ℕ, zero, suc, _+_, _*_, _-_, _≤_}
 use native.Mathlib.Omega.{arith}
 use native.Mathlib.Nat.{one-mul, mul-one, one-le-mul}
 use native.Mathlib.Numerals.{add-one}
 use lib.IntN.{ℤ, pos, _+ℤ_, _*ℤ_}
-use lib.ListN.{length, getD, replicate}
+use lib.ListN.{length, getD, take, replicate}
 use lib.Signed.{ltZ}
 use Rattle.integers.proofs.Solver.{Expr, con, _⊕_, _⊗_, _⊝_, x₀, x₁, x₂, x₃, solve}
 use Rattle.integers.proofs.Facts.{plus-equation, le-not-lt}
-use Rattle.frank_wolfe.specs.Vectors.{add, subtract, scale, weighted}
-use Rattle.method.specs.Problem.{Schedule, fixed, share, weight}
+use Rattle.frank_wolfe.specs.Vectors.{add, subtract, scale, weighted, sum}
+use Rattle.method.specs.Problem.{Schedule, fixed, lent, share, weight}
 use Rattle.method.specs.Minimum.{minimum}
 use Rattle.method.specs.Iterates.{scores, argmin, active-from, gaps, maximum-from, maximum}
 use Rattle.method.specs.Fractions.{Fraction, integer, Is-ratio, _+ℚ_, _-ℚ_, _*ℚ_, ltQ, fractions, difference, inner-product}
@@ -159,6 +159,12 @@ step-ratio-fixed t w h =
 pub step-ratio : (a : Schedule) (t : ℕ) → 1 ≤ weight a (suc t) → Is-ratio (step-size a t) (pos (share a t)) (weight a (suc t))
 unfolding share
 step-ratio fixed t h = rw (weight-suc fixed t) (step-ratio-fixed t (weight fixed t) (weight-twice t))
+step-ratio (lent table) t h =
+    unfold step-size in
+    unfold weight in
+    let w = sum (take (suc t) table) in
+    let e : w - 1 + 1 ≡ w = omega (arith, h) in
+    rw e at (ratio-value (pos (getD table t 0)) (w - 1))
 
 -- (1 - γ) p + γ b, with p = y / w and γ = a / (w + a), is (y + a b) / (w + a)
 move-value : (a : ℕ) (b : ℤ) {γ p : Fraction} {y : ℤ} {w : ℕ} → Is-ratio γ (pos a) (w + a) → Is-ratio p y w →

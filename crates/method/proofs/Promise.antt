@@ -13,25 +13,38 @@ use Rattle.files.specs.Sheet.{files-refusal}
 use Rattle.files.specs.Editions.{Editions, Editions-alike}
 use Rattle.files.specs.Front.{Files-alike, Files-front-unread}
 use Rattle.files.proofs.Editions.{editions-alike}
+use Rattle.method.specs.Problem.{Problem, problem}
+use Rattle.method.specs.Table.{table-refusal, on-table}
 use Rattle.files.proofs.Front.{files-front-unread}
-use Rattle.method.specs.Problem.{problem}
 use Rattle.method.specs.declared.Answer.{Answer}
 use Rattle.method.specs.declared.Searched.{Searched}
 use Rattle.method.specs.declared.Searched.the-variants.{Refused, Answered}
 use Rattle.method.specs.Answers.{refusal-number, outcome, steps-used, run-iterate, run-answer, search-refusal, slots-after}
 use Rattle.method.specs.Promise.{Run-right, Outcome-right}
+use Rattle.method.proofs.Mixtures.{Well-formed, In-range, Sized}
 use Rattle.method.proofs.Accepted.{well-formed, in-range, sized, share-count}
+use Rattle.method.proofs.Table.{table-accepted, well-formed-on, in-range-on, sized-on}
 use Rattle.method.proofs.Bounds.{run-bounds}
 use Rattle.method.proofs.Published.{published-run}
 use Rattle.method.proofs.SmallGap.{small-gap}
 
+pub problem-right : {p : Problem} → Well-formed p → In-range p → Sized p → Run-right p (run-answer p) (run-iterate p .shares)
+problem-right h r z = record { bounds = run-bounds h r z; published = published-run h (z .some-steps); small-gap = small-gap h }
+
+-- of any such problem with an accepted table: the step bound is then 2 D² t / W, the published step size an entry over its running total
+pub on-table-right : {p : Problem} (table : List ℕ) → table-refusal table ≡ 0 → Well-formed p → In-range p → Sized p →
+    Run-right (on-table table p) (run-answer (on-table table p)) (run-iterate (on-table table p) .shares)
+on-table-right table fits h r z =
+    let f = table-accepted table fits in
+    problem-right (well-formed-on f h) (in-range-on f r) (sized-on f z)
+
 pub run-right : (b s : List ℕ) → files-refusal b s ≡ 0 → Run-right (problem b s) (run-answer (problem b s)) (run-iterate (problem b s) .shares)
-run-right b s ok =
-    record {
-      bounds = run-bounds (well-formed b s ok) (in-range b s ok) (sized b s ok);
-      published = published-run (well-formed b s ok) (sized b s ok .some-steps);
-      small-gap = small-gap (well-formed b s ok);
-    }
+run-right b s ok = problem-right (well-formed b s ok) (in-range b s ok) (sized b s ok)
+
+-- the same with an accepted table
+pub table-right : (table b s : List ℕ) → table-refusal table ≡ 0 → files-refusal b s ≡ 0 →
+    Run-right (on-table table (problem b s)) (run-answer (on-table table (problem b s))) (run-iterate (on-table table (problem b s)) .shares)
+table-right table b s fits ok = on-table-right table fits (well-formed b s ok) (in-range b s ok) (sized b s ok)
 
 pub run-share-count : (b s : List ℕ) → files-refusal b s ≡ 0 → length (run-iterate (problem b s) .shares) ≡ boats b
 unfolding run-iterate

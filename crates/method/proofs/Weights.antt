@@ -1,22 +1,34 @@
 -- The weight W of t steps: its laws, and that it is the total of the shares.
 use mathlib.Core.Path.{_≡_, refl, ap, _∙_}
+use mathlib.Core.List.{List, [], _∷_}
 use Prim.Native.Nat.{ℕ, zero, suc, _+_, _*_, _≤_, _<_}
 use native.Mathlib.Nat.{mul-le-mul, lt-of-le-of-lt}
 use native.Mathlib.Omega.{arith}
 use lib.Dec.{lit<}
+use lib.ListN.{getD, take}
 use Rattle.frank_wolfe.specs.Method.{total}
-use Rattle.method.specs.Problem.{Schedule, fixed, share, weight}
+use Rattle.frank_wolfe.specs.Vectors.{sum}
+use Rattle.method.specs.Problem.{Schedule, fixed, lent, share, weight}
 use Rattle.files.specs.Limits.{step-limit, total-limit, sum-limit}
 
 -- ---- Any schedule
 
+take-more : (table : List ℕ) (t : ℕ) → sum (take (suc t) table) ≡ sum (take t table) + getD table t 0
+unfolding sum
+take-more [] zero = refl
+take-more [] (suc t) = refl
+take-more (a ∷ table) zero = omega arith
+take-more (a ∷ table) (suc t) = omega (arith, take-more table t)
+
 pub weight-suc : (a : Schedule) (t : ℕ) → weight a (suc t) ≡ weight a t + share a t
 unfolding weight share
 weight-suc fixed t = omega arith
+weight-suc (lent table) t = take-more table t
 
 pub weight-zero : (a : Schedule) → weight a 0 ≡ 0
-unfolding weight
+unfolding weight sum
 weight-zero fixed = refl
+weight-zero (lent table) = refl
 
 pub weight-total : (a : Schedule) (t : ℕ) → weight a t ≡ total (share a) t
 unfolding total

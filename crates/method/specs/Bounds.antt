@@ -12,7 +12,7 @@ use Rattle.frank_wolfe.specs.Vectors.{sum, combination}
 use Rattle.method.specs.declared.Test.{Test}
 use Rattle.method.specs.declared.Test.the-variants.{Former, Sharper}
 use Rattle.method.specs.declared.Answer.{Answer}
-use Rattle.method.specs.Problem.{Schedule, fixed, Problem, weight}
+use Rattle.method.specs.Problem.{Schedule, fixed, lent, Problem, weight}
 use Rattle.method.specs.Iterates.{Iterate, iterate, signed-gap, mixture-distance, diameter, support}
 use Rattle.method.specs.Answers.{verdict-number, verdict-carries, is-beyond, stops, answer-at}
 use Rattle.files.specs.Limits.{sum-limit}
@@ -30,7 +30,7 @@ pub record Answer-bounds (test : Test) (p : Problem) (a : Answer) (shares : List
   -- ---- Shares and steps
   -- one share a vertex
   pub share-count : length shares ≡ length (p .vertices)
-  -- the shares total what t steps give: t (t + 1) / 2 for the fixed shares
+  -- the shares total what t steps give: t (t + 1) / 2 for the fixed shares, the first t entries of a table
   pub total : sum shares ≡ weight (p .schedule) (a .steps)
   -- and W is that total
   pub weight : a .weight ≡ weight (p .schedule) (a .steps)
@@ -81,9 +81,11 @@ pub record Answer-bounds (test : Test) (p : Problem) (a : Answer) (shares : List
   -- and tolerance × W²
   pub limit-fits : p .tolerance * (a .weight * a .weight) < sum-limit
 
--- a / b - Q / N² is at most the bound of t steps, multiplied out; d is D². With the fixed shares the bound is 4 D² / (t + 2)
+-- a / b - Q / N² is at most the bound of t steps, multiplied out; d is D². With the fixed shares the bound is 4 D² / (t + 2), with those
+-- of a table 2 D² t / W
 unfoldable pub Step-bound : Schedule → (t d a b n q : ℕ) → Type 0
 Step-bound fixed t d a b n q = a * (n * n) * (t + 2) ≤ q * b * (t + 2) + 4 * d * b * (n * n)
+Step-bound (lent table) t d a b n q = a * (n * n) * weight (lent table) t ≤ q * b * weight (lent table) t + 2 * d * t * b * (n * n)
 
 -- of a run's answer and shares, in addition
 pub record Run-bounds (p : Problem) (a : Answer) (shares : List ℕ) : Type 0 where

@@ -2,7 +2,9 @@
 -- Definitions only. Assumes nothing.
 use mathlib.Core.List.{List}
 use Prim.Native.Nat.{ℕ, suc, _+_, _*_, _/_}
+use lib.ListN.{getD, take}
 use lib.IntN.{ℤ}
+use Rattle.frank_wolfe.specs.Vectors.{sum}
 use Rattle.files.specs.Book.{rows, columns}
 use Rattle.files.specs.Sheet.{sheet}
 
@@ -10,14 +12,18 @@ use Rattle.files.specs.Sheet.{sheet}
 pub data Schedule : Type 0 where
   -- 1, 2, 3, ..
   fixed : Schedule
+  -- the entries of a table, in their order; a step past its end gives none
+  lent : (table : List ℕ) → Schedule
 
 -- the share of step k + 1
 unfoldable pub share : Schedule → (k : ℕ) → ℕ
 share fixed k = suc k
+share (lent table) k = getD table k 0
 
 -- W: the total of the first t shares
 unfoldable pub weight : Schedule → (t : ℕ) → ℕ
 weight fixed t = t * (t + 1) / 2
+weight (lent table) t = sum (take t table)
 
 -- a mixture of the vertices is looked for whose squared distance to the target is at most the tolerance
 pub record Problem : Type 0 where

@@ -5,10 +5,11 @@
 -- Definitions only; nothing of the method in whole numbers is used. Assumes nothing.
 use mathlib.Core.Bool.{Bool, false, not, _&&_, _||_, cond}
 use mathlib.Core.List.{List, [], _∷_}
-use Prim.Native.Nat.{ℕ, zero, suc, _+_}
-use lib.ListN.{length, getD, replicate}
+use Prim.Native.Nat.{ℕ, zero, suc, _+_, _-_}
+use lib.ListN.{length, getD, take, replicate}
 use lib.IntN.{ℤ, pos}
-use Rattle.method.specs.Problem.{Schedule, fixed, Problem}
+use Rattle.frank_wolfe.specs.Vectors.{sum}
+use Rattle.method.specs.Problem.{Schedule, fixed, lent, Problem}
 use Rattle.method.specs.Fractions.{Fraction, ratio, integer, _+ℚ_, _-ℚ_, _*ℚ_, ltQ, fractions, difference, inner-product}
 
 -- a point as a convex combination of the vertices: the weight of each, and the point x
@@ -41,9 +42,11 @@ unfoldable pub first-minimizer : List Fraction → ℕ
 first-minimizer [] = 0
 first-minimizer (p ∷ ps) = cond (any-below p ps) (suc (first-minimizer ps)) 0
 
--- the step size γ of step k, counted from 0: 2 / (k + 2)
+-- the step size γ of step k, counted from 0: 2 / (k + 2), or a table's entry over the total of the entries up to it; a total of 0, which no
+-- accepted table has, counts as 1
 unfoldable pub step-size : Schedule → (k : ℕ) → Fraction
 step-size fixed k = ratio (pos 2) (k + 1)
+step-size (lent table) k = ratio (pos (getD table k 0)) (sum (take (suc k) table) - 1)
 
 -- (1 - γ) x + γ s
 unfoldable pub move : (γ : Fraction) → (x s : List Fraction) → List Fraction
