@@ -1,7 +1,7 @@
--- An accepted fleet book and sheet are a well-formed problem, in range and sized, with their own factors and with others.
-use mathlib.Core.Path.{_≡_, _∙_}
+-- An accepted fleet book and sheet are a well-formed problem, in range and sized, with any shares that serve, with their own factors and with others.
+use mathlib.Core.Path.{_≡_, refl, _∙_}
 use mathlib.Core.List.{List, [], _∷_}
-use Prim.Native.Nat.{ℕ, suc, _≤_, _<_}
+use Prim.Native.Nat.{ℕ, zero, suc, _≤_, _<_}
 use native.Mathlib.Nat.{le-trans}
 use native.Mathlib.Omega.{arith}
 use lib.IntN.{ℤ}
@@ -11,9 +11,10 @@ use Rattle.files.specs.Sheet.{sheet, files-refusal}
 use Rattle.files.specs.Fits.{Book-fits, Sheet-fits}
 use Rattle.files.proofs.Accepted.{files-accepted}
 use Rattle.frank_wolfe.specs.Vectors.{sum, Among, here, there}
-use Rattle.method.specs.Problem.{Problem, problem-with, problem}
+use Rattle.method.specs.Problem.{Schedule, Problem, Terms, problem-with, call-problem}
+use Rattle.method.specs.Calls.{before, schedule-refusal, call-refusal}
 use Rattle.method.specs.Iterates.{iterate}
-use Rattle.method.proofs.Weights.{fixed-fits, weight-most}
+use Rattle.method.proofs.Schedules.{Schedule-sized, schedule-sized}
 use Rattle.method.proofs.Entries.{Bounded}
 use Rattle.method.proofs.Shares.{Mixed, iterate-mixed}
 use Rattle.method.proofs.Mixtures.{Well-formed, In-range, Sized}
@@ -36,10 +37,10 @@ module _ (b s : List ℕ) (ok : files-refusal b s ≡ 0) where
   pub row-bounded : (v : List ℤ) → Among (rows b) v → Bounded 2000 v
   row-bounded v a = among-by (Bounded 2000) (rows b) (λ i h. record { each = f .entry-bound i }) a
 
-  -- with any factors that total at most 64
-  module _ (fs : List ℕ) (few : sum fs ≤ 64) where
+  -- with any shares that serve, and any factors that total at most 64
+  module _ {a : Schedule} (S : Schedule-sized a) (fs : List ℕ) (few : sum fs ≤ 64) where
     abbrev p : Problem
-    p = problem-with fs b s
+    p = problem-with a fs b s
 
     pub well-formed-with : Well-formed p
     well-formed-with =
@@ -47,14 +48,19 @@ module _ (b s : List ℕ) (ok : files-refusal b s ≡ 0) where
           some-row = rw (f .row-count) (f .some-boats);
           wide = record { each = row-wide };
           target-length = g .target-length;
-          schedule-fits = fixed-fits;
+          schedule-fits = S .fits;
         }
 
     pub in-range-with : In-range p
     in-range-with = record { few-factors = few; rows-bounded = row-bounded; target-bounded = record { each = g .target-bound } }
 
     pub sized-with : Sized p
-    sized-with = record { some-steps = g .some-steps; weights = λ t h. weight-most (le-trans h (g .most-steps)); most-tolerance = g .most-tolerance }
+    sized-with = 
+        record {
+          some-steps = S .some-steps (sheet s .steps) (g .some-steps);
+          weights = λ t h. S .most-total t (le-trans h (le-trans (S .most-steps (sheet s .steps)) (g .most-steps)));
+          most-tolerance = g .most-tolerance;
+        }
 
     pub mixed-with : (t : ℕ) → Mixed p t (iterate p t)
     mixed-with t = iterate-mixed p (well-formed-with .some-row) (well-formed-with .wide) t
@@ -62,23 +68,33 @@ module _ (b s : List ℕ) (ok : files-refusal b s ≡ 0) where
     pub share-count-with : (t : ℕ) → length (iterate p t .shares) ≡ boats b
     share-count-with t = mixed-with t .count ∙ f .row-count
 
--- ---- The problem of the sheet's own factors
-module _ (b s : List ℕ) (ok : files-refusal b s ≡ 0) where
+-- ---- The problem of a call
+module _ (m : Terms) (b s : List ℕ) (ok : call-refusal m b s ≡ 0) where
+  both : (n k : ℕ) → before n k ≡ 0 → (n ≡ 0) × (k ≡ 0)
+  both zero k e = (refl, e)
+  both (suc n) k e = absurd (omega arith)
+
+  pub files-ok : files-refusal b s ≡ 0
+  files-ok = both (schedule-refusal (m .schedule)) (files-refusal b s) ok .1
+
+  pub call-schedule : Schedule-sized (m .schedule)
+  call-schedule = schedule-sized (m .schedule) (both (schedule-refusal (m .schedule)) (files-refusal b s) ok .0)
+
   few : sum (sheet s .factors) ≤ 64
-  few = files-accepted b s ok .1 .few-factors
+  few = files-accepted b s files-ok .1 .few-factors
 
-  pub well-formed : Well-formed (problem b s)
-  unfolding problem
-  well-formed = well-formed-with b s ok (sheet s .factors) few
+  pub well-formed : Well-formed (call-problem m b s)
+  unfolding call-problem
+  well-formed = well-formed-with b s files-ok call-schedule (sheet s .factors) few
 
-  pub in-range : In-range (problem b s)
-  unfolding problem
-  in-range = in-range-with b s ok (sheet s .factors) few
+  pub in-range : In-range (call-problem m b s)
+  unfolding call-problem
+  in-range = in-range-with b s files-ok call-schedule (sheet s .factors) few
 
-  pub sized : Sized (problem b s)
-  unfolding problem
-  sized = sized-with b s ok (sheet s .factors) few
+  pub sized : Sized (call-problem m b s)
+  unfolding call-problem
+  sized = sized-with b s files-ok call-schedule (sheet s .factors) few
 
-  pub share-count : (t : ℕ) → length (iterate (problem b s) t .shares) ≡ boats b
-  unfolding problem
-  share-count = share-count-with b s ok (sheet s .factors) few
+  pub share-count : (t : ℕ) → length (iterate (call-problem m b s) t .shares) ≡ boats b
+  unfolding call-problem
+  share-count = share-count-with b s files-ok call-schedule (sheet s .factors) few

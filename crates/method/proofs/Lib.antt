@@ -8,8 +8,9 @@ pub mod Mixtures
 pub mod Iterates
 pub mod Verdicts
 pub mod Running
+pub mod Schedules
 pub mod Accepted
-pub mod Table
+pub mod Counted
 pub mod Plain
 pub mod Bounds
 pub mod Fractions

@@ -13,17 +13,18 @@ use Rattle.files.specs.Sheet.{files-refusal}
 use Rattle.files.specs.Editions.{Editions, Editions-alike}
 use Rattle.files.specs.Front.{Files-alike, Files-front-unread}
 use Rattle.files.proofs.Editions.{editions-alike}
-use Rattle.method.specs.Problem.{Problem, problem}
-use Rattle.method.specs.Table.{table-refusal, on-table}
 use Rattle.files.proofs.Front.{files-front-unread}
+use Rattle.files.proofs.Accepted.{files-accepted}
+use Rattle.method.specs.Problem.{Problem, Terms, plain-terms, call-problem, problem}
+use Rattle.method.specs.Calls.{call-refusal}
 use Rattle.method.specs.declared.Answer.{Answer}
 use Rattle.method.specs.declared.Searched.{Searched}
 use Rattle.method.specs.declared.Searched.the-variants.{Refused, Answered}
-use Rattle.method.specs.Answers.{refusal-number, outcome, steps-used, run-iterate, run-answer, search-refusal, slots-after}
-use Rattle.method.specs.Promise.{Run-right, Outcome-right}
+use Rattle.method.specs.Answers.{refusal-number, outcome, steps-used, run-iterate, run-answer, search-refusal-with, search-refusal, slots-after}
+use Rattle.method.specs.Promise.{Run-right, Counts, Outcome-right-with}
 use Rattle.method.proofs.Mixtures.{Well-formed, In-range, Sized}
-use Rattle.method.proofs.Accepted.{well-formed, in-range, sized, share-count}
-use Rattle.method.proofs.Table.{table-accepted, well-formed-on, in-range-on, sized-on}
+use Rattle.method.proofs.Accepted.{files-ok, well-formed, in-range, sized, share-count}
+use Rattle.method.proofs.Counted.{counted-same}
 use Rattle.method.proofs.Bounds.{run-bounds}
 use Rattle.method.proofs.Published.{published-run}
 use Rattle.method.proofs.SmallGap.{small-gap}
@@ -31,58 +32,59 @@ use Rattle.method.proofs.SmallGap.{small-gap}
 pub problem-right : {p : Problem} → Well-formed p → In-range p → Sized p → Run-right p (run-answer p) (run-iterate p .shares)
 problem-right h r z = record { bounds = run-bounds h r z; published = published-run h (z .some-steps); small-gap = small-gap h }
 
--- of any such problem with an accepted table: the step bound is then 2 D² t / W, the published step size an entry over its running total
-pub on-table-right : {p : Problem} (table : List ℕ) → table-refusal table ≡ 0 → Well-formed p → In-range p → Sized p →
-    Run-right (on-table table p) (run-answer (on-table table p)) (run-iterate (on-table table p) .shares)
-on-table-right table fits h r z =
-    let f = table-accepted table fits in
-    problem-right (well-formed-on f h) (in-range-on f r) (sized-on f z)
+-- of a call: with a lent table the step bound is 2 D² t / W, and the published step size an entry over its running total
+pub run-right : (m : Terms) (b s : List ℕ) → call-refusal m b s ≡ 0 → Run-right (call-problem m b s) (run-answer (call-problem m b s)) (run-iterate (call-problem m b s) .shares)
+run-right m b s ok = problem-right (well-formed m b s ok) (in-range m b s ok) (sized m b s ok)
 
-pub run-right : (b s : List ℕ) → files-refusal b s ≡ 0 → Run-right (problem b s) (run-answer (problem b s)) (run-iterate (problem b s) .shares)
-run-right b s ok = problem-right (well-formed b s ok) (in-range b s ok) (sized b s ok)
-
--- the same with an accepted table
-pub table-right : (table b s : List ℕ) → table-refusal table ≡ 0 → files-refusal b s ≡ 0 →
-    Run-right (on-table table (problem b s)) (run-answer (on-table table (problem b s))) (run-iterate (on-table table (problem b s)) .shares)
-table-right table b s fits ok = on-table-right table fits (well-formed b s ok) (in-range b s ok) (sized b s ok)
-
-pub run-share-count : (b s : List ℕ) → files-refusal b s ≡ 0 → length (run-iterate (problem b s) .shares) ≡ boats b
+pub run-share-count : (m : Terms) (b s : List ℕ) → call-refusal m b s ≡ 0 → length (run-iterate (call-problem m b s) .shares) ≡ boats b
 unfolding run-iterate
-run-share-count b s ok = share-count b s ok (steps-used (problem b s))
+run-share-count m b s ok = share-count m b s ok (steps-used (call-problem m b s))
 
 -- ---- Sheets that differ in their edition alone
-module _ (b s s′ : List ℕ) where
+module _ (m : Terms) (b s s′ : List ℕ) where
   pub same-files : Editions s s′ → files-refusal b s′ ≡ files-refusal b s
   unfolding files-refusal Editions-alike
   same-files d = rw (editions-alike s s′ d .1)
 
-  pub same-search : (slots : ℕ) → Editions s s′ → search-refusal b s′ slots ≡ search-refusal b s slots
-  unfolding search-refusal
+  pub same-search : (slots : ℕ) → Editions s s′ → search-refusal-with m b s′ slots ≡ search-refusal-with m b s slots
+  unfolding search-refusal-with
   same-search slots d = rw (same-files d)
 
-  pub same-problem : Editions s s′ → problem b s′ ≡ problem b s
-  unfolding problem Editions-alike
+  pub same-problem : Editions s s′ → call-problem m b s′ ≡ call-problem m b s
+  unfolding call-problem Editions-alike
   same-problem d = rw (editions-alike s s′ d .0)
 
 -- ---- Files that differ in front text alone
-module _ {b s b′ s′ : List ℕ} (d : Files-alike b s b′ s′) where
-  pub search-behind : (slots : ℕ) → search-refusal b′ s′ slots ≡ search-refusal b s slots
-  unfolding search-refusal
+module _ (m : Terms) {b s b′ s′ : List ℕ} (d : Files-alike b s b′ s′) where
+  pub search-behind : (slots : ℕ) → search-refusal-with m b′ s′ slots ≡ search-refusal-with m b s slots
+  unfolding search-refusal-with
   search-behind slots = rw (d .refusal, d .boats)
 
-  pub problem-behind : problem b′ s′ ≡ problem b s
-  unfolding problem
+  pub problem-behind : call-problem m b′ s′ ≡ call-problem m b s
+  unfolding call-problem
   problem-behind = rw (d .columns, d .rows, d .sheet)
 
--- a search that is not refused has files that are not, and a slot for each boat
-pub search-accepted : (b s : List ℕ) (slots : ℕ) → search-refusal b s slots ≡ 0 → (files-refusal b s ≡ 0) × (boats b ≤ slots)
-unfolding search-refusal
-search-accepted b s slots e = by (eqb (files-refusal b s) 0) refl (ltb slots (boats b)) refl e
+-- a search that is not refused has terms and files that are not, and a slot for each boat
+pub search-accepted : (m : Terms) (b s : List ℕ) (slots : ℕ) → search-refusal-with m b s slots ≡ 0 → (call-refusal m b s ≡ 0) × (boats b ≤ slots)
+unfolding search-refusal-with
+search-accepted m b s slots e = by (eqb (call-refusal m b s) 0) refl (ltb slots (boats b)) refl e
   where
-    by : (t : Bool) → eqb (files-refusal b s) 0 ≡ t → (u : Bool) → ltb slots (boats b) ≡ u → cond t (cond u 21 0) (files-refusal b s) ≡ 0 → (files-refusal b s ≡ 0) × (boats b ≤ slots)
+    by : (t : Bool) → eqb (call-refusal m b s) 0 ≡ t → (u : Bool) → ltb slots (boats b) ≡ u → cond t (cond u 21 0) (call-refusal m b s) ≡ 0 → (call-refusal m b s ≡ 0) × (boats b ≤ slots)
     by true q true r e = absurd (omega arith)
-    by true q false r e = (eqb-true (files-refusal b s) 0 q, ltb-false slots (boats b) r)
-    by false q u r e = absurd (let t = eq-eqb (files-refusal b s) 0 e in let z : _≡_ {A = ℕ} 0 1 = cc in omega arith)
+    by true q false r e = (eqb-true (call-refusal m b s) 0 q, ltb-false slots (boats b) r)
+    by false q u r e = absurd (let t = eq-eqb (call-refusal m b s) 0 e in let z : _≡_ {A = ℕ} 0 1 = cc in omega arith)
+
+-- ---- A table that counts 1, 2, 3, ..
+module _ (m : Terms) (b s : List ℕ) (c : Counts m s) where
+  pub counted-call : call-refusal m b s ≡ files-refusal b s
+  counted-call = rw (c .is-lent, c .accepted)
+
+  pub counted-search : (slots : ℕ) → search-refusal-with m b s slots ≡ search-refusal b s slots
+  unfolding search-refusal-with
+  counted-search slots = rw counted-call
+
+  pub counted-run : files-refusal b s ≡ 0 → (run-answer (call-problem m b s) ≡ run-answer (problem b s)) × (run-iterate (call-problem m b s) ≡ run-iterate (problem b s))
+  counted-run ok = counted-same m b s (files-accepted b s ok .1 .some-steps) c
 
 -- ---- An outcome by its number
 
@@ -112,26 +114,28 @@ pub slots-kept : (qs slots : List ℕ) (n : ℕ) → length qs ≡ n → take n 
 unfolding slots-after
 slots-kept qs slots n e = take-at qs (drop (length qs) slots) n e
 
-pub outcome-right : (b s slots : List ℕ) (n : ℕ) (r : Searched) (now : List ℕ) →
-    n ≡ search-refusal b s (length slots) → r ≡ outcome n (run-answer (problem b s)) → now ≡ slots-after n (run-iterate (problem b s) .shares) slots → Outcome-right b s r now
+pub outcome-right : (m : Terms) (b s slots : List ℕ) (n : ℕ) (r : Searched) (now : List ℕ) →
+    n ≡ search-refusal-with m b s (length slots) → r ≡ outcome n (run-answer (call-problem m b s)) → now ≡ slots-after n (run-iterate (call-problem m b s) .shares) slots →
+    Outcome-right-with m b s r now
 unfolding Files-front-unread
-outcome-right b s slots n r now e f g =
+outcome-right m b s slots n r now e f g =
     record {
-      number = ap refusal-number f ∙ outcome-number n (run-answer (problem b s)) ∙ e ∙ ap (search-refusal b s) (sym same-length);
-      refused = λ m q. outcome-refused n m (run-answer (problem b s)) (sym f ∙ q) .1;
-      answered = λ a q. let h = outcome-answered n (run-answer (problem b s)) a (sym f ∙ q) in rw (← h .1, kept (h .0)) (run-right b s (accepted (h .0) .0));
-      editions = λ s′ d. (same-search b s s′ (length now) d, same-problem b s s′ d);
-      fronts = λ b′ s′ d h. (search-behind (files-front-unread b s b′ s′ d h) (length now), problem-behind (files-front-unread b s b′ s′ d h));
+      number = ap refusal-number f ∙ outcome-number n (run-answer (call-problem m b s)) ∙ e ∙ ap (search-refusal-with m b s) (sym same-length);
+      refused = λ k q. outcome-refused n k (run-answer (call-problem m b s)) (sym f ∙ q) .1;
+      answered = λ a q. let h = outcome-answered n (run-answer (call-problem m b s)) a (sym f ∙ q) in rw (← h .1, kept (h .0)) (run-right m b s (accepted (h .0) .0));
+      editions = λ s′ d. (same-search m b s s′ (length now) d, same-problem m b s s′ d);
+      fronts = λ b′ s′ d h. (search-behind m (files-front-unread b s b′ s′ d h) (length now), problem-behind m (files-front-unread b s b′ s′ d h));
+      counted = λ c. (counted-search m b s c (length now), λ z. counted-run m b s c (search-accepted plain-terms b s (length now) z .0));
     }
   where
     qs : List ℕ
-    qs = run-iterate (problem b s) .shares
+    qs = run-iterate (call-problem m b s) .shares
 
-    accepted : n ≡ 0 → (files-refusal b s ≡ 0) × (boats b ≤ length slots)
-    accepted z = search-accepted b s (length slots) (sym e ∙ z)
+    accepted : n ≡ 0 → (call-refusal m b s ≡ 0) × (boats b ≤ length slots)
+    accepted z = search-accepted m b s (length slots) (sym e ∙ z)
 
     same-length : length now ≡ length slots
-    same-length = ap length g ∙ length-after n qs slots (λ z. rw (run-share-count b s (accepted z .0)) (accepted z .1))
+    same-length = ap length g ∙ length-after n qs slots (λ z. rw (run-share-count m b s (accepted z .0)) (accepted z .1))
 
     kept : n ≡ 0 → take (boats b) now ≡ qs
-    kept z = ap (take (boats b)) (g ∙ ap (λ m. slots-after m qs slots) z) ∙ slots-kept qs slots (boats b) (run-share-count b s (accepted z .0))
+    kept z = ap (take (boats b)) (g ∙ ap (λ k. slots-after k qs slots) z) ∙ slots-kept qs slots (boats b) (run-share-count m b s (accepted z .0))

@@ -6,7 +6,6 @@ use lib.Dec.{eqb, ltb, leb}
 use lib.ListN.{length, drop}
 use lib.IntN.{ℤ, pos, _-ℤ_}
 use Rattle.files.specs.Book.{boats}
-use Rattle.files.specs.Sheet.{files-refusal}
 use Rattle.method.specs.declared.Verdict.{Verdict}
 use Rattle.method.specs.declared.Verdict.the-variants.{Within, Beyond, Spent}
 use Rattle.method.specs.declared.Test.{Test}
@@ -14,7 +13,8 @@ use Rattle.method.specs.declared.Test.the-variants.{Former, Sharper}
 use Rattle.method.specs.declared.Answer.{Answer}
 use Rattle.method.specs.declared.Searched.{Searched}
 use Rattle.method.specs.declared.Searched.the-variants.{Refused, Answered}
-use Rattle.method.specs.Problem.{Problem, weight}
+use Rattle.method.specs.Problem.{Problem, Terms, plain-terms, weight}
+use Rattle.method.specs.Calls.{call-refusal}
 use Rattle.method.specs.Iterates.{Iterate, start, direction, step, iterate, distance, gap}
 
 -- ---- The enums by number
@@ -88,9 +88,13 @@ run-answer p = answer-at Sharper p (steps-used p) (run-iterate p)
 
 -- ---- The search
 
--- 1 to 17 and 46 of the files, then 21: a share list shorter than the number of boats
-unfoldable pub search-refusal : (book sheet : List ℕ) → (slots : ℕ) → ℕ
-search-refusal b s slots = cond (eqb (files-refusal b s) 0) (cond (ltb slots (boats b)) 21 0) (files-refusal b s)
+-- what refuses the call's terms and its files, then 21: a share list shorter than the number of boats
+unfoldable pub search-refusal-with : Terms → (book sheet : List ℕ) → (slots : ℕ) → ℕ
+search-refusal-with m b s slots = cond (eqb (call-refusal m b s) 0) (cond (ltb slots (boats b)) 21 0) (call-refusal m b s)
+
+-- of files alone: 1 to 17 and 46, then 21
+abbrev pub search-refusal : (book sheet : List ℕ) → (slots : ℕ) → ℕ
+search-refusal b s slots = search-refusal-with plain-terms b s slots
 
 -- a lent share list afterwards: as it was where refused; else the shares in its first slots, later ones as they were
 unfoldable pub slots-after : (refusal : ℕ) → (shares slots : List ℕ) → List ℕ

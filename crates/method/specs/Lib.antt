@@ -1,6 +1,6 @@
 -- The definitions of this crate: the method in whole numbers, the published one over fractions, and what is promised of a run.
 pub mod Problem
-pub mod Table
+pub mod Calls
 pub mod Plain
 pub mod Minimum
 pub mod Iterates

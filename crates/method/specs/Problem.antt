@@ -1,8 +1,9 @@
--- What the method is given: vertices, a target, a factor for each column, a tolerance, and how many steps may be taken with which shares.
+-- What the method is given: vertices, a target, a factor for each column, a tolerance, and how many steps may be taken with which shares;
+-- and the problem that a call sets with its files and its terms.
 -- Definitions only. Assumes nothing.
 use mathlib.Core.List.{List}
-use Prim.Native.Nat.{ℕ, suc, _+_, _*_, _/_}
-use lib.ListN.{getD, take}
+use Prim.Native.Nat.{ℕ, suc, _+_, _*_, _/_, min}
+use lib.ListN.{length, getD, take}
 use lib.IntN.{ℤ}
 use Rattle.frank_wolfe.specs.Vectors.{sum}
 use Rattle.files.specs.Book.{rows, columns}
@@ -25,6 +26,11 @@ unfoldable pub weight : Schedule → (t : ℕ) → ℕ
 weight fixed t = t * (t + 1) / 2
 weight (lent table) t = sum (take t table)
 
+-- how many of n steps may be taken: no more than a table has entries
+abbrev pub allowed-steps : Schedule → (n : ℕ) → ℕ
+allowed-steps fixed n = n
+allowed-steps (lent table) n = min n (length table)
+
 -- a mixture of the vertices is looked for whose squared distance to the target is at most the tolerance
 pub record Problem : Type 0 where
   -- how many entries each vertex and the target have
@@ -40,19 +46,36 @@ pub record Problem : Type 0 where
   -- how many steps a run may take
   pub steps : ℕ
 
--- the problem of a fleet book and a sheet, as bytes, with these factors: a vertex for every boat, and step k gives k shares
-abbrev pub problem-with : (factors book sheet : List ℕ) → Problem
-problem-with fs b s =
+-- the terms of a call: what it is given beside its files
+pub record Terms : Type 0 where
+  -- a table of shares where one is lent, else the fixed shares
+  pub schedule : Schedule
+
+-- those of a call that is given its files alone
+abbrev pub plain-terms : Terms
+plain-terms = record { schedule = fixed }
+
+-- the steps that a call asks for: the sheet's number, or a lent table's where that is less
+abbrev pub call-steps : Terms → (sheet : List ℕ) → ℕ
+call-steps m s = allowed-steps (m .schedule) (sheet s .steps)
+
+-- the problem of a fleet book and a sheet, as bytes, with these shares and factors: a vertex for every boat
+abbrev pub problem-with : Schedule → (factors book sheet : List ℕ) → Problem
+problem-with a fs b s =
     record {
       columns = columns b;
       vertices = rows b;
       target = sheet s .target;
       factors = fs;
-      schedule = fixed;
+      schedule = a;
       tolerance = sheet s .tolerance;
-      steps = sheet s .steps;
+      steps = allowed-steps a (sheet s .steps);
     }
 
--- the problem of a fleet book and a sheet: the factors are the sheet's
-unfoldable pub problem : (book sheet : List ℕ) → Problem
-problem b s = problem-with (sheet s .factors) b s
+-- the problem that a call sets: the factors are the sheet's
+unfoldable pub call-problem : Terms → (book sheet : List ℕ) → Problem
+call-problem m b s = problem-with (m .schedule) (sheet s .factors) b s
+
+-- the problem of a fleet book and a sheet alone: step k gives k shares
+abbrev pub problem : (book sheet : List ℕ) → Problem
+problem b s = call-problem plain-terms b s

@@ -1,16 +1,18 @@
 -- What the search promises of its outcome, on every input: one record for a run, and what a refusal is. Definitions only.
 use mathlib.Core.Path.{_≡_}
 use mathlib.Core.List.{List}
-use Prim.Native.Nat.{ℕ, _≤_}
-use lib.ListN.{length, take}
+use Prim.Native.Nat.{ℕ, suc, _≤_, _<_}
+use lib.ListN.{length, getD, take}
 use Rattle.files.specs.Book.{boats}
+use Rattle.files.specs.Sheet.{sheet}
 use Rattle.files.specs.Editions.{Editions}
 use Rattle.files.specs.Front.{Same-book, Same-sheet}
 use Rattle.method.specs.declared.Answer.{Answer}
 use Rattle.method.specs.declared.Searched.{Searched}
 use Rattle.method.specs.declared.Searched.the-variants.{Refused, Answered}
-use Rattle.method.specs.Problem.{fixed, Problem, problem}
-use Rattle.method.specs.Answers.{refusal-number, search-refusal}
+use Rattle.method.specs.Problem.{fixed, lent, Problem, Terms, plain-terms, call-problem, problem}
+use Rattle.method.specs.Calls.{table-refusal}
+use Rattle.method.specs.Answers.{refusal-number, run-answer, run-iterate, search-refusal-with, search-refusal}
 use Rattle.method.specs.Bounds.{Run-bounds}
 use Rattle.method.specs.PublishedRun.{Published-run}
 use Rattle.method.specs.SmallGap.{Small-gap}
@@ -24,16 +26,33 @@ pub record Run-right (p : Problem) (a : Answer) (shares : List ℕ) : Type 0 whe
   -- how small the gap gets within any number k of steps, with the shares 1, 2, 3, ..
   pub small-gap : p .schedule ≡ fixed → (k : ℕ) → 2 ≤ k → Small-gap p k
 
--- of an outcome and the share list that it leaves
-pub record Outcome-right (b s : List ℕ) (r : Searched) (slots : List ℕ) : Type 0 where
+-- the lent table counts 1, 2, 3, .. as far as the sheet asks for steps; what stands behind is any that is accepted
+pub record Counts (m : Terms) (s : List ℕ) : Type 0 where
+  pub table : List ℕ
+  pub is-lent : m .schedule ≡ lent table
+  pub accepted : table-refusal table ≡ 0
+  pub long : sheet s .steps ≤ length table
+  pub counts : (k : ℕ) → k < sheet s .steps → getD table k 0 ≡ suc k
+
+-- of an outcome of a call and the share list that it leaves
+pub record Outcome-right-with (m : Terms) (b s : List ℕ) (r : Searched) (slots : List ℕ) : Type 0 where
   -- its number is that of the first test that fails, 0 where none does
-  pub number : refusal-number r ≡ search-refusal b s (length slots)
+  pub number : refusal-number r ≡ search-refusal-with m b s (length slots)
   -- a refusal is never the number 0
   pub refused : (n : ℕ) → r ≡ Refused n → 1 ≤ n
   -- the shares of a run are in the first slots, one a boat
-  pub answered : (a : Answer) → r ≡ Answered a → Run-right (problem b s) a (take (boats b) slots)
+  pub answered : (a : Answer) → r ≡ Answered a → Run-right (call-problem m b s) a (take (boats b) slots)
   -- a sheet of the other edition that asks for the same, every factor 1, is refused by the same number and is the same problem
-  pub editions : (s′ : List ℕ) → Editions s s′ → (search-refusal b s′ (length slots) ≡ search-refusal b s (length slots)) × (problem b s′ ≡ problem b s)
+  pub editions : (s′ : List ℕ) → Editions s s′ →
+      (search-refusal-with m b s′ (length slots) ≡ search-refusal-with m b s (length slots)) × (call-problem m b s′ ≡ call-problem m b s)
   -- front text is never read: files that differ from these in front text alone are refused by the same number and are the same problem
   pub fronts : (b′ s′ : List ℕ) → Same-book b b′ → Same-sheet s s′ →
-      (search-refusal b′ s′ (length slots) ≡ search-refusal b s (length slots)) × (problem b′ s′ ≡ problem b s)
+      (search-refusal-with m b′ s′ (length slots) ≡ search-refusal-with m b s (length slots)) × (call-problem m b′ s′ ≡ call-problem m b s)
+  -- with a table that counts 1, 2, 3, .. the refusal, the answer and the shares are those of the files alone
+  pub counted : Counts m s →
+      (search-refusal-with m b s (length slots) ≡ search-refusal b s (length slots))
+      × (search-refusal b s (length slots) ≡ 0 → (run-answer (call-problem m b s) ≡ run-answer (problem b s)) × (run-iterate (call-problem m b s) ≡ run-iterate (problem b s)))
+
+-- of an outcome of the files alone
+abbrev pub Outcome-right : (b s : List ℕ) → (r : Searched) → (slots : List ℕ) → Type 0
+Outcome-right b s r slots = Outcome-right-with plain-terms b s r slots
