@@ -11,24 +11,25 @@ use lib.Seq.{length-take-le}
 use Rattle.frank_wolfe.specs.Vectors.{sum}
 use Rattle.files.specs.Bytes.{all-bytes, same, between, length-in-range, trailer, body-offset, body, reaches}
 use Rattle.files.specs.Book.{columns, boats}
-use Rattle.files.specs.Sheet.{sheet, files-refusal}
+use Rattle.files.specs.Sheet.{sheet}
+use Rattle.method.specs.Calls.{call-refusal}
 use Rattle.files.proofs.Refusal.{and-true, between-true, between-said}
 use Rattle.files.proofs.Accepted.{passed, passed-last, files-accepted}
 use Rattle.method.specs.declared.Test.{Test}
 use Rattle.method.specs.declared.Test.the-variants.{Former, Sharper}
 use Rattle.method.specs.declared.Verdict.{Verdict}
 use Rattle.method.specs.declared.Verdict.the-variants.{Within, Beyond, Spent}
-use Rattle.method.specs.Problem.{fixed, problem}
+use Rattle.method.specs.Problem.{Terms, call-steps, call-problem}
 use Rattle.method.specs.Iterates.{support, distance, gap}
 use Rattle.method.specs.Answers.{verdict-number, stops}
 use Rattle.method.specs.Bounds.{answer-of, Answer-bounds}
-use Rattle.method.proofs.Accepted.{well-formed, in-range, sized}
+use Rattle.method.proofs.Accepted.{files-ok, call-schedule, well-formed, in-range, sized}
 use Rattle.method.proofs.Bounds.{answer-bounds}
-use Rattle.method.proofs.Weights.{fixed-fits, weight-most, weight-positive}
+use Rattle.method.proofs.Weights.{weight-positive}
 use Rattle.method.proofs.Shares.{share-most}
-use Rattle.card_format.specs.Format.{Fields, letters, pairs, trailer-bytes, fields, card-fields, lettered, card-test, card-body, pair-count, card-shares, card-answer}
-use Rattle.card_format.specs.Checks.{back-fits, pairs-in-order, counts-agree, steps-fit, form-refusal, shares-total, numbers-agree, truth-refusal, card-refusal}
-use Rattle.card_format.specs.Truth.{Card-true}
+use Rattle.card_format.specs.Format.{Fields, letters, pairs, trailer-bytes, fields, card-fields, lettered, card-test, card-body, pair-count, card-shares, card-answer-with}
+use Rattle.card_format.specs.Checks.{back-fits, pairs-in-order, counts-agree, steps-fit, form-refusal, shares-total, numbers-agree, truth-refusal, card-refusal-with}
+use Rattle.card_format.specs.Truth.{Card-true-with}
 use Rattle.files.proofs.Bytes.{drop-bytes}
 use Rattle.card_format.proofs.Pairs.{Parsed, parse, Readable, readable}
 use Rattle.files.proofs.Letters.{same-eq}
@@ -37,15 +38,15 @@ use Rattle.card_format.proofs.Trailer.{Fields-fit, length-trailer, lett
 
 -- ---- The tests, one by one
 
-pub record Passed (b s w : List ℕ) : Type 0 where
+pub record Passed (m : Terms) (b s w : List ℕ) : Type 0 where
   pub sized : length-in-range 36 w ≡ true
   pub letters : lettered Former w || lettered Sharper w ≡ true
   pub counts : counts-agree (boats b) (columns b) w ≡ true
-  pub ranges : steps-fit (sheet s .steps) w ≡ true
+  pub ranges : steps-fit (call-steps m s) w ≡ true
   pub back : back-fits (boats b) (card-fields w .back) w ≡ true
   pub ordered : pairs-in-order (pair-count w) 0 (boats b) (card-body w) ≡ true
-  pub totals : shares-total fixed (pair-count w) (card-shares (boats b) w) (card-fields w .steps) ≡ true
-  pub numbers : numbers-agree (sheet s .steps) w (card-answer b s w) ≡ true
+  pub totals : shares-total (m .schedule) (pair-count w) (card-shares (boats b) w) (card-fields w .steps) ≡ true
+  pub numbers : numbers-agree (call-steps m s) w (card-answer-with m b s w) ≡ true
   pub tolerance : eqb (card-fields w .tolerance) (sheet s .tolerance) ≡ true
 
 -- the first of two numbers that is not 0 is 0
@@ -53,18 +54,18 @@ pub both-zero : (m n : ℕ) → cond (eqb m 0) n m ≡ 0 → (m ≡ 0) × (n ≡
 both-zero zero n e = (refl, e)
 both-zero (suc m) n e = absurd (omega (arith, rw (eqb·suc-zero m) at e))
 
-pub all-passed : (b s w : List ℕ) → card-refusal b s w ≡ 0 → Passed b s w
-unfolding card-refusal form-refusal truth-refusal card-answer problem
-all-passed b s w e =
-    let p = both-zero (form-refusal (boats b) (columns b) (sheet s .steps) w) (truth-refusal (problem b s) (card-shares (boats b) w) w) e in
+pub all-passed : (m : Terms) (b s w : List ℕ) → card-refusal-with m b s w ≡ 0 → Passed m b s w
+unfolding card-refusal-with form-refusal truth-refusal card-answer-with call-problem
+all-passed m b s w e =
+    let p = both-zero (form-refusal (boats b) (columns b) (call-steps m s) w) (truth-refusal (call-problem m b s) (card-shares (boats b) w) w) e in
     let p1 = passed (length-in-range 36 w) 30 _ (p .0) in
     let p2 = passed (lettered Former w || lettered Sharper w) 31 _ (p1 .1) in
     let p3 = passed (counts-agree (boats b) (columns b) w) 32 _ (p2 .1) in
-    let p4 = passed (steps-fit (sheet s .steps) w) 33 _ (p3 .1) in
+    let p4 = passed (steps-fit (call-steps m s) w) 33 _ (p3 .1) in
     let p5 = passed (back-fits (boats b) (card-fields w .back) w) 34 _ (p4 .1) in
     let p6 = passed (pairs-in-order (pair-count w) 0 (boats b) (card-body w)) 35 0 (p5 .1) in
-    let p7 = passed (shares-total fixed (pair-count w) (card-shares (boats b) w) (card-fields w .steps)) 36 _ (p .1) in
-    let p8 = passed (numbers-agree (sheet s .steps) w (card-answer b s w)) 37 _ (p7 .1) in
+    let p7 = passed (shares-total (m .schedule) (pair-count w) (card-shares (boats b) w) (card-fields w .steps)) 36 _ (p .1) in
+    let p8 = passed (numbers-agree (call-steps m s) w (card-answer-with m b s w)) 37 _ (p7 .1) in
     record {
       sized = p1 .0;
       letters = p2 .0;
@@ -77,8 +78,8 @@ all-passed b s w e =
       tolerance = passed-last _ 38 (p8 .1);
     }
 
-passed-all : {b s w : List ℕ} → Passed b s w → card-refusal b s w ≡ 0
-unfolding card-refusal form-refusal truth-refusal card-answer problem
+passed-all : {m : Terms} {b s w : List ℕ} → Passed m b s w → card-refusal-with m b s w ≡ 0
+unfolding card-refusal-with form-refusal truth-refusal card-answer-with call-problem
 passed-all p = simp (p .sized, p .letters, p .counts, p .ranges, p .back, p .ordered, p .totals, p .numbers, p .tolerance)
 
 -- ---- What the tests say
@@ -132,7 +133,7 @@ letters-told Sharper w e = (rw e refl, rw e refl)
 
 -- ---- An accepted card is true
 
-module _ (b s w : List ℕ) (all : all-bytes w ≡ true) (p : Passed b s w) where
+module _ (m : Terms) (b s w : List ℕ) (all : all-bytes w ≡ true) (p : Passed m b s w) where
   own : Fields
   own = card-fields w
 
@@ -170,21 +171,21 @@ module _ (b s w : List ℕ) (all : all-bytes w ≡ true) (p : Passed b s w) wher
   unfolding card-fields
   trailer-written = fields-written (card-test w) (trailer 36 w) (unfold trailer in drop-bytes (length w - 36) w all) trailer-length (letters-tested w (p .letters))
 
-  numbers-are : (eqb (card-fields w .distance) (card-answer b s w .distance) && eqb (card-fields w .gap) (card-answer b s w .gap) ≡ true)
-      × (eqb (card-fields w .verdict) (verdict-number (card-answer b s w .verdict)) && stops (sheet s .steps) (card-fields w .steps) (card-answer b s w .verdict) ≡ true)
+  numbers-are : (eqb (card-fields w .distance) (card-answer-with m b s w .distance) && eqb (card-fields w .gap) (card-answer-with m b s w .gap) ≡ true)
+      × (eqb (card-fields w .verdict) (verdict-number (card-answer-with m b s w .verdict)) && stops (call-steps m s) (card-fields w .steps) (card-answer-with m b s w .verdict) ≡ true)
   unfolding numbers-agree
-  numbers-are = and-true (eqb (card-fields w .distance) (card-answer b s w .distance) && eqb (card-fields w .gap) (card-answer b s w .gap)) _ (p .numbers)
+  numbers-are = and-true (eqb (card-fields w .distance) (card-answer-with m b s w .distance) && eqb (card-fields w .gap) (card-answer-with m b s w .gap)) _ (p .numbers)
 
-  passed-true : Card-true b s w
-  unfolding problem card-answer counts-agree steps-fit shares-total
+  passed-true : Card-true-with m b s w
+  unfolding call-problem card-answer-with counts-agree steps-fit shares-total
   passed-true =
       let counts = and-true (eqb (card-fields w .boats) (boats b)) _ (p .counts) in
       let n : card-fields w .boats ≡ boats b = eqb-true _ _ (counts .0) in
       let ranges = and-true (between 1 3 (card-fields w .verdict)) _ (p .ranges) in
-      let steps = between-true 1 (sheet s .steps) (card-fields w .steps) (ranges .1) in
+      let steps = between-true 1 (call-steps m s) (card-fields w .steps) (ranges .1) in
       let totals = and-true (leb (pair-count w) (card-fields w .steps)) _ (p .totals) in
-      let eg = and-true (eqb (card-fields w .distance) (card-answer b s w .distance)) _ (numbers-are .0) in
-      let vs = and-true (eqb (card-fields w .verdict) (verdict-number (card-answer b s w .verdict))) _ (numbers-are .1) in
+      let eg = and-true (eqb (card-fields w .distance) (card-answer-with m b s w .distance)) _ (numbers-are .0) in
+      let vs = and-true (eqb (card-fields w .verdict) (verdict-number (card-answer-with m b s w .verdict))) _ (numbers-are .1) in
       record {
         front = take (length w - 36 - card-fields w .back) w;
         shares = card-shares (boats b) w;
@@ -209,8 +210,8 @@ module _ (b s w : List ℕ) (all : all-bytes w ≡ true) (p : Passed b s w) wher
         };
       }
 
-pub accepted-true : (b s w : List ℕ) → all-bytes w ≡ true → card-refusal b s w ≡ 0 → Card-true b s w
-accepted-true b s w all e = passed-true b s w all (all-passed b s w e)
+pub accepted-true : (m : Terms) (b s w : List ℕ) → all-bytes w ≡ true → card-refusal-with m b s w ≡ 0 → Card-true-with m b s w
+accepted-true m b s w all e = passed-true m b s w all (all-passed m b s w e)
 
 -- ---- A true card is accepted
 
@@ -232,34 +233,34 @@ support-some [] h = h
 support-some (zero ∷ qs) h = omega (arith, support-some qs (omega arith))
 support-some (suc q ∷ qs) h = rw (ne-eqb (suc q) 0 (λ e. omega arith)) (omega arith)
 
-module _ (b s w : List ℕ) (ok : files-refusal b s ≡ 0) (c : Card-true b s w) where
+module _ (m : Terms) (b s w : List ℕ) (ok : call-refusal m b s ≡ 0) (c : Card-true-with m b s w) where
   few-steps : c .own .steps ≤ step-limit
-  unfolding problem
-  few-steps = omega (arith, c .truth .most-steps, files-accepted b s ok .1 .most-steps)
+  unfolding call-problem
+  few-steps = omega (arith, call-schedule m b s ok .most-steps (sheet s .steps), c .truth .most-steps, files-accepted b s (files-ok m b s ok) .1 .most-steps)
 
   count : length (c .shares) ≡ boats b
   count = c .share-count ∙ c .boats
 
   share-fits : (j : ℕ) → getD (c .shares) j 0 < 65536
-  unfolding problem
-  share-fits j = omega (arith, share-most (c .shares) j, c .truth .total, weight-most few-steps)
+  unfolding call-problem
+  share-fits j = omega (arith, share-most (c .shares) j, c .truth .total, call-schedule m b s ok .most-total (c .own .steps) few-steps)
 
   reading : Readable 0 (boats b) (support (c .shares)) (pairs 0 (c .shares)) (c .shares)
-  reading = readable (c .shares) 0 (boats b) (omega (arith, count)) (omega (arith, files-accepted b s ok .0 .most-boats)) share-fits
+  reading = readable (c .shares) 0 (boats b) (omega (arith, count)) (omega (arith, files-accepted b s (files-ok m b s ok) .0 .most-boats)) share-fits
 
-  pub own-bounds : Answer-bounds (c .test) (problem b s) (answer-of (c .test) (problem b s) (c .shares) (c .own .steps)) (c .shares)
-  unfolding problem
-  own-bounds = answer-bounds (well-formed b s ok) (in-range b s ok) (sized b s ok) (c .test) (c .shares) (c .own .steps) (count ∙ sym (files-accepted b s ok .0 .row-count)) (c .truth .total) (c .truth .few-boats) (c .truth .some-step) (c .truth .most-steps) (c .truth .stops-here)
+  pub own-bounds : Answer-bounds (c .test) (call-problem m b s) (answer-of (c .test) (call-problem m b s) (c .shares) (c .own .steps)) (c .shares)
+  unfolding call-problem
+  own-bounds = answer-bounds (well-formed m b s ok) (in-range m b s ok) (sized m b s ok) (c .test) (c .shares) (c .own .steps) (count ∙ sym (files-accepted b s (files-ok m b s ok) .0 .row-count)) (c .truth .total) (c .truth .few-boats) (c .truth .some-step) (c .truth .most-steps) (c .truth .stops-here)
 
   own-fits : Fields-fit (c .own)
-  unfolding problem
+  unfolding call-problem
   own-fits =
-      let book = files-accepted b s ok .0 in
+      let book = files-accepted b s (files-ok m b s ok) .0 in
       record {
         back = omega (arith, c .back, reading .sized, support-most (c .shares), count, book .most-boats);
-        verdict = omega (arith, c .truth .verdict, verdict-between (answer-of (c .test) (problem b s) (c .shares) (c .own .steps) .verdict) .1);
+        verdict = omega (arith, c .truth .verdict, verdict-between (answer-of (c .test) (call-problem m b s) (c .shares) (c .own .steps) .verdict) .1);
         steps = omega (arith, few-steps);
-        tolerance = omega (arith, c .truth .tolerance, files-accepted b s ok .1 .most-tolerance);
+        tolerance = omega (arith, c .truth .tolerance, files-accepted b s (files-ok m b s ok) .1 .most-tolerance);
         distance = omega (arith, c .truth .distance, own-bounds .distance-fits);
         gap = omega (arith, c .truth .gap, own-bounds .gap-fits);
         boats = omega (arith, c .boats, book .most-boats);
@@ -296,28 +297,28 @@ module _ (b s w : List ℕ) (ok : files-refusal b s ≡ 0) (c : Card-true b s w)
   pub test-is : card-test w ≡ c .test
   test-is = told .1
 
-  pub answer-is : card-answer b s w ≡ answer-of (c .test) (problem b s) (c .shares) (c .own .steps)
-  unfolding card-answer
+  pub answer-is : card-answer-with m b s w ≡ answer-of (c .test) (call-problem m b s) (c .shares) (c .own .steps)
+  unfolding card-answer-with
   answer-is = rw (test-is, fields-are, shares-back)
 
   file-size : length w ≡ length (c .front) + (length (pairs 0 (c .shares)) + 36)
   file-size = ap length (c .layout) ∙ file-length (c .front) (pairs 0 (c .shares)) (trailer-bytes (c .test) (c .own)) (length-trailer (c .test) (c .own))
 
-  numbers-said : numbers-agree (sheet s .steps) w (card-answer b s w) ≡ true
-  unfolding problem numbers-agree
+  numbers-said : numbers-agree (call-steps m s) w (card-answer-with m b s w) ≡ true
+  unfolding call-problem numbers-agree
   numbers-said = rw (answer-is, fields-are) (simp (eq-eqb _ _ (c .truth .distance), eq-eqb _ _ (c .truth .gap), eq-eqb _ _ (c .truth .verdict), c .truth .stops-here))
 
-  true-passed : Passed b s w
-  unfolding problem length-in-range counts-agree steps-fit shares-total
+  true-passed : Passed m b s w
+  unfolding call-problem length-in-range counts-agree steps-fit shares-total
   true-passed =
-      let v = verdict-between (answer-of (c .test) (problem b s) (c .shares) (c .own .steps) .verdict) in
+      let v = verdict-between (answer-of (c .test) (call-problem m b s) (c .shares) (c .own .steps) .verdict) in
       record {
         sized = between-said (omega (arith, file-size)) (c .most-bytes);
         letters = told .0;
         counts = rw fields-are (simp (eq-eqb _ _ (c .boats), eq-eqb _ _ (c .columns)));
         ranges = rw fields-are (simp (between-said {least = 1} {most = 3} {n = c .own .verdict} (rw (c .truth .verdict) (v .0)) (rw (c .truth .verdict) (v .1)), between-said (c .truth .some-step) (c .truth .most-steps)));
         back = back-said (rw back-is (record {
-          some = omega (arith, reading .sized, support-some (c .shares) (rw (c .truth .total) (weight-positive fixed-fits (c .truth .some-step))));
+          some = omega (arith, reading .sized, support-some (c .shares) (rw (c .truth .total) (weight-positive (call-schedule m b s ok .fits) (c .truth .some-step))));
           fours = omega (arith, reading .sized);
           few = omega (arith, reading .sized, support-most (c .shares), count);
           inside = omega (arith, file-size);
@@ -328,5 +329,5 @@ module _ (b s w : List ℕ) (ok : files-refusal b s ≡ 0) (c : Card-true b s w)
         tolerance = rw fields-are (eq-eqb _ _ (c .truth .tolerance));
       }
 
-  pub true-accepted : card-refusal b s w ≡ 0
+  pub true-accepted : card-refusal-with m b s w ≡ 0
   true-accepted = passed-all true-passed

@@ -8,16 +8,15 @@ use lib.ListN.{length, take, drop, length-append, length-drop}
 use lib.Seq.{length-take-le}
 use Rattle.files.specs.Bytes.{between, length-in-range, trailer, body, reaches}
 use Rattle.files.specs.Book.{boats, columns}
-use Rattle.files.specs.Sheet.{sheet}
 use Rattle.files.specs.Front.{Front-fits, same-file, other-front, Files-alike, Files-front-unread}
 use Rattle.files.specs.Limits.{file-limit}
 use Rattle.files.proofs.Front.{files-front-unread}
 use Rattle.method.specs.declared.Test.{Test}
-use Rattle.method.specs.Problem.{Problem, problem}
+use Rattle.method.specs.Problem.{Problem, Terms, call-steps, call-problem}
 use Rattle.method.proofs.Promise.{search-behind, problem-behind}
-use Rattle.card_format.specs.Format.{card-fields, lettered, card-test, card-body, pair-count, card-shares, card-answer, run-card}
-use Rattle.card_format.specs.Checks.{back-fits, counts-agree, steps-fit, form-refusal, numbers-agree, truth-refusal, card-refusal, write-refusal, check-refusal}
-use Rattle.card_format.specs.Front.{Card-whole, Same-card, Cards-alike, Card-front-unread}
+use Rattle.card_format.specs.Format.{card-fields, lettered, card-test, card-body, pair-count, card-shares, card-answer-with, run-card-with}
+use Rattle.card_format.specs.Checks.{back-fits, counts-agree, steps-fit, form-refusal, numbers-agree, truth-refusal, card-refusal-with, write-refusal-with, check-refusal-with}
+use Rattle.card_format.specs.Front.{Card-whole, Same-card, Cards-alike-with, Card-front-unread}
 use Rattle.card_format.proofs.Trailer.{file-trailer, file-body, file-parts}
 
 module _ (f w : List ℕ) (h : Card-whole w) where
@@ -67,9 +66,9 @@ module _ (f w : List ℕ) (h : Card-whole w) where
   unfolding card-shares
   shares-front n = rw (count-front, body-front)
 
-  answer-front : (b s : List ℕ) → card-answer b s (f ++ w) ≡ card-answer b s w
-  unfolding card-answer
-  answer-front b s = rw (test-front, shares-front (boats b), fields-front)
+  answer-front : (m : Terms) (b s : List ℕ) → card-answer-with m b s (f ++ w) ≡ card-answer-with m b s w
+  unfolding card-answer-with
+  answer-front m b s = rw (test-front, shares-front (boats b), fields-front)
 
   back-front : (n : ℕ) → back-fits n back (f ++ w) ≡ back-fits n back w
   unfolding back-fits reaches
@@ -89,9 +88,9 @@ module _ (f w : List ℕ) (h : Card-whole w) where
   unfolding truth-refusal numbers-agree
   truth-front p qs = simp (count-front, fields-front, test-front)
 
-  refusal-front : Front-fits f w → (b s : List ℕ) → card-refusal b s (f ++ w) ≡ card-refusal b s w
-  unfolding card-refusal
-  refusal-front k b s = rw (form-front k (boats b) (columns b) (sheet s .steps), shares-front (boats b), truth-front (problem b s) (card-shares (boats b) w))
+  refusal-front : Front-fits f w → (m : Terms) (b s : List ℕ) → card-refusal-with m b s (f ++ w) ≡ card-refusal-with m b s w
+  unfolding card-refusal-with
+  refusal-front k m b s = rw (form-front k (boats b) (columns b) (call-steps m s), shares-front (boats b), truth-front (call-problem m b s) (card-shares (boats b) w))
 
 -- ---- A card, a book and a sheet that differ in front text alone
 
@@ -100,43 +99,43 @@ record Same-fields (w w′ : List ℕ) : Type 0 where
   test : card-test w′ ≡ card-test w
   steps : card-fields w′ .steps ≡ card-fields w .steps
   shares : (n : ℕ) → card-shares n w′ ≡ card-shares n w
-  refusal : (b s : List ℕ) → card-refusal b s w′ ≡ card-refusal b s w
+  refusal : (m : Terms) (b s : List ℕ) → card-refusal-with m b s w′ ≡ card-refusal-with m b s w
 
 same-card : (w w′ : List ℕ) → Same-card w w′ → Same-fields w w′
-same-card w w′ same-file = record { test = refl; steps = refl; shares = λ n. refl; refusal = λ b s. refl }
+same-card w w′ same-file = record { test = refl; steps = refl; shares = λ n. refl; refusal = λ m b s. refl }
 same-card w w′ (other-front f g x h i j) =
     record {
       test = test-front g x h ∙ sym (test-front f x h);
       steps = ap (λ k. k .steps) (fields-front g x h ∙ sym (fields-front f x h));
       shares = λ n. shares-front g x h n ∙ sym (shares-front f x h n);
-      refusal = λ b s. refusal-front g x h j b s ∙ sym (refusal-front f x h i b s);
+      refusal = λ m b s. refusal-front g x h j m b s ∙ sym (refusal-front f x h i m b s);
     }
 
-module _ {b s b′ s′ : List ℕ} (d : Files-alike b s b′ s′) where
-  refusal-behind : (w : List ℕ) → card-refusal b′ s′ w ≡ card-refusal b s w
-  unfolding card-refusal
-  refusal-behind w = rw (problem-behind d, d .boats, d .columns, d .sheet)
+module _ (m : Terms) {b s b′ s′ : List ℕ} (d : Files-alike b s b′ s′) where
+  refusal-behind : (w : List ℕ) → card-refusal-with m b′ s′ w ≡ card-refusal-with m b s w
+  unfolding card-refusal-with
+  refusal-behind w = rw (problem-behind m d, d .boats, d .columns, d .sheet)
 
-  pub run-card-behind : run-card b′ s′ ≡ run-card b s
-  unfolding run-card
-  run-card-behind = rw (problem-behind d, d .boats, d .columns, d .sheet)
+  pub run-card-behind : run-card-with m b′ s′ ≡ run-card-with m b s
+  unfolding run-card-with
+  run-card-behind = rw (problem-behind m d, d .boats, d .columns, d .sheet)
 
-  pub writing-behind : (room : ℕ) → write-refusal b′ s′ room ≡ write-refusal b s room
-  unfolding write-refusal
+  pub writing-behind : (room : ℕ) → write-refusal-with m b′ s′ room ≡ write-refusal-with m b s room
+  unfolding write-refusal-with
   writing-behind room = rw (d .refusal, run-card-behind)
 
-  cards-alike : {w w′ : List ℕ} → Same-fields w w′ → Cards-alike b s w b′ s′ w′
-  unfolding check-refusal card-answer
+  cards-alike : {w w′ : List ℕ} → Same-fields w w′ → Cards-alike-with m b s w b′ s′ w′
+  unfolding check-refusal-with card-answer-with
   cards-alike {w} {w′} k =
-      let same : card-refusal b′ s′ w′ ≡ card-refusal b s w = refusal-behind w′ ∙ k .refusal b s in
+      let same : card-refusal-with m b′ s′ w′ ≡ card-refusal-with m b s w = refusal-behind w′ ∙ k .refusal m b s in
       record {
         refusal = same;
-        check = λ slots. rw (search-behind d slots, same);
+        check = λ slots. rw (search-behind m d slots, same);
         boats = d .boats;
         shares = k .shares;
-        answer = rw (problem-behind d, d .boats, k .test, k .shares (boats b), k .steps);
+        answer = rw (problem-behind m d, d .boats, k .test, k .shares (boats b), k .steps);
       }
 
 pub card-front-unread : Card-front-unread
 unfolding Card-front-unread Files-front-unread
-card-front-unread b s w b′ s′ w′ d e k = cards-alike (files-front-unread b s b′ s′ d e) (same-card w w′ k)
+card-front-unread m b s w b′ s′ w′ d e k = cards-alike m (files-front-unread b s b′ s′ d e) (same-card w w′ k)

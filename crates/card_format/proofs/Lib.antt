@@ -7,5 +7,6 @@ pub mod RunCards
 pub mod Vouches
 pub mod Editions
 pub mod Front
+pub mod Counted
 pub mod Filing
 pub mod Checking

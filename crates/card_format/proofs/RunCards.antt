@@ -7,61 +7,61 @@ use Prim.Native.Nat.{ℕ, _+_, _*_, _≤_, _<_}
 use native.Mathlib.Omega.{arith}
 use lib.ListN.{length, getD, length-append}
 use Rattle.files.specs.Book.{columns, boats}
-use Rattle.files.specs.Sheet.{sheet, files-refusal}
+use Rattle.files.specs.Sheet.{sheet}
+use Rattle.method.specs.Calls.{call-refusal}
 use Rattle.files.proofs.Accepted.{files-accepted}
 use Rattle.files.specs.Limits.{file-limit}
 use Rattle.method.specs.declared.Test.{Test}
 use Rattle.method.specs.declared.Test.the-variants.{Former, Sharper}
 use Rattle.frank_wolfe.specs.Vectors.{sum}
 use Rattle.method.specs.declared.Answer.{Answer}
-use Rattle.method.specs.Problem.{fixed, problem, weight}
+use Rattle.method.specs.Problem.{Terms, call-steps, call-problem, weight}
 use Rattle.method.specs.Iterates.{support}
 use Rattle.method.specs.Answers.{verdict-number, stops, answer-at, run-iterate, run-answer}
 use Rattle.method.specs.Bounds.{answer-of, Answer-bounds}
 use Rattle.method.proofs.Shares.{share-most}
-use Rattle.method.proofs.Weights.{weight-most}
-use Rattle.method.proofs.Accepted.{well-formed, in-range, sized}
+use Rattle.method.proofs.Accepted.{files-ok, call-schedule, well-formed, in-range, sized}
 use Rattle.method.proofs.Bounds.{run-is, run-bounds}
-use Rattle.card_format.specs.Format.{pairs, trailer-bytes, answer-fields, card-bytes, run-card}
-use Rattle.card_format.specs.Truth.{Card-true, Filed-before-true, Written-accepted, Written-short}
+use Rattle.card_format.specs.Format.{pairs, trailer-bytes, answer-fields, card-bytes, run-card-with}
+use Rattle.card_format.specs.Truth.{Card-true-with, Filed-before-true, Written-accepted, Written-short}
 use Rattle.card_format.proofs.Pairs.{readable}
 use Rattle.card_format.proofs.Trailer.{length-trailer}
 use Rattle.card_format.proofs.Accepted.{support-most, shares-back, answer-is, true-accepted}
 
-module _ (b s : List ℕ) (ok : files-refusal b s ≡ 0) where
-  bounds : Answer-bounds Sharper (problem b s) (run-answer (problem b s)) (run-iterate (problem b s) .shares)
-  bounds = run-bounds (well-formed b s ok) (in-range b s ok) (sized b s ok) .answer
+module _ (m : Terms) (b s : List ℕ) (ok : call-refusal m b s ≡ 0) where
+  bounds : Answer-bounds Sharper (call-problem m b s) (run-answer (call-problem m b s)) (run-iterate (call-problem m b s) .shares)
+  bounds = run-bounds (well-formed m b s ok) (in-range m b s ok) (sized m b s ok) .answer
 
   -- one share a boat
-  pub run-shares : length (run-iterate (problem b s) .shares) ≡ boats b
-  unfolding problem
-  run-shares = bounds .share-count ∙ files-accepted b s ok .0 .row-count
+  pub run-shares : length (run-iterate (call-problem m b s) .shares) ≡ boats b
+  unfolding call-problem
+  run-shares = bounds .share-count ∙ files-accepted b s (files-ok m b s ok) .0 .row-count
 
-  share-fits : (j : ℕ) → getD (run-iterate (problem b s) .shares) j 0 < 65536
-  unfolding problem
+  share-fits : (j : ℕ) → getD (run-iterate (call-problem m b s) .shares) j 0 < 65536
+  unfolding call-problem
   share-fits j =
-      omega (arith, share-most (run-iterate (problem b s) .shares) j, bounds .total, weight-most {t = run-answer (problem b s) .steps} (omega (arith, bounds .most-steps, files-accepted b s ok .1 .most-steps)))
+      omega (arith, share-most (run-iterate (call-problem m b s) .shares) j, bounds .total, call-schedule m b s ok .most-total (run-answer (call-problem m b s) .steps) (omega (arith, call-schedule m b s ok .most-steps (sheet s .steps), bounds .most-steps, files-accepted b s (files-ok m b s ok) .1 .most-steps)))
 
   -- 4 bytes for each boat that holds shares
-  pub run-pairs-length : length (pairs 0 (run-iterate (problem b s) .shares)) ≡ 4 * support (run-iterate (problem b s) .shares)
-  run-pairs-length = readable (run-iterate (problem b s) .shares) 0 (boats b) (omega (arith, run-shares)) (omega (arith, files-accepted b s ok .0 .most-boats)) share-fits .sized
+  pub run-pairs-length : length (pairs 0 (run-iterate (call-problem m b s) .shares)) ≡ 4 * support (run-iterate (call-problem m b s) .shares)
+  run-pairs-length = readable (run-iterate (call-problem m b s) .shares) 0 (boats b) (omega (arith, run-shares)) (omega (arith, files-accepted b s (files-ok m b s ok) .0 .most-boats)) share-fits .sized
 
   -- and the trailer
-  pub run-card-length : length (run-card b s) ≡ 4 * support (run-iterate (problem b s) .shares) + 36
-  unfolding run-card card-bytes
+  pub run-card-length : length (run-card-with m b s) ≡ 4 * support (run-iterate (call-problem m b s) .shares) + 36
+  unfolding run-card-with card-bytes
   run-card-length =
-      let qs = run-iterate (problem b s) .shares in
-      length-append (pairs 0 qs) (trailer-bytes Sharper (answer-fields (run-answer (problem b s)) (length (pairs 0 qs)) (sheet s .tolerance) (boats b) (columns b)))
-      ∙ (omega (arith, length-trailer Sharper (answer-fields (run-answer (problem b s)) (length (pairs 0 qs)) (sheet s .tolerance) (boats b) (columns b)), run-pairs-length))
+      let qs = run-iterate (call-problem m b s) .shares in
+      length-append (pairs 0 qs) (trailer-bytes Sharper (answer-fields (run-answer (call-problem m b s)) (length (pairs 0 qs)) (sheet s .tolerance) (boats b) (columns b)))
+      ∙ (omega (arith, length-trailer Sharper (answer-fields (run-answer (call-problem m b s)) (length (pairs 0 qs)) (sheet s .tolerance) (boats b) (columns b)), run-pairs-length))
 
 -- ---- The card of an answer and its shares, by either test
 
-module _ (b s : List ℕ) (test : Test) {a : Answer} (qs : List ℕ) (own : a ≡ answer-of test (problem b s) qs (a .steps)) where
+module _ (m : Terms) (b s : List ℕ) (test : Test) {a : Answer} (qs : List ℕ) (own : a ≡ answer-of test (call-problem m b s) qs (a .steps)) where
   -- it is true where the test ends a run, of shares that so many steps can give
-  answer-card-true : length qs ≡ boats b → sum qs ≡ weight fixed (a .steps) → support qs ≤ a .steps → 1 ≤ a .steps → a .steps ≤ sheet s .steps → stops (sheet s .steps) (a .steps) (a .verdict) ≡ true →
+  answer-card-true : length qs ≡ boats b → sum qs ≡ weight (m .schedule) (a .steps) → support qs ≤ a .steps → 1 ≤ a .steps → a .steps ≤ call-steps m s → stops (call-steps m s) (a .steps) (a .verdict) ≡ true →
       (front : List ℕ) → length (front ++ card-bytes test a qs (sheet s .tolerance) (boats b) (columns b)) ≤ file-limit →
-      Card-true b s (front ++ card-bytes test a qs (sheet s .tolerance) (boats b) (columns b))
-  unfolding problem card-bytes answer-fields
+      Card-true-with m b s (front ++ card-bytes test a qs (sheet s .tolerance) (boats b) (columns b))
+  unfolding call-problem card-bytes answer-fields
   answer-card-true count total few some most here front h =
       record {
         front = front;
@@ -82,34 +82,34 @@ module _ (b s : List ℕ) (test : Test) {a : Answer} (qs : List ℕ) (own : a �
           distance = ap (λ x. x .distance) own;
           gap = ap (λ x. x .gap) own;
           verdict = ap (λ x. verdict-number (x .verdict)) own;
-          stops-here = sym (ap (λ x. stops (sheet s .steps) (a .steps) (x .verdict)) own) ∙ here;
+          stops-here = sym (ap (λ x. stops (call-steps m s) (a .steps) (x .verdict)) own) ∙ here;
           tolerance = refl;
         };
       }
 
 pub filed-before-true : Filed-before-true
 unfolding Filed-before-true answer-at
-filed-before-true b s w ok c =
+filed-before-true m b s w ok c =
     rw (c .layout)
-    (answer-card-true b s Former (c .shares) refl (c .share-count) (c .total) (c .few-boats) (c .some-step) (c .most-steps) (c .stops-here) (c .front) (rw (c .layout) at (c .most-bytes)))
+    (answer-card-true m b s Former (c .shares) refl (c .share-count) (c .total) (c .few-boats) (c .some-step) (c .most-steps) (c .stops-here) (c .front) (rw (c .layout) at (c .most-bytes)))
 
 -- ---- The card of a run
 
-module _ (b s : List ℕ) (ok : files-refusal b s ≡ 0) where
-  pub run-card-true : (front : List ℕ) → length front + length (run-card b s) ≤ file-limit → Card-true b s (front ++ run-card b s)
-  unfolding problem run-card
+module _ (m : Terms) (b s : List ℕ) (ok : call-refusal m b s ≡ 0) where
+  pub run-card-true : (front : List ℕ) → length front + length (run-card-with m b s) ≤ file-limit → Card-true-with m b s (front ++ run-card-with m b s)
+  unfolding call-problem run-card-with
   run-card-true front h =
-      let c = bounds b s ok in
-      answer-card-true b s Sharper (run-iterate (problem b s) .shares) (run-is (well-formed b s ok)) (run-shares b s ok) (c .total) (c .few-boats) (c .some-step) (c .most-steps) (c .stops-here) front
-      (omega (arith, length-append front (run-card b s)))
+      let c = bounds m b s ok in
+      answer-card-true m b s Sharper (run-iterate (call-problem m b s) .shares) (run-is (well-formed m b s ok)) (run-shares m b s ok) (c .total) (c .few-boats) (c .some-step) (c .most-steps) (c .stops-here) front
+      (omega (arith, length-append front (run-card-with m b s)))
 
 pub written-short : Written-short
 unfolding Written-short
-written-short b s ok = omega (arith, run-card-length b s ok, support-most (run-iterate (problem b s) .shares), run-shares b s ok, files-accepted b s ok .0 .most-boats)
+written-short m b s ok = omega (arith, run-card-length m b s ok, support-most (run-iterate (call-problem m b s) .shares), run-shares m b s ok, files-accepted b s (files-ok m b s ok) .0 .most-boats)
 
 pub written-accepted : Written-accepted
 unfolding Written-accepted run-card-true answer-card-true
-written-accepted b s front ok h =
-    let c = run-card-true b s ok front h in
-    let w = front ++ run-card b s in
-    (true-accepted b s w ok c, answer-is b s w ok c ∙ sym (run-is (well-formed b s ok)), shares-back b s w ok c)
+written-accepted m b s front ok h =
+    let c = run-card-true m b s ok front h in
+    let w = front ++ run-card-with m b s in
+    (true-accepted m b s w ok c, answer-is m b s w ok c ∙ sym (run-is (well-formed m b s ok)), shares-back m b s w ok c)

@@ -18,7 +18,7 @@ use Rattle.frank_wolfe.proofs.Theorem.{frank-wolfe}
 use Rattle.files.specs.Book.{rows}
 use Rattle.files.proofs.Accepted.{files-accepted}
 use Rattle.files.specs.Limits.{total-limit, sum-limit}
-use Rattle.method.specs.Problem.{Problem, problem}
+use Rattle.method.specs.Problem.{Problem, plain-terms, call-problem}
 use Rattle.method.specs.Iterates.{row, scores, argmin, mixture-distance}
 use Rattle.method.specs.Minimum.{minimum}
 use Rattle.method.proofs.Argmin.{argmin-below, among-row, least-score, minimum-least, inner-gap, maximum-by-minimum}
@@ -87,9 +87,9 @@ fits : (n a : ℕ) → n ≤ total-limit → a ≤ 1024000000 * (n * n) → a < 
 fits n a h k = lt-of-le-of-lt (le-trans k (mul-le-mul (le-refl 1024000000) (mul-le-mul h h))) (lit< tt)
 
 pub shares-fit : Shares-fit
-unfolding Shares-fit problem
+unfolding Shares-fit call-problem
 shares-fit b s qs ok count some =
-    let p = well-formed b s ok in
-    let f = in-range b s ok in
+    let p = well-formed plain-terms b s ok in
+    let f = in-range plain-terms b s ok in
     let e : length qs ≡ length (rows b) = count ∙ sym (files-accepted b s ok .0 .row-count) in
     (gap-nonnegative p f qs e some, λ h. (fits (sum qs) _ h (distance-most p f qs e some), fits (sum qs) _ h (gap-most p f qs e some)))

@@ -10,26 +10,36 @@ use Rattle.files.specs.Front.{Same-book, Same-sheet}
 use Rattle.method.specs.declared.Answer.{Answer}
 use Rattle.method.specs.declared.Searched.{Searched}
 use Rattle.method.specs.declared.Searched.the-variants.{Refused, Answered}
-use Rattle.method.specs.Answers.{refusal-number, search-refusal}
-use Rattle.card_format.specs.Format.{card-answer}
-use Rattle.card_format.specs.Checks.{check-refusal}
-use Rattle.card_format.specs.Truth.{Card-true, Filed-before, Card-vouches}
-use Rattle.card_format.specs.Front.{Same-card, Cards-alike}
+use Rattle.method.specs.Problem.{Terms, plain-terms}
+use Rattle.method.specs.Answers.{refusal-number, search-refusal-with}
+use Rattle.method.specs.Promise.{Counts}
+use Rattle.card_format.specs.Format.{card-answer-with, card-answer}
+use Rattle.card_format.specs.Checks.{check-refusal-with, check-refusal}
+use Rattle.card_format.specs.Truth.{Card-true-with, Filed-before-with, Card-vouches-with}
+use Rattle.card_format.specs.Front.{Same-card, Cards-alike-with}
 
--- of an outcome and the share list that it leaves
-pub record Check-right (b s w : List ℕ) (r : Searched) (slots : List ℕ) : Type 0 where
+-- of an outcome of a call and the share list that it leaves
+pub record Check-right-with (m : Terms) (b s w : List ℕ) (r : Searched) (slots : List ℕ) : Type 0 where
   -- its number is that of the first test that fails, 0 where none does
-  pub number : refusal-number r ≡ check-refusal b s w (length slots)
+  pub number : refusal-number r ≡ check-refusal-with m b s w (length slots)
   -- a refusal is never the number 0
   pub refused : (n : ℕ) → r ≡ Refused n → 1 ≤ n
-  -- where book, sheet and share list serve, the card is accepted exactly when it is true
-  pub exactly : search-refusal b s (length slots) ≡ 0 → (refusal-number r ≡ 0) ↔ Card-true b s w
+  -- where terms, book, sheet and share list serve, the card is accepted exactly when it is true
+  pub exactly : search-refusal-with m b s (length slots) ≡ 0 → (refusal-number r ≡ 0) ↔ Card-true-with m b s w
   -- so a card that was filed before WCD2, by a run that the former test judged, is still accepted
-  pub filed-before : search-refusal b s (length slots) ≡ 0 → Filed-before b s w → refusal-number r ≡ 0
+  pub filed-before : search-refusal-with m b s (length slots) ≡ 0 → Filed-before-with m b s w → refusal-number r ≡ 0
   -- an accepted card vouches for its answer, its shares in the first slots, one a boat
-  pub answered : (a : Answer) → r ≡ Answered a → Card-vouches b s w a (take (boats b) slots)
+  pub answered : (a : Answer) → r ≡ Answered a → Card-vouches-with m b s w a (take (boats b) slots)
   -- for a sheet of the other edition that asks for the same, every factor 1, the card is refused by the same number and has the same answer
   pub editions : (s′ : List ℕ) → Editions s s′ →
-      (check-refusal b s′ w (length slots) ≡ check-refusal b s w (length slots)) × (card-answer b s′ w ≡ card-answer b s w)
+      (check-refusal-with m b s′ w (length slots) ≡ check-refusal-with m b s w (length slots)) × (card-answer-with m b s′ w ≡ card-answer-with m b s w)
   -- front text is never read: a card, a book and a sheet that differ from these in front text alone have the same refusal, shares and answer
-  pub fronts : (b′ s′ w′ : List ℕ) → Same-book b b′ → Same-sheet s s′ → Same-card w w′ → Cards-alike b s w b′ s′ w′
+  pub fronts : (b′ s′ w′ : List ℕ) → Same-book b b′ → Same-sheet s s′ → Same-card w w′ → Cards-alike-with m b s w b′ s′ w′
+  -- with a table that counts 1, 2, 3, .. the refusal and the answer are those of the files alone
+  pub counted : Counts m s →
+      (check-refusal-with m b s w (length slots) ≡ check-refusal b s w (length slots))
+      × (check-refusal b s w (length slots) ≡ 0 → card-answer-with m b s w ≡ card-answer b s w)
+
+-- with the files alone
+abbrev pub Check-right : (b s w : List ℕ) → (r : Searched) → (slots : List ℕ) → Type 0
+Check-right b s w r slots = Check-right-with plain-terms b s w r slots

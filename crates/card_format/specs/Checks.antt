@@ -7,13 +7,13 @@ use lib.ListN.{length, drop}
 use Rattle.frank_wolfe.specs.Vectors.{sum}
 use Rattle.files.specs.Bytes.{number, between, length-in-range, reaches}
 use Rattle.files.specs.Book.{boats, columns}
-use Rattle.files.specs.Sheet.{sheet, files-refusal}
 use Rattle.method.specs.declared.Test.the-variants.{Former, Sharper}
 use Rattle.method.specs.declared.Answer.{Answer}
-use Rattle.method.specs.Problem.{Schedule, Problem, problem, weight}
-use Rattle.method.specs.Answers.{verdict-number, stops, search-refusal}
+use Rattle.method.specs.Problem.{Schedule, Problem, Terms, plain-terms, call-steps, call-problem, weight}
+use Rattle.method.specs.Calls.{call-refusal}
+use Rattle.method.specs.Answers.{verdict-number, stops, search-refusal-with}
 use Rattle.method.specs.Bounds.{answer-of}
-use Rattle.card_format.specs.Format.{card-fields, lettered, card-test, card-body, pair-count, card-shares, run-card}
+use Rattle.card_format.specs.Format.{card-fields, lettered, card-test, card-body, pair-count, card-shares, run-card-with}
 
 -- whether a back count is above zero, a multiple of 4, at most 4 × boats, and starts inside the file
 unfoldable pub back-fits : (boats back : ℕ) → List ℕ → Bool
@@ -43,7 +43,7 @@ form-refusal n c steps w =
     (cond (not (back-fits n (card-fields w .back) w)) 35
     (cond (not (pairs-in-order (pair-count w) 0 n (card-body w))) 36 0)))))
 
--- whether no more boats than steps hold shares, and they total W, t (t + 1) / 2 for the fixed shares
+-- whether no more boats than steps hold shares, and they total W: t (t + 1) / 2 for the fixed shares, the first t entries of a table
 unfoldable pub shares-total : Schedule → (count : ℕ) → (shares : List ℕ) → (t : ℕ) → Bool
 shares-total a k qs t = leb k t && eqb (sum qs) (weight a t)
 
@@ -62,16 +62,27 @@ truth-refusal p qs w =
     (cond (not (numbers-agree (p .steps) w (answer-of (card-test w) p qs (f .steps)))) 38
     (cond (eqb (f .tolerance) (p .tolerance)) 0 39))
 
--- the first refusal, 31 to 39, that applies to a card for an accepted book and sheet: its form's, else its truth's; 0 if none does
-unfoldable pub card-refusal : (book sheet card : List ℕ) → ℕ
-card-refusal b s w =
-    let form = form-refusal (boats b) (columns b) (sheet s .steps) w in
-    cond (eqb form 0) (truth-refusal (problem b s) (card-shares (boats b) w) w) form
+-- the first refusal, 31 to 39, that applies to a card in a call whose terms and files are accepted: its form's, else its truth's; 0 if none does
+unfoldable pub card-refusal-with : Terms → (book sheet card : List ℕ) → ℕ
+card-refusal-with m b s w =
+    let form = form-refusal (boats b) (columns b) (call-steps m s) w in
+    cond (eqb form 0) (truth-refusal (call-problem m b s) (card-shares (boats b) w) w) form
 
--- of the writer: 1 to 17 and 46 of the files, then 22, a buffer shorter than the card
-unfoldable pub write-refusal : (book sheet : List ℕ) → (room : ℕ) → ℕ
-write-refusal b s room = cond (eqb (files-refusal b s) 0) (cond (ltb room (length (run-card b s))) 22 0) (files-refusal b s)
+-- of the writer: what refuses the call's terms and its files, then 22, a buffer shorter than the card
+unfoldable pub write-refusal-with : Terms → (book sheet : List ℕ) → (room : ℕ) → ℕ
+write-refusal-with m b s room = cond (eqb (call-refusal m b s) 0) (cond (ltb room (length (run-card-with m b s))) 22 0) (call-refusal m b s)
 
--- of the check: 1 to 17 and 46 of the files, 21 of the share list, then the card's
-unfoldable pub check-refusal : (book sheet card : List ℕ) → (slots : ℕ) → ℕ
-check-refusal b s w slots = cond (eqb (search-refusal b s slots) 0) (card-refusal b s w) (search-refusal b s slots)
+-- of the check: what refuses the call's terms and its files, 21 of the share list, then the card's
+unfoldable pub check-refusal-with : Terms → (book sheet card : List ℕ) → (slots : ℕ) → ℕ
+check-refusal-with m b s w slots = cond (eqb (search-refusal-with m b s slots) 0) (card-refusal-with m b s w) (search-refusal-with m b s slots)
+
+-- ---- With the files alone
+
+abbrev pub card-refusal : (book sheet card : List ℕ) → ℕ
+card-refusal b s w = card-refusal-with plain-terms b s w
+
+abbrev pub write-refusal : (book sheet : List ℕ) → (room : ℕ) → ℕ
+write-refusal b s room = write-refusal-with plain-terms b s room
+
+abbrev pub check-refusal : (book sheet card : List ℕ) → (slots : ℕ) → ℕ
+check-refusal b s w slots = check-refusal-with plain-terms b s w slots

@@ -8,11 +8,11 @@ use Rattle.files.specs.Editions.{Editions}
 use Rattle.files.specs.Front.{Same-book, Same-sheet}
 use Rattle.files.specs.Limits.{file-limit}
 use Rattle.method.specs.declared.Answer.{Answer}
-use Rattle.method.specs.Problem.{problem}
-use Rattle.method.specs.Answers.{run-iterate}
-use Rattle.method.specs.Promise.{Run-right}
-use Rattle.card_format.specs.Format.{card-shares, card-answer, run-card}
-use Rattle.card_format.specs.Checks.{card-refusal, write-refusal}
+use Rattle.method.specs.Problem.{Terms, plain-terms, call-problem, problem}
+use Rattle.method.specs.Answers.{run-iterate, run-answer}
+use Rattle.method.specs.Promise.{Run-right, Counts}
+use Rattle.card_format.specs.Format.{card-shares, card-answer-with, run-card-with, run-card}
+use Rattle.card_format.specs.Checks.{card-refusal-with, write-refusal-with, write-refusal}
 use Rattle.card_format.specs.declared.Written.{Written}
 use Rattle.card_format.specs.declared.Written.the-variants.{Refused, Filed}
 
@@ -36,32 +36,47 @@ filing (suc n) a size = Refused (suc n)
 -- ---- The promise
 
 -- the card check accepts these bytes, and reads this answer and these shares from them
-pub record Reads-back (b s card : List ℕ) (a : Answer) (qs : List ℕ) : Type 0 where
-  pub accepted : card-refusal b s card ≡ 0
-  pub answer : card-answer b s card ≡ a
+pub record Reads-back-with (m : Terms) (b s card : List ℕ) (a : Answer) (qs : List ℕ) : Type 0 where
+  pub accepted : card-refusal-with m b s card ≡ 0
+  pub answer : card-answer-with m b s card ≡ a
   pub shares : card-shares (boats b) card ≡ qs
 
 -- of a filed answer, and the bytes that were written
-pub record Filed-right (b s : List ℕ) (a : Answer) (card : List ℕ) : Type 0 where
-  pub card-is : card ≡ run-card b s
+pub record Filed-right-with (m : Terms) (b s : List ℕ) (a : Answer) (card : List ℕ) : Type 0 where
+  pub card-is : card ≡ run-card-with m b s
   -- they read back as the answer given back and the shares of the run
-  pub reads-back : Reads-back b s card a (run-iterate (problem b s) .shares)
+  pub reads-back : Reads-back-with m b s card a (run-iterate (call-problem m b s) .shares)
   -- also behind any front text that keeps within 40,000 bytes
-  pub behind-front : (front : List ℕ) → length front + length card ≤ file-limit → Reads-back b s (front ++ card) a (run-iterate (problem b s) .shares)
+  pub behind-front : (front : List ℕ) → length front + length card ≤ file-limit → Reads-back-with m b s (front ++ card) a (run-iterate (call-problem m b s) .shares)
   -- the answer is that of a run whose shares are in the card's body
-  pub right : Run-right (problem b s) a (card-shares (boats b) card)
+  pub right : Run-right (call-problem m b s) a (card-shares (boats b) card)
 
--- of an outcome and the buffer that it leaves
-pub record Filing-right (b s : List ℕ) (r : Written) (output : List ℕ) : Type 0 where
+-- of an outcome of a call and the buffer that it leaves
+pub record Filing-right-with (m : Terms) (b s : List ℕ) (r : Written) (output : List ℕ) : Type 0 where
   -- its number is that of the first test that fails, 0 where none does
-  pub number : writing-number r ≡ write-refusal b s (length output)
+  pub number : writing-number r ≡ write-refusal-with m b s (length output)
   -- a refusal is never the number 0
   pub refused : (n : ℕ) → r ≡ Refused n → 1 ≤ n
   -- a card that was filed is in the first bytes, as many as are given back
-  pub filed : (a : Answer) (size : ℕ) → r ≡ Filed a size → Filed-right b s a (take (written-size r) output)
+  pub filed : (a : Answer) (size : ℕ) → r ≡ Filed a size → Filed-right-with m b s a (take (written-size r) output)
   -- a sheet of the other edition that asks for the same, every factor 1, is refused by the same number and has the same run and card
   pub editions : (s′ : List ℕ) → Editions s s′ →
-      (write-refusal b s′ (length output) ≡ write-refusal b s (length output)) × ((problem b s′ ≡ problem b s) × (run-card b s′ ≡ run-card b s))
+      (write-refusal-with m b s′ (length output) ≡ write-refusal-with m b s (length output)) × ((call-problem m b s′ ≡ call-problem m b s) × (run-card-with m b s′ ≡ run-card-with m b s))
   -- front text is never read: files that differ from these in front text alone are refused by the same number and have the same run and card
   pub fronts : (b′ s′ : List ℕ) → Same-book b b′ → Same-sheet s s′ →
-      (write-refusal b′ s′ (length output) ≡ write-refusal b s (length output)) × ((problem b′ s′ ≡ problem b s) × (run-card b′ s′ ≡ run-card b s))
+      (write-refusal-with m b′ s′ (length output) ≡ write-refusal-with m b s (length output)) × ((call-problem m b′ s′ ≡ call-problem m b s) × (run-card-with m b′ s′ ≡ run-card-with m b s))
+  -- with a table that counts 1, 2, 3, .. the refusal, the answer and the card are those of the files alone
+  pub counted : Counts m s →
+      (write-refusal-with m b s (length output) ≡ write-refusal b s (length output))
+      × (write-refusal b s (length output) ≡ 0 → (run-answer (call-problem m b s) ≡ run-answer (problem b s)) × (run-card-with m b s ≡ run-card b s))
+
+-- ---- With the files alone
+
+abbrev pub Reads-back : (b s card : List ℕ) → (a : Answer) → (qs : List ℕ) → Type 0
+Reads-back b s card a qs = Reads-back-with plain-terms b s card a qs
+
+abbrev pub Filed-right : (b s : List ℕ) → (a : Answer) → (card : List ℕ) → Type 0
+Filed-right b s a card = Filed-right-with plain-terms b s a card
+
+abbrev pub Filing-right : (b s : List ℕ) → (r : Written) → (output : List ℕ) → Type 0
+Filing-right b s r output = Filing-right-with plain-terms b s r output

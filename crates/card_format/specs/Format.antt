@@ -13,7 +13,7 @@ use Rattle.files.specs.Sheet.{sheet}
 use Rattle.method.specs.declared.Test.{Test}
 use Rattle.method.specs.declared.Test.the-variants.{Former, Sharper}
 use Rattle.method.specs.declared.Answer.{Answer}
-use Rattle.method.specs.Problem.{problem}
+use Rattle.method.specs.Problem.{Terms, plain-terms, call-problem}
 use Rattle.method.specs.Answers.{verdict-number, run-iterate, run-answer}
 use Rattle.method.specs.Bounds.{answer-of}
 
@@ -76,9 +76,13 @@ answer-fields a back tolerance n c =
 unfoldable pub card-bytes : Test → Answer → (shares : List ℕ) → (tolerance boats columns : ℕ) → List ℕ
 card-bytes test a qs tolerance n c = pairs 0 qs ++ trailer-bytes test (answer-fields a (length (pairs 0 qs)) tolerance n c)
 
--- the card of a run, of the edition WCD2
-unfoldable pub run-card : (book sheet : List ℕ) → List ℕ
-run-card b s = card-bytes Sharper (run-answer (problem b s)) (run-iterate (problem b s) .shares) (sheet s .tolerance) (boats b) (columns b)
+-- the card of the run of a call, of the edition WCD2
+unfoldable pub run-card-with : Terms → (book sheet : List ℕ) → List ℕ
+run-card-with m b s = card-bytes Sharper (run-answer (call-problem m b s)) (run-iterate (call-problem m b s) .shares) (sheet s .tolerance) (boats b) (columns b)
+
+-- of the run of the files alone
+abbrev pub run-card : (book sheet : List ℕ) → List ℕ
+run-card b s = run-card-with plain-terms b s
 
 -- ---- Reading
 
@@ -123,6 +127,10 @@ shares-into (suc k) bs qs = shares-into k (drop 4 bs) (set qs (number 0 2 bs) (n
 unfoldable pub card-shares : (boats : ℕ) → List ℕ → List ℕ
 card-shares n w = shares-into (pair-count w) (card-body w) (replicate n 0)
 
--- the answer of a card's shares and steps, judged by the test of its letters
-unfoldable pub card-answer : (book sheet card : List ℕ) → Answer
-card-answer b s w = answer-of (card-test w) (problem b s) (card-shares (boats b) w) (card-fields w .steps)
+-- the answer of a card's shares and steps in a call, judged by the test of its letters
+unfoldable pub card-answer-with : Terms → (book sheet card : List ℕ) → Answer
+card-answer-with m b s w = answer-of (card-test w) (call-problem m b s) (card-shares (boats b) w) (card-fields w .steps)
+
+-- with the files alone
+abbrev pub card-answer : (book sheet card : List ℕ) → Answer
+card-answer b s w = card-answer-with plain-terms b s w

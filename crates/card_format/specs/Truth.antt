@@ -14,12 +14,13 @@ use Rattle.files.specs.Limits.{file-limit, total-limit, sum-limit}
 use Rattle.method.specs.declared.Test.{Test}
 use Rattle.method.specs.declared.Test.the-variants.{Former}
 use Rattle.method.specs.declared.Answer.{Answer}
-use Rattle.method.specs.Problem.{fixed, Problem, problem, weight}
+use Rattle.method.specs.Problem.{Problem, Terms, plain-terms, call-steps, call-problem, problem, weight}
+use Rattle.method.specs.Calls.{call-refusal}
 use Rattle.method.specs.Iterates.{gaps, maximum, mixture-distance, support}
 use Rattle.method.specs.Answers.{verdict-number, stops, run-answer, run-iterate}
 use Rattle.method.specs.Bounds.{answer-of, Answer-bounds}
-use Rattle.card_format.specs.Format.{card-limit, Fields, pairs, trailer-bytes, card-bytes, card-fields, card-test, card-shares, card-answer, run-card}
-use Rattle.card_format.specs.Checks.{card-refusal}
+use Rattle.card_format.specs.Format.{card-limit, Fields, pairs, trailer-bytes, card-bytes, card-fields, card-test, card-shares, card-answer-with, run-card-with}
+use Rattle.card_format.specs.Checks.{card-refusal-with}
 
 -- what a trailer says, judged by a test, is true of some shares, one a vertex of a problem
 pub record Fields-true (test : Test) (p : Problem) (shares : List ℕ) (own : Fields) : Type 0 where
@@ -36,8 +37,8 @@ pub record Fields-true (test : Test) (p : Problem) (shares : List ℕ) (own : Fi
   pub stops-here : stops (p .steps) (own .steps) (answer-of test p shares (own .steps) .verdict) ≡ true
   pub tolerance : own .tolerance ≡ p .tolerance
 
--- the card w is well formed, and true of its book b and sheet s by the test of its edition
-pub record Card-true (b s w : List ℕ) : Type 0 where
+-- the card w is well formed, and true of the call's problem, of book b and sheet s, by the test of its edition
+pub record Card-true-with (m : Terms) (b s w : List ℕ) : Type 0 where
   -- ---- The file: front text, the pairs of the shares above zero, boats ascending, and the trailer
   -- with the letters of the edition that the test judges
   pub front : List ℕ
@@ -52,27 +53,29 @@ pub record Card-true (b s w : List ℕ) : Type 0 where
   pub columns : own .columns ≡ columns b
   pub share-count : length shares ≡ own .boats
   -- ---- What it says of the shares is true
-  pub truth : Fields-true test (problem b s) shares own
+  pub truth : Fields-true test (call-problem m b s) shares own
 
 -- the card w was filed before WCD2: behind front text, the WCD1 card of the answer and the shares after some steps, where the former test
 -- ends a run. The shares are any that so many steps can give, whichever boat of least score each step took
-pub record Filed-before (b s w : List ℕ) : Type 0 where
+pub record Filed-before-with (m : Terms) (b s w : List ℕ) : Type 0 where
   pub front : List ℕ
   pub shares : List ℕ
   pub steps : ℕ
   pub some-step : 1 ≤ steps
-  pub most-steps : steps ≤ sheet s .steps
+  pub most-steps : steps ≤ call-steps m s
   pub share-count : length shares ≡ boats b
-  pub total : sum shares ≡ weight fixed steps
+  pub total : sum shares ≡ weight (m .schedule) steps
   pub few-boats : support shares ≤ steps
-  pub stops-here : stops (sheet s .steps) steps (answer-of Former (problem b s) shares steps .verdict) ≡ true
-  pub layout : w ≡ front ++ card-bytes Former (answer-of Former (problem b s) shares steps) shares (sheet s .tolerance) (boats b) (columns b)
+  pub stops-here : stops (call-steps m s) steps (answer-of Former (call-problem m b s) shares steps .verdict) ≡ true
+  pub layout : w ≡ front ++ card-bytes Former (answer-of Former (call-problem m b s) shares steps) shares (sheet s .tolerance) (boats b) (columns b)
   pub most-bytes : length w ≤ file-limit
 
--- ---- What an accepted card vouches for: a is the answer given back for it, `shares` its shares. The bound by steps is a run's alone.
-pub record Card-vouches (b s w : List ℕ) (a : Answer) (shares : List ℕ) : Type 0 where
+-- ---- What an accepted card vouches for: a is the answer given back for it, `shares` its shares. The bound by steps is a run's alone. All of
+-- it is about the problem that this call sets: with a lent table W, the total of the shares and the last step are that table's. No table is
+-- on the card, so it does not say which one made it.
+pub record Card-vouches-with (m : Terms) (b s w : List ℕ) (a : Answer) (shares : List ℕ) : Type 0 where
   -- the file is a true card of these shares
-  pub is-true : Card-true b s w
+  pub is-true : Card-true-with m b s w
   pub own-shares : is-true .shares ≡ shares
   pub own-test : is-true .test ≡ card-test w
   -- and the answer's numbers are the card's own
@@ -82,39 +85,50 @@ pub record Card-vouches (b s w : List ℕ) (a : Answer) (shares : List ℕ) : Ty
   pub own-verdict : verdict-number (a .verdict) ≡ card-fields w .verdict
   pub own-tolerance : sheet s .tolerance ≡ card-fields w .tolerance
   -- which with the shares keeps what is promised of an answer, judged by the test of the card's letters
-  pub answer : Answer-bounds (card-test w) (problem b s) a shares
+  pub answer : Answer-bounds (card-test w) (call-problem m b s) a shares
+
+-- ---- With the files alone
+
+abbrev pub Card-true : (b s w : List ℕ) → Type 0
+Card-true b s w = Card-true-with plain-terms b s w
+
+abbrev pub Filed-before : (b s w : List ℕ) → Type 0
+Filed-before b s w = Filed-before-with plain-terms b s w
+
+abbrev pub Card-vouches : (b s w : List ℕ) → (a : Answer) → (shares : List ℕ) → Type 0
+Card-vouches b s w a shares = Card-vouches-with plain-terms b s w a shares
 
 -- ---- The statements
 
 -- a card is accepted exactly when it is true, whoever wrote it; and it is read as what it says
 unfoldable pub Accepted-exactly : Type 0
 Accepted-exactly =
-    (b s w : List ℕ) → files-refusal b s ≡ 0 → all-bytes w ≡ true →
-    (card-refusal b s w ≡ 0 → Card-true b s w)
-    × ((c : Card-true b s w) →
-    (card-refusal b s w ≡ 0) × (card-fields w ≡ c .own) × (card-shares (boats b) w ≡ c .shares) × (card-test w ≡ c .test)
-    × (card-answer b s w ≡ answer-of (c .test) (problem b s) (c .shares) (c .own .steps)))
+    (m : Terms) (b s w : List ℕ) → call-refusal m b s ≡ 0 → all-bytes w ≡ true →
+    (card-refusal-with m b s w ≡ 0 → Card-true-with m b s w)
+    × ((c : Card-true-with m b s w) →
+    (card-refusal-with m b s w ≡ 0) × (card-fields w ≡ c .own) × (card-shares (boats b) w ≡ c .shares) × (card-test w ≡ c .test)
+    × (card-answer-with m b s w ≡ answer-of (c .test) (call-problem m b s) (c .shares) (c .own .steps)))
 
 -- a card that was written is accepted, also behind any front text that keeps it within 40,000 bytes, and reads back as the run's answer and shares
 unfoldable pub Written-accepted : Type 0
 Written-accepted =
-    (b s front : List ℕ) → files-refusal b s ≡ 0 → length front + length (run-card b s) ≤ file-limit →
-    (card-refusal b s (front ++ run-card b s) ≡ 0)
-    × (card-answer b s (front ++ run-card b s) ≡ run-answer (problem b s)) × (card-shares (boats b) (front ++ run-card b s) ≡ run-iterate (problem b s) .shares)
+    (m : Terms) (b s front : List ℕ) → call-refusal m b s ≡ 0 → length front + length (run-card-with m b s) ≤ file-limit →
+    (card-refusal-with m b s (front ++ run-card-with m b s) ≡ 0)
+    × (card-answer-with m b s (front ++ run-card-with m b s) ≡ run-answer (call-problem m b s)) × (card-shares (boats b) (front ++ run-card-with m b s) ≡ run-iterate (call-problem m b s) .shares)
 
 -- a card that was filed before WCD2 is true, and so is still accepted
 unfoldable pub Filed-before-true : Type 0
-Filed-before-true = (b s w : List ℕ) → files-refusal b s ≡ 0 → Filed-before b s w → Card-true b s w
+Filed-before-true = (m : Terms) (b s w : List ℕ) → call-refusal m b s ≡ 0 → Filed-before-with m b s w → Card-true-with m b s w
 
 -- a written card has at most 1,060 bytes, so it needs no front text to keep within 40,000
 unfoldable pub Written-short : Type 0
-Written-short = (b s : List ℕ) → files-refusal b s ≡ 0 → length (run-card b s) ≤ card-limit
+Written-short = (m : Terms) (b s : List ℕ) → call-refusal m b s ≡ 0 → length (run-card-with m b s) ≤ card-limit
 
 -- an accepted card vouches for the gap
 unfoldable pub Accepted-vouches : Type 0
 Accepted-vouches =
-    (b s w : List ℕ) → files-refusal b s ≡ 0 → all-bytes w ≡ true → card-refusal b s w ≡ 0 →
-    Card-vouches b s w (card-answer b s w) (card-shares (boats b) w)
+    (m : Terms) (b s w : List ℕ) → call-refusal m b s ≡ 0 → all-bytes w ≡ true → card-refusal-with m b s w ≡ 0 →
+    Card-vouches-with m b s w (card-answer-with m b s w) (card-shares (boats b) w)
 
 -- ---- Any shares of a total N above zero: N² times their duality gap, before it is clipped
 unfoldable pub mixture-gap : Problem → (shares : List ℕ) → ℤ

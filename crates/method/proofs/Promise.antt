@@ -84,7 +84,7 @@ module _ (m : Terms) (b s : List ℕ) (c : Counts m s) where
   counted-search slots = rw counted-call
 
   pub counted-run : files-refusal b s ≡ 0 → (run-answer (call-problem m b s) ≡ run-answer (problem b s)) × (run-iterate (call-problem m b s) ≡ run-iterate (problem b s))
-  counted-run ok = counted-same m b s (files-accepted b s ok .1 .some-steps) c
+  counted-run ok = counted-same m b s c (files-accepted b s ok .1 .some-steps)
 
 -- ---- An outcome by its number
 
