@@ -1,35 +1,44 @@
 // The card writer and the card check.
 //
-// Entries, which ask nothing of their caller: write_card, check_card.
+// Entries, which ask nothing of their caller: write_card_with, write_card, check_card_with, check_card.
 ghost use mathlib.Core.Path.{_≡_};
+ghost use mathlib.Core.Bool.{false};
 ghost use mathlib.Core.List.{_++_};
 ghost use Prim.Native.Nat.{_≤_};
 ghost use lib.ListN.{length, take, drop};
 ghost use Rattle.files.specs.Book.{boats};
-ghost use Rattle.method.specs.Problem.{problem};
+ghost use Rattle.method.specs.Problem.{plain-terms, call-problem, problem};
+ghost use Rattle.method.specs.Calls.{terms};
 ghost use Rattle.method.specs.Answers.{outcome, slots-after, run-answer};
-ghost use Rattle.card_format.specs.Format.{card-shares, card-answer, run-card};
-ghost use Rattle.card_format.specs.Checks.{write-refusal, check-refusal};
-ghost use Rattle.card_format.specs.Filing.{filing, Filing-right};
-ghost use Rattle.card_format.specs.Checking.{Check-right};
+ghost use Rattle.card_format.specs.Format.{card-shares, card-answer-with, card-answer, run-card-with, run-card};
+ghost use Rattle.card_format.specs.Checks.{write-refusal-with, write-refusal, check-refusal-with, check-refusal};
+ghost use Rattle.card_format.specs.Filing.{filing, Filing-right-with, Filing-right};
+ghost use Rattle.card_format.specs.Checking.{Check-right-with, Check-right};
 use card_format::Written;
 use method::Searched;
 
-// ENTRY. The card of a run, written to the first bytes of `output`: refuses files and a buffer that do not serve (1 to 17, 46, then 22)
-// and leaves the buffer as it was; else gives the run's answer and the card's length. Later bytes are as they were. The third
-// clause says that the bytes read back as this answer and its shares, and what holds of them (Filing-right).
-pub fn write_card(book: &[u8], sheet: &[u8], output: &mut [u8]) -> Written
-    ensures { λ r. ⌜ r ≡ filing (write-refusal (now (book .entry)) (now (sheet .entry)) (length (now (output .entry)))) (run-answer (problem (now (book .entry)) (now (sheet .entry)))) (length (run-card (now (book .entry)) (now (sheet .entry)))) ⌝ }
-    ensures { λ _. ⌜ now (output .exit) ≡ slots-after (write-refusal (now (book .entry)) (now (sheet .entry)) (length (now (output .entry)))) (run-card (now (book .entry)) (now (sheet .entry))) (now (output .entry)) ⌝ }
-    ensures { λ r. ⌜ Filing-right (now (book .entry)) (now (sheet .entry)) r (now (output .exit)) ⌝ }
+// ENTRY. The card writer with what a caller may hand in beside the files: a table of shares, which is read only where `lent` says so.
+// Refuses a lent table (49 to 51), then as the writer of the files alone does, and leaves the buffer as it was; else writes the card of
+// the run of the problem that they set. Nothing on the card says which table made it. With nothing lent the terms are those of `write_card`.
+pub fn write_card_with(
+    book: &[u8],
+    sheet: &[u8],
+    lent: bool,
+    table: &[u16],
+    output: &mut [u8],
+) -> Written
+    ensures { λ r. ⌜ r ≡ filing (write-refusal-with (terms lent (now (table .entry))) (now (book .entry)) (now (sheet .entry)) (length (now (output .entry)))) (run-answer (call-problem (terms lent (now (table .entry))) (now (book .entry)) (now (sheet .entry)))) (length (run-card-with (terms lent (now (table .entry))) (now (book .entry)) (now (sheet .entry)))) ⌝ }
+    ensures { λ _. ⌜ now (output .exit) ≡ slots-after (write-refusal-with (terms lent (now (table .entry))) (now (book .entry)) (now (sheet .entry)) (length (now (output .entry)))) (run-card-with (terms lent (now (table .entry))) (now (book .entry)) (now (sheet .entry))) (now (output .entry)) ⌝ }
+    ensures { λ r. ⌜ Filing-right-with (terms lent (now (table .entry))) (now (book .entry)) (now (sheet .entry)) r (now (output .exit)) ⌝ }
+    ensures { λ _. ⌜ (lent ≡ false → (terms lent (now (table .entry))) ≡ plain-terms) ⌝ }
 {
-    let refusal = validation::files_refusal(book, sheet);
+    let refusal = calls::call_refusal(book, sheet, lent, table);
     if refusal != 0 {
         return Written::Refused(refusal);
     }
     let boats = files::boats(book);
     let mut shares = [0u16; 256];
-    let answer = factored_run::run(book, sheet, &mut shares);
+    let answer = factored_run::run(book, sheet, lent, table, &mut shares);
     let back = 4 * card_output::holding(shares, boats);
     if output.len() < back + 36 {
         return Written::Refused(22);
@@ -46,6 +55,17 @@ pub fn write_card(book: &[u8], sheet: &[u8], output: &mut [u8]) -> Written
     Written::Filed(answer, back + 36)
 }
 
+// ENTRY. The card of a run, written to the first bytes of `output`: refuses files and a buffer that do not serve (1 to 17, 46, then 22)
+// and leaves the buffer as it was; else gives the run's answer and the card's length. Later bytes are as they were. The third
+// clause says that the bytes read back as this answer and its shares, and what holds of them (Filing-right).
+pub fn write_card(book: &[u8], sheet: &[u8], output: &mut [u8]) -> Written
+    ensures { λ r. ⌜ r ≡ filing (write-refusal (now (book .entry)) (now (sheet .entry)) (length (now (output .entry)))) (run-answer (problem (now (book .entry)) (now (sheet .entry)))) (length (run-card (now (book .entry)) (now (sheet .entry)))) ⌝ }
+    ensures { λ _. ⌜ now (output .exit) ≡ slots-after (write-refusal (now (book .entry)) (now (sheet .entry)) (length (now (output .entry)))) (run-card (now (book .entry)) (now (sheet .entry))) (now (output .entry)) ⌝ }
+    ensures { λ r. ⌜ Filing-right (now (book .entry)) (now (sheet .entry)) r (now (output .exit)) ⌝ }
+{
+    write_card_with(book, sheet, false, &[0u16; 0], output)
+}
+
 // The first `count` slots of `to` as those of `from`; later slots as they were.
 fn fill(from: [u16; 256], count: usize, to: &mut [u16])
     requires { ⌜ (count ≤ 256) × (count ≤ length (now to)) ⌝ }
@@ -58,15 +78,24 @@ fn fill(from: [u16; 256], count: usize, to: &mut [u16])
     }
 }
 
-// ENTRY. The card check: refuses files, a share list or a card that does not serve (1 to 17, 46, 21, then 31 to 39) and leaves the
-// list as it was; else gives the card's answer and fills the list's first slots with its shares, one a boat. It does not rerun
-// the search. The third clause says that a card is accepted exactly when it is true, and what it vouches for (Check-right).
-pub fn check_card(book: &[u8], sheet: &[u8], card: &[u8], shares: &mut [u16]) -> Searched
-    ensures { λ r. ⌜ r ≡ outcome (check-refusal (now (book .entry)) (now (sheet .entry)) (now (card .entry)) (length (now (shares .entry)))) (card-answer (now (book .entry)) (now (sheet .entry)) (now (card .entry))) ⌝ }
-    ensures { λ _. ⌜ now (shares .exit) ≡ slots-after (check-refusal (now (book .entry)) (now (sheet .entry)) (now (card .entry)) (length (now (shares .entry)))) (card-shares (boats (now (book .entry))) (now (card .entry))) (now (shares .entry)) ⌝ }
-    ensures { λ r. ⌜ Check-right (now (book .entry)) (now (sheet .entry)) (now (card .entry)) r (now (shares .exit)) ⌝ }
+// ENTRY. The card check with what a caller may hand in beside the files: a table of shares, which is read only where `lent` says so.
+// Refuses a lent table (49 to 51), then as the check with the files alone does, and leaves the list as it was; else gives the card's
+// answer and its shares. An accepted card vouches for what it says under this table, whichever made it. With nothing lent the terms are
+// those of `check_card`.
+pub fn check_card_with(
+    book: &[u8],
+    sheet: &[u8],
+    lent: bool,
+    table: &[u16],
+    card: &[u8],
+    shares: &mut [u16],
+) -> Searched
+    ensures { λ r. ⌜ r ≡ outcome (check-refusal-with (terms lent (now (table .entry))) (now (book .entry)) (now (sheet .entry)) (now (card .entry)) (length (now (shares .entry)))) (card-answer-with (terms lent (now (table .entry))) (now (book .entry)) (now (sheet .entry)) (now (card .entry))) ⌝ }
+    ensures { λ _. ⌜ now (shares .exit) ≡ slots-after (check-refusal-with (terms lent (now (table .entry))) (now (book .entry)) (now (sheet .entry)) (now (card .entry)) (length (now (shares .entry)))) (card-shares (boats (now (book .entry))) (now (card .entry))) (now (shares .entry)) ⌝ }
+    ensures { λ r. ⌜ Check-right-with (terms lent (now (table .entry))) (now (book .entry)) (now (sheet .entry)) (now (card .entry)) r (now (shares .exit)) ⌝ }
+    ensures { λ _. ⌜ (lent ≡ false → (terms lent (now (table .entry))) ≡ plain-terms) ⌝ }
 {
-    let refusal = validation::files_refusal(book, sheet);
+    let refusal = calls::call_refusal(book, sheet, lent, table);
     if refusal != 0 {
         return Searched::Refused(refusal);
     }
@@ -75,17 +104,29 @@ pub fn check_card(book: &[u8], sheet: &[u8], card: &[u8], shares: &mut [u16]) ->
     if shares.len() < boats {
         return Searched::Refused(21);
     }
-    let form = card_input::form_refusal(card, boats, layout.columns, files::steps(sheet));
+    let steps = schedules::steps(lent, table, files::steps(sheet));
+    let form = card_input::form_refusal(card, boats, layout.columns, steps);
     if form != 0 {
         return Searched::Refused(form);
     }
     let count = card_input::pair_count(card);
     let found = card_pairs::shares_of(card, card.len() - 36 - 4 * count, count);
-    match card_truth::judged(book, sheet, layout, card, found) {
+    match card_truth::judged(book, sheet, lent, table, layout, card, found) {
         Searched::Refused(n) => Searched::Refused(n),
         Searched::Answered(answer) => {
             fill(found, boats, shares);
             Searched::Answered(answer)
         }
     }
+}
+
+// ENTRY. The card check: refuses files, a share list or a card that does not serve (1 to 17, 46, 21, then 31 to 39) and leaves the
+// list as it was; else gives the card's answer and fills the list's first slots with its shares, one a boat. It does not rerun
+// the search. The third clause says that a card is accepted exactly when it is true, and what it vouches for (Check-right).
+pub fn check_card(book: &[u8], sheet: &[u8], card: &[u8], shares: &mut [u16]) -> Searched
+    ensures { λ r. ⌜ r ≡ outcome (check-refusal (now (book .entry)) (now (sheet .entry)) (now (card .entry)) (length (now (shares .entry)))) (card-answer (now (book .entry)) (now (sheet .entry)) (now (card .entry))) ⌝ }
+    ensures { λ _. ⌜ now (shares .exit) ≡ slots-after (check-refusal (now (book .entry)) (now (sheet .entry)) (now (card .entry)) (length (now (shares .entry)))) (card-shares (boats (now (book .entry))) (now (card .entry))) (now (shares .entry)) ⌝ }
+    ensures { λ r. ⌜ Check-right (now (book .entry)) (now (sheet .entry)) (now (card .entry)) r (now (shares .exit)) ⌝ }
+{
+    check_card_with(book, sheet, false, &[0u16; 0], card, shares)
 }

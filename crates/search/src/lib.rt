@@ -1,12 +1,40 @@
 // The mixture search.
 //
-// Entry, which asks nothing of its caller: search.
+// Entries, which ask nothing of their caller: search_with, search.
 ghost use mathlib.Core.Path.{_≡_};
+ghost use mathlib.Core.Bool.{false};
 ghost use lib.ListN.{length};
-ghost use Rattle.method.specs.Problem.{problem};
-ghost use Rattle.method.specs.Answers.{outcome, search-refusal, slots-after, run-answer, run-iterate};
-ghost use Rattle.method.specs.Promise.{Outcome-right};
+ghost use Rattle.method.specs.Problem.{plain-terms, call-problem, problem};
+ghost use Rattle.method.specs.Calls.{terms};
+ghost use Rattle.method.specs.Answers.{outcome, search-refusal-with, search-refusal, slots-after, run-answer, run-iterate};
+ghost use Rattle.method.specs.Promise.{Outcome-right-with, Outcome-right};
 use method::Searched;
+
+// ENTRY. The search with what a caller may hand in beside the files: a table of shares, which is read only where `lent` says so. Refuses
+// a lent table (49 to 51), then as the search of the files alone does, and leaves the list as it was; else gives the answer of the run
+// of the problem that they set, and fills the list's first slots with the shares, one a boat. The first two clauses give the outcome and
+// every slot; the third says what holds of them; with nothing lent the terms are those of `search`.
+pub fn search_with(
+    book: &[u8],
+    sheet: &[u8],
+    lent: bool,
+    table: &[u16],
+    shares: &mut [u16],
+) -> Searched
+    ensures { λ r. ⌜ r ≡ outcome (search-refusal-with (terms lent (now (table .entry))) (now (book .entry)) (now (sheet .entry)) (length (now (shares .entry)))) (run-answer (call-problem (terms lent (now (table .entry))) (now (book .entry)) (now (sheet .entry)))) ⌝ }
+    ensures { λ _. ⌜ now (shares .exit) ≡ slots-after (search-refusal-with (terms lent (now (table .entry))) (now (book .entry)) (now (sheet .entry)) (length (now (shares .entry)))) (run-iterate (call-problem (terms lent (now (table .entry))) (now (book .entry)) (now (sheet .entry))) .shares) (now (shares .entry)) ⌝ }
+    ensures { λ r. ⌜ Outcome-right-with (terms lent (now (table .entry))) (now (book .entry)) (now (sheet .entry)) r (now (shares .exit)) ⌝ }
+    ensures { λ _. ⌜ (lent ≡ false → (terms lent (now (table .entry))) ≡ plain-terms) ⌝ }
+{
+    let refusal = calls::call_refusal(book, sheet, lent, table);
+    if refusal != 0 {
+        return Searched::Refused(refusal);
+    }
+    if shares.len() < files::boats(book) {
+        return Searched::Refused(21);
+    }
+    Searched::Answered(factored_run::run(book, sheet, lent, table, shares))
+}
 
 // ENTRY. The search: refuses files and a share list that do not serve (1 to 17, 46, then 21) and leaves the list as it was;
 // else gives the answer of the run of the problem that the files make, and fills the list's first slots with the shares, one a
@@ -17,12 +45,5 @@ pub fn search(book: &[u8], sheet: &[u8], shares: &mut [u16]) -> Searched
     ensures { λ _. ⌜ now (shares .exit) ≡ slots-after (search-refusal (now (book .entry)) (now (sheet .entry)) (length (now (shares .entry)))) (run-iterate (problem (now (book .entry)) (now (sheet .entry))) .shares) (now (shares .entry)) ⌝ }
     ensures { λ r. ⌜ Outcome-right (now (book .entry)) (now (sheet .entry)) r (now (shares .exit)) ⌝ }
 {
-    let refusal = validation::files_refusal(book, sheet);
-    if refusal != 0 {
-        return Searched::Refused(refusal);
-    }
-    if shares.len() < files::boats(book) {
-        return Searched::Refused(21);
-    }
-    Searched::Answered(factored_run::run(book, sheet, shares))
+    search_with(book, sheet, false, &[0u16; 0], shares)
 }
