@@ -13,7 +13,7 @@ use Rattle.files.specs.Limits.{step-limit, total-limit, sum-limit}
 
 -- ---- Any schedule
 
-take-more : (table : List ℕ) (t : ℕ) → sum (take (suc t) table) ≡ sum (take t table) + getD table t 0
+pub take-more : (table : List ℕ) (t : ℕ) → sum (take (suc t) table) ≡ sum (take t table) + getD table t 0
 unfolding sum
 take-more [] zero = refl
 take-more [] (suc t) = refl

@@ -2,7 +2,9 @@
 //
 // Helpers for other crates, whose callers prove what they require: refusal, steps, share, total.
 ghost use mathlib.Core.Path.{_≡_};
-ghost use Prim.Native.Nat.{_≤_, _<_};
+ghost use mathlib.Core.Bool.{_&&_};
+ghost use Prim.Native.Nat.{_*_, _≤_, _<_};
+ghost use lib.Dec.{ltb, leb};
 ghost use lib.ListN.{length, take};
 ghost use Rattle.frank_wolfe.specs.Vectors.{sum};
 ghost use Rattle.method.specs.Problem.{share, weight, allowed-steps};
@@ -15,25 +17,30 @@ fn wide(entry: u16) -> u32
     entry as u32
 }
 
+// Whether an entry is above 0, and its square at most twice the running total that includes it.
+fn entry_fits(entry: u32, total: u32) -> bool
+    requires { ⌜ (entry < 65536) × (total < 2147483648) ⌝ }
+    ensures { λ r. ⌜ r ≡ ltb 0 entry && leb (entry * entry) (2 * total) ⌝ }
+{
+    if entry == 0 {
+        return false;
+    }
+    entry * entry <= 2 * total
+}
+
 // The number, 49 to 51, that refuses a table, or 0.
 fn table_refusal(table: &[u16]) -> u32
     ensures { λ r. ⌜ r ≡ table-refusal (now (table .entry)) ⌝ }
 {
-    if table.len() == 0 {
-        return 49;
-    }
-    if table.len() > files::MOST_STEPS as usize {
+    if !file_parts::is_between(1, files::MOST_STEPS as usize, table.len()) {
         return 49;
     }
     let mut total: u32 = 0;
     let mut i = 0;
     while i < table.len() {
-        let a = wide(table[i]);
-        total += a;
-        if a == 0 {
-            return 50;
-        }
-        if 2 * total < a * a {
+        let entry = wide(table[i]);
+        total += entry;
+        if !entry_fits(entry, total) {
             return 50;
         }
         i += 1;
