@@ -165,9 +165,9 @@ module _ {e k : ℕ} {score target-score own target : ℤ} (few : k ≤ step-lim
   pub target-moved-read : toZ w64 (ofZ w64 target-moved) ≡ target-score +ℤ pos k *ℤ target
   target-moved-read = toZ-ofZ target-moved-fits ∙ target-moved-is
 
-pub next-is : (x : State) {score own target : ℤ} → Steppable x score own target → (p : Least) →
-    {d : ℕ} → pos d ≡ moved-distance (x .distance) (x .steps + 1) score (x .«target_score») own target →
-    {a : ℤ} → a ≡ x .«target_score» +ℤ pos (x .steps + 1) *ℤ target → {z : ℤ} → z ≡ p .score →
-    _≡_ {A = State} (record { steps = x .steps + 1; weight = x .weight + (x .steps + 1); distance = d; «target_score» = a; best = p .boat; least = z }) (next-state x score own target p)
+pub next-is : (x : State) {k : ℕ} {score own target : ℤ} → Steppable x k score own target → (p : Least) →
+    {d : ℕ} → pos d ≡ moved-distance (x .distance) k score (x .«target_score») own target →
+    {a : ℤ} → a ≡ x .«target_score» +ℤ pos k *ℤ target → {z : ℤ} → z ≡ p .score →
+    _≡_ {A = State} (record { steps = x .steps + 1; weight = x .weight + k; distance = d; «target_score» = a; best = p .boat; least = z }) (next-state x k score own target p)
 unfolding next-state
 next-is x h p ed ea ez = rw (natural-pos ed, ea, ez)

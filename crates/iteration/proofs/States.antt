@@ -20,12 +20,13 @@ use Rattle.files.proofs.Accepted.{files-accepted}
 use Rattle.files.proofs.Access.{rows-at, row-at, target-at}
 use Rattle.files.specs.Limits.{step-limit, total-limit, entry-limit}
 use Rattle.frank_wolfe.specs.Vectors.{add, subtract, scale, weighted, weighted-norm, ones, sum}
-use Rattle.frank_wolfe.proofs.Vectors.{length-scale, length-subtract, weighted-symmetric, weighted-add, weighted-subtract, weighted-scale, weighted-zero, norm-weighted, scale-one}
-use Rattle.method.specs.Problem.{fixed, share, weight}
+use Rattle.frank_wolfe.proofs.Vectors.{length-scale, length-subtract, weighted-symmetric, weighted-add, weighted-subtract, weighted-scale, weighted-zero, norm-weighted}
+use Rattle.method.specs.Problem.{Schedule, share, weight}
 use Rattle.method.specs.Plain.{plain-problem}
 use Rattle.method.specs.Iterates as M
 use Rattle.method.specs.Iterates.{iterate, direction, active-argmin, pick, with-shares, step, start, row, residual, distance, natural}
-use Rattle.method.proofs.Weights.{weight-zero, weight-more, weight-most, weight-fits}
+use Rattle.method.proofs.Weights.{weight-zero, weight-suc, weight-fits}
+use Rattle.method.proofs.Schedules.{Schedule-sized, fixed-sized}
 use Rattle.method.proofs.Argmin.{argmin-at, among-row, score-at, length-scores}
 use Rattle.method.proofs.Picks.{active-none, pick-below}
 use Rattle.method.proofs.Entries as E
@@ -154,7 +155,7 @@ module _ (b s : List ℕ) (ok : files-refusal b s ≡ 0) where
   difference-bounded : (i : ℕ) → i < boats b → (j : ℕ) → natAbs (getD (subtract (row (rows b) i) (sheet s .target)) j (pos 0)) ≤ 4000
   unfolding plain-problem
   difference-bounded i h =
-      E.bounded-subtract (in-range b s ok .rows-bounded (row (rows b) i) (among-row (rows b) i (omega (arith, book-fits .row-count)))) (in-range b s ok .target-bounded) .each
+      E.bounded-subtract (in-range b s ok fixed-sized .rows-bounded (row (rows b) i) (among-row (rows b) i (omega (arith, book-fits .row-count)))) (in-range b s ok fixed-sized .target-bounded) .each
 
   pub differable : (i : ℕ) → i < boats b →
       Bounded 2000 (columns b) (values (columns b) (drop (rows-offset b + 2 * (i * columns b)) b)) × Bounded 2000 (columns b) (values (columns b) (drop (target-offset s) s))
@@ -186,7 +187,7 @@ module _ (b s : List ℕ) (ok : files-refusal b s ≡ 0) where
   pub product-size : (i : ℕ) → i < boats b → (q : ℕ) → q < boats b → natAbs (getD (boat-products b s i) q (pos 0)) ≤ 512000000
   unfolding plain-problem
   product-size i h q k =
-      let f = in-range b s ok in
+      let f = in-range b s ok fixed-sized in
       let m : natAbs (weighted (ones (columns b)) (subtract (row (rows b) i) (sheet s .target)) (row (rows b) q)) ≤ sum (ones (columns b)) * (4000 * 2000) =
       E.weighted-bound (ones (columns b)) 4000 2000 (subtract (row (rows b) i) (sheet s .target)) (row (rows b) q) (record { each = difference-bounded i h }) (f .rows-bounded _ (among-row (rows b) q (omega (arith, book-fits .row-count)))) in
       rw (score-at (ones (columns b)) (subtract (row (rows b) i) (sheet s .target)) (rows b) q) (omega (arith, m, few-ones b s ok))
@@ -206,132 +207,131 @@ module _ (b s : List ℕ) (ok : files-refusal b s ≡ 0) where
         };
       }
 
-  -- ---- The fresh state
+  -- ---- The fresh state, whatever shares are to come
 
-  pub fresh-holds : {p : Least} → p ≡ least-of (boat-products b s 0) → {z : ℤ} → z ≡ p .score → Holds b s 0 (record { steps = 0; weight = 0; distance = 0; «target_score» = pos 0; best = p .boat; least = z })
-  unfolding plain-problem iterate start direction pick active-argmin least-of distance
-  fresh-holds e ez =
-      let z : residual (plain-problem b s) 0 (start (plain-problem b s)) ≡ replicate (columns b) (pos 0) = residual-start (plain-problem b s) (sheet-fits .target-length) in
-      record {
-        steps-are = refl;
-        weight-is = sym (weight-zero fixed);
-        distance-is = rw z (sym (norm-zero (ones (columns b)) (columns b)));
-        target-score-is = rw z (sym (weighted-symmetric (ones (columns b)) (replicate (columns b) (pos 0)) (sheet s .target) ∙ weighted-zero (ones (columns b)) (sheet s .target) (columns b)));
-        best-is = ap (λ (x : Least). x .boat) e ∙ sym (active-none 0 _ _ (length (rows b)) _);
-        least-is = ez ∙ ap (λ (x : Least). x .score) e ∙ argmin-at (boat-products b s 0);
-      }
+  module _ (a : Schedule) where
+    pub fresh-holds : {p : Least} → p ≡ least-of (boat-products b s 0) → {z : ℤ} → z ≡ p .score → Holds a b s 0 (record { steps = 0; weight = 0; distance = 0; «target_score» = pos 0; best = p .boat; least = z })
+    unfolding plain-problem iterate start direction pick active-argmin least-of distance
+    fresh-holds e ez =
+        let z : residual (plain-problem a b s) 0 (start (plain-problem a b s)) ≡ replicate (columns b) (pos 0) = residual-start (plain-problem a b s) (sheet-fits .target-length) in
+        record {
+          steps-are = refl;
+          weight-is = sym (weight-zero a);
+          distance-is = rw z (sym (norm-zero (ones (columns b)) (columns b)));
+          target-score-is = rw z (sym (weighted-symmetric (ones (columns b)) (replicate (columns b) (pos 0)) (sheet s .target) ∙ weighted-zero (ones (columns b)) (sheet s .target) (columns b)));
+          best-is = ap (λ (x : Least). x .boat) e ∙ sym (active-none 0 _ _ (length (rows b)) _);
+          least-is = ez ∙ ap (λ (x : Least). x .score) e ∙ argmin-at (boat-products b s 0);
+        }
 
-  -- ---- The next state
+  module _ {a : Schedule} (S : Schedule-sized a) where
+    -- ---- The next state
 
-  pub best-below : {t : ℕ} {x : State} → Holds b s t x → x .best < boats b
-  unfolding plain-problem
-  best-below {t} H =
-      rw (H .best-is)
-      (rw (book-fits .row-count) at (pick-below (plain-problem b s) (direction (plain-problem b s) t (iterate-of b s t)) (iterate-of b s t) (omega (arith, book-fits .row-count, book-fits .some-boats))))
+    pub best-below : {t : ℕ} {x : State} → Holds a b s t x → x .best < boats b
+    unfolding plain-problem
+    best-below {t} H =
+        rw (H .best-is)
+        (rw (book-fits .row-count) at (pick-below (plain-problem a b s) (direction (plain-problem a b s) t (iterate-of a b s t)) (iterate-of a b s t) (omega (arith, book-fits .row-count, book-fits .some-boats))))
 
-  target-size : (i : ℕ) → i < boats b → natAbs (target-product b s i) ≤ 512000000
-  unfolding plain-problem
-  target-size i h =
-      let m : natAbs (weighted (ones (columns b)) (subtract (row (rows b) i) (sheet s .target)) (sheet s .target)) ≤ sum (ones (columns b)) * (4000 * 2000) =
-      E.weighted-bound (ones (columns b)) 4000 2000 (subtract (row (rows b) i) (sheet s .target)) (sheet s .target) (record { each = difference-bounded i h }) (in-range b s ok .target-bounded) in
-      omega (arith, m, few-ones b s ok)
+    target-size : (i : ℕ) → i < boats b → natAbs (target-product b s i) ≤ 512000000
+    unfolding plain-problem
+    target-size i h =
+        let m : natAbs (weighted (ones (columns b)) (subtract (row (rows b) i) (sheet s .target)) (sheet s .target)) ≤ sum (ones (columns b)) * (4000 * 2000) =
+        E.weighted-bound (ones (columns b)) 4000 2000 (subtract (row (rows b) i) (sheet s .target)) (sheet s .target) (record { each = difference-bounded i h }) (in-range b s ok S .target-bounded) in
+        omega (arith, m, few-ones b s ok)
 
-  -- r′ = r + k (v - u)
-  pub residual-next : {t : ℕ} {x : State} → Holds b s t x →
-      residual (plain-problem b s) (suc t) (iterate-of b s (suc t)) ≡ add (residual (plain-problem b s) t (iterate-of b s t)) (scale (suc t) (boat-difference b s (x .best)))
-  unfolding plain-problem share iterate
-  residual-next {t} H = rw (H .best-is) (residual-step (plain-problem b s) t (direction (plain-problem b s) t (iterate-of b s t)) (iterate-of b s t))
+    -- r′ = r + k (v - u)
+    pub residual-next : {t : ℕ} {x : State} → Holds a b s t x →
+        residual (plain-problem a b s) (suc t) (iterate-of a b s (suc t)) ≡ add (residual (plain-problem a b s) t (iterate-of a b s t)) (scale (share a t) (boat-difference b s (x .best)))
+    unfolding plain-problem share iterate
+    residual-next {t} H = rw (H .best-is) (residual-step (plain-problem a b s) t (direction (plain-problem a b s) t (iterate-of a b s t)) (iterate-of a b s t))
 
-  -- a step from t steps, of the boat picked, with its score and its products
-  module _ {t : ℕ} {x : State} (H : Holds b s t x) {score own target : ℤ}
-      (es : score ≡ weighted (ones (columns b)) (residual (plain-problem b s) t (iterate-of b s t)) (row (rows b) (x .best)))
-      (eo : own ≡ getD (boat-products b s (x .best)) (x .best) (pos 0)) (et : target ≡ target-product b s (x .best)) where
-    abbrev r : List ℤ
-    r = residual (plain-problem b s) t (iterate-of b s t)
+    -- a step from t steps, of the boat picked, with its score and its products
+    module _ {t : ℕ} {x : State} (H : Holds a b s t x) {score own target : ℤ}
+        (es : score ≡ weighted (ones (columns b)) (residual (plain-problem a b s) t (iterate-of a b s t)) (row (rows b) (x .best)))
+        (eo : own ≡ getD (boat-products b s (x .best)) (x .best) (pos 0)) (et : target ≡ target-product b s (x .best)) where
+      abbrev r : List ℤ
+      r = residual (plain-problem a b s) t (iterate-of a b s t)
 
-    row-long : length (row (rows b) (x .best)) ≡ columns b
-    unfolding row
-    row-long = book-fits .row-length (x .best) (best-below H)
+      row-long : length (row (rows b) (x .best)) ≡ columns b
+      unfolding row
+      row-long = book-fits .row-length (x .best) (best-below H)
 
-    distance-next : moved-distance (x .distance) (suc t) score (x .«target_score») own target ≡ pos (distance (plain-problem b s) (suc t) (iterate-of b s (suc t)))
-    unfolding plain-problem distance
-    distance-next =
-        rw (H .distance-is, H .target-score-is, es, eo, et, score-at (ones (columns b)) (boat-difference b s (x .best)) (rows b) (x .best), residual-next H)
-        (norm-moved (ones (columns b)) r (row (rows b) (x .best)) (sheet s .target) (suc t) (residual-length b s ok t ∙ sym row-long) (row-long ∙ sym (sheet-fits .target-length)))
+      distance-next : moved-distance (x .distance) (share a t) score (x .«target_score») own target ≡ pos (distance (plain-problem a b s) (suc t) (iterate-of a b s (suc t)))
+      unfolding plain-problem distance
+      distance-next =
+          rw (H .distance-is, H .target-score-is, es, eo, et, score-at (ones (columns b)) (boat-difference b s (x .best)) (rows b) (x .best), residual-next H)
+          (norm-moved (ones (columns b)) r (row (rows b) (x .best)) (sheet s .target) (share a t) (residual-length b s ok S t ∙ sym row-long) (row-long ∙ sym (sheet-fits .target-length)))
 
-    target-score-next : x .«target_score» +ℤ pos (suc t) *ℤ target ≡ weighted (ones (columns b)) (residual (plain-problem b s) (suc t) (iterate-of b s (suc t))) (sheet s .target)
-    target-score-next =
-        rw (H .target-score-is, et, residual-next H)
-        (sym (weighted-moved (ones (columns b)) r (boat-difference b s (x .best)) (suc t) (sheet s .target) (residual-length b s ok t ∙ sym (length-difference (x .best) (best-below H)))))
+      target-score-next : x .«target_score» +ℤ pos (share a t) *ℤ target ≡ weighted (ones (columns b)) (residual (plain-problem a b s) (suc t) (iterate-of a b s (suc t))) (sheet s .target)
+      target-score-next =
+          rw (H .target-score-is, et, residual-next H)
+          (sym (weighted-moved (ones (columns b)) r (boat-difference b s (x .best)) (share a t) (sheet s .target) (residual-length b s ok S t ∙ sym (length-difference (x .best) (best-below H)))))
 
-    module _ (few : t < step-limit) where
-      sized : Steppable x score own target
-      unfolding plain-problem
-      sized =
-          let k : x .steps + 1 ≡ suc t = omega (arith, H .steps-are) in
-          let m = score-most (well-formed b s ok) (in-range b s ok) (mixed b s ok t) in
-          let w : weight fixed t ≤ total-limit = weight-most (omega arith) in
-          record {
-            few-shares = rw (H .weight-is) w;
-            moves = rw k (record {
-              distance = rw (H .distance-is) (lt-of-le-of-lt (distance-most (well-formed b s ok) (in-range b s ok) (mixed b s ok t)) (weight-fits w (le-refl 1024000000)));
-              score-size = rw es (omega (arith, m (row (rows b) (x .best)) (in-range b s ok .rows-bounded _ (among-row (rows b) (x .best) (omega (arith, book-fits .row-count, best-below H))))));
-              target-score-size = rw (H .target-score-is) (omega (arith, m (sheet s .target) (in-range b s ok .target-bounded)));
-              own-size = rw eo (product-size (x .best) (best-below H) (x .best) (best-below H));
-              target-size = rw et (target-size (x .best) (best-below H));
-              sign = rw distance-next (≤→≤ℤ {m = 0} {n = distance (plain-problem b s) (suc t) (iterate-of b s (suc t))} (omega arith));
-            });
-          }
+      module _ (few : t < step-limit) where
+        sized : Steppable x (share a t) score own target
+        unfolding plain-problem
+        sized =
+            let m = score-most (well-formed b s ok S) (in-range b s ok S) (mixed b s ok S t) in
+            let w : weight a t ≤ total-limit = S .most-total t (omega arith) in
+            record {
+              few-shares = rw (H .weight-is) w;
+              moves = record {
+                distance = rw (H .distance-is) (lt-of-le-of-lt (distance-most (well-formed b s ok S) (in-range b s ok S) (mixed b s ok S t)) (weight-fits w (le-refl 1024000000)));
+                score-size = rw es (omega (arith, m (row (rows b) (x .best)) (in-range b s ok S .rows-bounded _ (among-row (rows b) (x .best) (omega (arith, book-fits .row-count, best-below H))))));
+                target-score-size = rw (H .target-score-is) (omega (arith, m (sheet s .target) (in-range b s ok S .target-bounded)));
+                own-size = rw eo (product-size (x .best) (best-below H) (x .best) (best-below H));
+                target-size = rw et (target-size (x .best) (best-below H));
+                sign = rw distance-next (≤→≤ℤ {m = 0} {n = distance (plain-problem a b s) (suc t) (iterate-of a b s (suc t))} (omega arith));
+              };
+            }
 
-      -- as `next` reads them
-      score-read : toZ w64 (ofZ w64 score) ≡ score
-      score-read = read w64 33269760000000 (sized .moves .score-size) tt
+        -- as `next` reads them
+        score-read : toZ w64 (ofZ w64 score) ≡ score
+        score-read = read w64 33269760000000 (sized .moves .score-size) tt
 
-      own-read : toZ w32 (ofZ w32 own) ≡ own
-      own-read = read w32 512000000 (sized .moves .own-size) tt
+        own-read : toZ w32 (ofZ w32 own) ≡ own
+        own-read = read w32 512000000 (sized .moves .own-size) tt
 
-      target-read : toZ w32 (ofZ w32 target) ≡ target
-      target-read = read w32 512000000 (sized .moves .target-size) tt
+        target-read : toZ w32 (ofZ w32 target) ≡ target
+        target-read = read w32 512000000 (sized .moves .target-size) tt
 
-      pub steppable : Steppable x (toZ w64 (ofZ w64 score)) (toZ w32 (ofZ w32 own)) (toZ w32 (ofZ w32 target))
-      steppable = rw (score-read, own-read, target-read) sized
+        pub steppable : Steppable x (share a t) (toZ w64 (ofZ w64 score)) (toZ w32 (ofZ w32 own)) (toZ w32 (ofZ w32 target))
+        steppable = rw (score-read, own-read, target-read) sized
 
-      pub next-holds : {p : Least} → p ≡ pick-of (iterate-of b s (suc t) .shares) (scores-of b s (suc t)) →
-          {y : State} → y ≡ next-state x (toZ w64 (ofZ w64 score)) (toZ w32 (ofZ w32 own)) (toZ w32 (ofZ w32 target)) p → Holds b s (suc t) y
-      unfolding plain-problem pick pick-of next-state natural
-      next-holds {p} ep {y} ey =
-          let k : x .steps + 1 ≡ suc t = omega (arith, H .steps-are) in
-          let f : y ≡ next-state x score own target p = rw (score-read, own-read, target-read) at ey in
-          rw f
-          (record {
-            steps-are = k;
-            weight-is = rw (H .weight-is, k) (sym (weight-more t));
-            distance-is = rw k (ap natural distance-next);
-            target-score-is = rw k target-score-next;
-            best-is = ap (λ (y : Least). y .boat) ep;
-            least-is = ap (λ (y : Least). y .score) ep;
-          })
+        pub next-holds : {p : Least} → p ≡ pick-of (iterate-of a b s (suc t) .shares) (scores-of a b s (suc t)) →
+            {y : State} → y ≡ next-state x (share a t) (toZ w64 (ofZ w64 score)) (toZ w32 (ofZ w32 own)) (toZ w32 (ofZ w32 target)) p → Holds a b s (suc t) y
+        unfolding plain-problem pick pick-of next-state natural
+        next-holds {p} ep {y} ey =
+            let k : x .steps + 1 ≡ suc t = omega (arith, H .steps-are) in
+            let f : y ≡ next-state x (share a t) score own target p = rw (score-read, own-read, target-read) at ey in
+            rw f
+            (record {
+              steps-are = k;
+              weight-is = rw (H .weight-is) (sym (weight-suc a t));
+              distance-is = ap natural distance-next;
+              target-score-is = target-score-next;
+              best-is = ap (λ (y : Least). y .boat) ep;
+              least-is = ap (λ (y : Least). y .score) ep;
+            })
 
-  -- the shares of the next iterate
-  pub next-shares : {t : ℕ} {x : State} → Holds b s t x → set (iterate-of b s t .shares) (x .best) (getD (iterate-of b s t .shares) (x .best) 0 + suc t) ≡ iterate-of b s (suc t) .shares
-  unfolding plain-problem share iterate step with-shares
-  next-shares H = rw (H .best-is)
+    -- the shares of the next iterate
+    pub next-shares : {t : ℕ} {x : State} → Holds a b s t x → set (iterate-of a b s t .shares) (x .best) (getD (iterate-of a b s t .shares) (x .best) 0 + share a t) ≡ iterate-of a b s (suc t) .shares
+    unfolding plain-problem iterate step with-shares
+    next-shares H = rw (H .best-is)
 
-  -- the scores move with the residual
-  pub next-scores : {t : ℕ} {x : State} → Holds b s t x →
-      add (M.scores (ones (columns b)) (residual (plain-problem b s) t (iterate-of b s t)) (rows b)) (scale (suc t) (boat-products b s (x .best))) ≡ scores-of b s (suc t)
-  unfolding direction
-  next-scores {t} {x} H =
-      sym (scores-add (ones (columns b)) (residual (plain-problem b s) t (iterate-of b s t)) (boat-difference b s (x .best)) (suc t) (rows b)
-      (residual-length b s ok t ∙ sym (length-difference (x .best) (best-below H))))
-      ∙ ap (λ r. M.scores (ones (columns b)) r (rows b)) (sym (residual-next H))
+    -- the scores move with the residual
+    pub next-scores : {t : ℕ} {x : State} → Holds a b s t x →
+        add (M.scores (ones (columns b)) (residual (plain-problem a b s) t (iterate-of a b s t)) (rows b)) (scale (share a t) (boat-products b s (x .best))) ≡ scores-of a b s (suc t)
+    unfolding direction
+    next-scores {t} {x} H =
+        sym (scores-add (ones (columns b)) (residual (plain-problem a b s) t (iterate-of a b s t)) (boat-difference b s (x .best)) (share a t) (rows b)
+        (residual-length b s ok S t ∙ sym (length-difference (x .best) (best-below H))))
+        ∙ ap (λ r. M.scores (ones (columns b)) r (rows b)) (sym (residual-next H))
 
-  -- at the first step they are the boat's products
-  pub first-scores : {x : State} → Holds b s 0 x → boat-products b s (x .best) ≡ scores-of b s 1
-  unfolding plain-problem iterate start
-  first-scores {x} H =
-      let z : M.scores (ones (columns b)) (residual (plain-problem b s) 0 (iterate-of b s 0)) (rows b) ≡ replicate (boats b) (pos 0) =
-      rw (residual-start (plain-problem b s) (sheet-fits .target-length), scores-zero (ones (columns b)) (columns b) (rows b), book-fits .row-count) in
-      let a : add (replicate (boats b) (pos 0)) (scale 1 (boat-products b s (x .best))) ≡ boat-products b s (x .best) =
-      rw (scale-one (boat-products b s (x .best))) (zeros-add (boats b) (boat-products b s (x .best)) (product-count (x .best))) in
-      sym a ∙ rw (← z) (next-scores H)
+    -- at the first step they are the boat's products, times the first share
+    pub first-scores : {x : State} → Holds a b s 0 x → scale (share a 0) (boat-products b s (x .best)) ≡ scores-of a b s 1
+    unfolding plain-problem iterate start
+    first-scores {x} H =
+        let z : M.scores (ones (columns b)) (residual (plain-problem a b s) 0 (iterate-of a b s 0)) (rows b) ≡ replicate (boats b) (pos 0) =
+        rw (residual-start (plain-problem a b s) (sheet-fits .target-length), scores-zero (ones (columns b)) (columns b) (rows b), book-fits .row-count) in
+        sym (zeros-add (boats b) (scale (share a 0) (boat-products b s (x .best))) (length-scale (share a 0) (boat-products b s (x .best)) ∙ product-count (x .best))) ∙ rw (← z) (next-scores H)

@@ -20,18 +20,18 @@ pub record Moves (e k : ℕ) (score target-score own target : ℤ) : Type 0 wher
   pub target-size : natAbs target ≤ 512000000
   pub sign : pos 0 ≤ℤ moved-distance e k score target-score own target
 
--- the state after a step of x; p is the boat that the step after it picks, with its score
-unfoldable pub next-state : (x : State) → (score own target : ℤ) → (p : Least) → State
-next-state x score own target p =
+-- the state after a step of x that gives k shares; p is the boat that the step after it picks, with its score
+unfoldable pub next-state : (x : State) → (k : ℕ) → (score own target : ℤ) → (p : Least) → State
+next-state x k score own target p =
     record {
       steps = x .steps + 1;
-      weight = x .weight + (x .steps + 1);
-      distance = natural (moved-distance (x .distance) (x .steps + 1) score (x .«target_score») own target);
-      «target_score» = x .«target_score» +ℤ pos (x .steps + 1) *ℤ target;
+      weight = x .weight + k;
+      distance = natural (moved-distance (x .distance) k score (x .«target_score») own target);
+      «target_score» = x .«target_score» +ℤ pos k *ℤ target;
       best = p .boat;
       least = p .score;
     }
 
-pub record Steppable (x : State) (score own target : ℤ) : Type 0 where
+pub record Steppable (x : State) (k : ℕ) (score own target : ℤ) : Type 0 where
   pub few-shares : x .weight ≤ total-limit
-  pub moves : Moves (x .distance) (x .steps + 1) score (x .«target_score») own target
+  pub moves : Moves (x .distance) k score (x .«target_score») own target

@@ -10,6 +10,8 @@ ghost use Rattle.files.specs.Book.{boats, columns};
 ghost use Rattle.files.specs.Sheet.{files-refusal};
 ghost use Rattle.files.specs.Bytes.{values};
 ghost use Rattle.method.specs.declared.Test.the-variants.{Sharper};
+ghost use Rattle.method.specs.Problem.{Schedule};
+ghost use Rattle.method.specs.Calls.{schedule-of, schedule-refusal};
 ghost use Rattle.method.specs.Plain.{plain-problem};
 ghost use Rattle.method.specs.Answers.{answer-at};
 ghost use Rattle.scoring.specs.Scores.{least-of};
@@ -101,11 +103,11 @@ impl State {
     // A run takes at most as many steps as a sheet may ask for, 360.
     pub const MOST_STEPS: u32 = files::MOST_STEPS;
 
-    // No step taken, r = 0, and the boat that the first step picks.
+    // No step taken, r = 0, and the boat that the first step picks, whatever shares are to come.
     pub fn fresh(book: &[u8], sheet: &[u8], layout: Layout) -> State
         requires { ⌜ files-refusal (now book) (now sheet) ≡ 0 ⌝ }
         requires { ⌜ layout ≡ file-layout (now book) (now sheet) ⌝ }
-        ensures { λ r. ⌜ Holds (now (book .entry)) (now (sheet .entry)) 0 r ⌝ }
+        ensures { λ r. ⌜ ((a : Schedule) → Holds a (now (book .entry)) (now (sheet .entry)) 0 r) ⌝ }
     {
         let first = least_product_of(0, book, sheet, layout);
         State {
@@ -118,18 +120,17 @@ impl State {
         }
     }
 
-    // Step k: the boat picked gets k shares more, and the residual moves by k d, where d is its row less the target. `score` is its score
+    // A step of k shares: the boat picked gets k more, and the residual moves by k d, where d is its row less the target. `score` is its score
     // under r before the step, `own` the product of d with its row, `target` that with the target; `pick` is the boat that the step after it picks.
-    pub fn next(self, score: i64, own: i32, target: i32, pick: Least) -> State
-        requires { do ⌜ self .steps < (← ⟦State::MOST_STEPS⟧) ⌝ }
-        requires { ⌜ Steppable self score own target ⌝ }
-        ensures { λ r. ⌜ r ≡ next-state self score own target pick ⌝ }
+    pub fn next(self, k: u32, score: i64, own: i32, target: i32, pick: Least) -> State
+        requires { do ⌜ (self .steps < (← ⟦State::MOST_STEPS⟧)) × (k ≤ (← ⟦State::MOST_STEPS⟧)) ⌝ }
+        requires { ⌜ Steppable self k score own target ⌝ }
+        ensures { λ r. ⌜ r ≡ next-state self k score own target pick ⌝ }
     {
-        let k = self.steps + 1;
         let target_score = self.target_score;
         let distance = distance_after(self.distance, k, score, target_score, own, target);
         State {
-            steps: k,
+            steps: self.steps + 1,
             weight: self.weight + k,
             distance,
             target_score: target_score + k as i64 * target as i64,
@@ -184,19 +185,37 @@ pub fn measured(
 }
 
 // The answer after the first step, which picks this boat. No state is made, for a run that ends here.
-pub fn first_answer(boat: usize, book: &[u8], sheet: &[u8], layout: Layout) -> Answer
+pub fn first_answer(
+    boat: usize,
+    book: &[u8],
+    sheet: &[u8],
+    lent: bool,
+    table: &[u16],
+    layout: Layout,
+) -> Answer
     requires { ⌜ files-refusal (now book) (now sheet) ≡ 0 ⌝ }
+    requires { ⌜ schedule-refusal (schedule-of lent (now table)) ≡ 0 ⌝ }
     requires { ⌜ layout ≡ file-layout (now book) (now sheet) ⌝ }
-    requires { ⌜ boat ≡ pick-at (now book) (now sheet) 0 ⌝ }
-    ensures { λ x. ⌜ x ≡ answer-at Sharper (plain-problem (now (book .entry)) (now (sheet .entry))) 1 (iterate-of (now (book .entry)) (now (sheet .entry)) 1) ⌝ }
+    requires { ⌜ boat ≡ pick-at (schedule-of lent (now table)) (now book) (now sheet) 0 ⌝ }
+    ensures { λ x. ⌜ x ≡ answer-at Sharper (plain-problem (schedule-of lent (now (table .entry))) (now (book .entry)) (now (sheet .entry))) 1 (iterate-of (schedule-of lent (now (table .entry))) (now (book .entry)) (now (sheet .entry)) 1) ⌝ }
 {
     let boats = layout.boats;
     let mut products = [0i32; 256];
     let target = products_of(boat, book, sheet, layout, &mut products);
     let own = products[boat];
     let pick = scoring::least_product(&products, boats);
-    let e = distance_after(0, 1, 0, 0, own, target);
-    answered(Test::Sharper, 1, 1, e, target as i64, pick.score, sheet)
+    let k = schedules::share(lent, table, 0);
+    let z = k as i64;
+    let e = distance_after(0, k, 0, 0, own, target);
+    answered(
+        Test::Sharper,
+        1,
+        k,
+        e,
+        z * target as i64,
+        z * pick.score,
+        sheet,
+    )
 }
 
 impl State {

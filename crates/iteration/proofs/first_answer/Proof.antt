@@ -1,9 +1,11 @@
 -- `iteration::first_answer` meets its contract.
 use native.Mathlib.Omega.{arith}
-use mir.Facts.{toZ-ofZ}
+use mir.Syntax.{w32}
+use mir.Val.{toZ, ofZ}
+use Rattle.method.proofs.Schedules.{schedule-sized}
 use Rattle.iteration.proofs.Steps.{scan-asks, least-right, product-there}
 use Rattle.iteration.proofs.States.{book-fits}
-use Rattle.iteration.proofs.First.{pick-below, first-moves, target-cast, first-answerable, first-right}
+use Rattle.iteration.proofs.First.{times-fits, times-read, pick-below, first-gives, share-most, first-moves, target-cast, least-size, first-answerable, first-right}
 use borrow.Author.Needs.{needs}
 use Rattle.iteration.proofs.first_answer.Statement.{statement}
 use Rattle.iteration.proofs.first_answer.Tie as tie
@@ -12,59 +14,121 @@ use Rattle.iteration.proofs.first_answer.Lts as lts
 use Rattle.iteration.proofs.answered.Reads as answered-reads
 use Rattle.iteration.proofs.distance_after.Reads as distance-after-reads
 use Rattle.iteration.proofs.products_of.Reads as products-of-reads
+use Rattle.schedules.proofs.share.Reads as share-reads
 use Rattle.scoring.proofs.least_product.Reads as least-product-reads
 
 slice-aggregate-products-of : tie.Need-slice-aggregate-products-of
 slice-aggregate-products-of c = search needs
 
 products-of-requires : tie.Need-products-of-requires
-products-of-requires c κs = let p = c .before .before .before .pre in (p .0, (p .1 .0, (pick-below _ _ (p .0) (p .1 .1), book-fits _ _ (p .0) .most-boats)))
+products-of-requires c κs =
+    let p = c .before .before .before .before .pre in
+    let S = schedule-sized _ (p .1 .0) in
+    let h = pick-below _ _ (p .0) S (p .1 .1 .1) in
+    (p .0, (p .1 .1 .0, (h, book-fits _ _ (p .0) .most-boats)))
 
 mul-own : tie.Need-mul-own
-mul-own c = let p = c .before .before .before .before .before .pre in record { fits = omega (arith, pick-below _ _ (p .0) (p .1 .1), book-fits _ _ (p .0) .most-boats) }
+mul-own c =
+    let p = c .before .before .before .before .before .before .pre in
+    let S = schedule-sized _ (p .1 .0) in
+    let h = pick-below _ _ (p .0) S (p .1 .1 .1) in
+    record { fits = omega (arith, h, book-fits _ _ (p .0) .most-boats) }
 
 array-copy-out-own : tie.Need-array-copy-out-own
-array-copy-out-own c = let p = c .before .before .before .before .before .pre in omega (arith, pick-below _ _ (p .0) (p .1 .1), book-fits _ _ (p .0) .most-boats)
+array-copy-out-own c =
+    let p = c .before .before .before .before .before .before .pre in
+    let S = schedule-sized _ (p .1 .0) in
+    let h = pick-below _ _ (p .0) S (p .1 .1 .1) in
+    omega (arith, h, book-fits _ _ (p .0) .most-boats)
 
 slice-aggregate-least-product : tie.Need-slice-aggregate-least-product
 slice-aggregate-least-product c = search needs
 
 least-product-requires : tie.Need-least-product-requires
-least-product-requires c κs = let p = c .before .before .before .before .before .before .before .pre in scan-asks _ _ (p .0) (p .1 .0) (pick-below _ _ (p .0) (p .1 .1)) _ (c .before .before .before .products-of .ensures .0)
+least-product-requires c κs =
+    let p = c .before .before .before .before .before .before .before .before .pre in
+    let S = schedule-sized _ (p .1 .0) in
+    let h = pick-below _ _ (p .0) S (p .1 .1 .1) in
+    scan-asks _ _ (p .0) (p .1 .1 .0) h _ (c .before .before .before .products-of .ensures .0)
+
+share-requires : tie.Need-share-requires
+share-requires c κs =
+    let p = c .before .before .before .before .before .before .before .before .before .pre in
+    let S = schedule-sized _ (p .1 .0) in
+    let h = pick-below _ _ (p .0) S (p .1 .1 .1) in
+    first-gives _ _ (p .0) S (p .1 .1 .1)
+
+cast-z : tie.Need-cast-z
+cast-z c = search needs
 
 distance-after-requires : tie.Need-distance-after-requires
 distance-after-requires c κs =
-    let p = c .before .before .before .before .before .before .before .before .pre in
-    let at-products-of = c .before .before .before .before in
-    let h = pick-below _ _ (p .0) (p .1 .1) in
-    let own = product-there _ _ (p .0) (p .1 .0) h _ (at-products-of .products-of .ensures .0) h in
-    (omega arith, first-moves _ _ (p .0) (p .1 .1) own (at-products-of .products-of .ensures .1))
+    let p = c .before .before .before .before .before .before .before .before .before .before .pre in
+    let S = schedule-sized _ (p .1 .0) in
+    let h = pick-below _ _ (p .0) S (p .1 .1 .1) in
+    let at-products-of = c .before .before .before .before .before in
+    let own = product-there _ _ (p .0) (p .1 .1 .0) h _ (at-products-of .products-of .ensures .0) h in
+    let k = c .share .ensures in
+    (share-most _ _ (p .0) S (p .1 .1 .1) k own (at-products-of .products-of .ensures .1), first-moves _ _ (p .0) S (p .1 .1 .1) k own (at-products-of .products-of .ensures .1))
 
 cast-answered : tie.Need-cast-answered
 cast-answered c =
-    let p = c .before .before .before .before .before .before .before .before .before .pre in
-    let at-products-of = c .before .before .before .before .before in
-    let h = pick-below _ _ (p .0) (p .1 .1) in
-    let own = product-there _ _ (p .0) (p .1 .0) h _ (at-products-of .products-of .ensures .0) h in
-    target-cast _ _ (p .0) (p .1 .1) own (at-products-of .products-of .ensures .1)
+    let p = c .before .before .before .before .before .before .before .before .before .before .before .pre in
+    let S = schedule-sized _ (p .1 .0) in
+    let h = pick-below _ _ (p .0) S (p .1 .1 .1) in
+    let at-products-of = c .before .before .before .before .before .before in
+    let own = product-there _ _ (p .0) (p .1 .1 .0) h _ (at-products-of .products-of .ensures .0) h in
+    let k = c .before .share .ensures in
+    target-cast _ _ (p .0) S (p .1 .1 .1) k own (at-products-of .products-of .ensures .1)
+
+mul-answered : tie.Need-mul-answered
+mul-answered c =
+    let p = c .before .before .before .before .before .before .before .before .before .before .before .pre in
+    let S = schedule-sized _ (p .1 .0) in
+    let h = pick-below _ _ (p .0) S (p .1 .1 .1) in
+    let at-products-of = c .before .before .before .before .before .before in
+    let own = product-there _ _ (p .0) (p .1 .1 .0) h _ (at-products-of .products-of .ensures .0) h in
+    let k = c .before .share .ensures in
+    times-fits (share-most _ _ (p .0) S (p .1 .1 .1) k own (at-products-of .products-of .ensures .1)) (toZ w32 (ofZ w32 (at-products-of .products-of .result))) (first-moves _ _ (p .0) S (p .1 .1 .1) k own (at-products-of .products-of .ensures .1) .target-size)
+
+mul-answered-2 : tie.Need-mul-answered-2
+mul-answered-2 c =
+    let p = c .before .before .before .before .before .before .before .before .before .before .before .before .before .pre in
+    let S = schedule-sized _ (p .1 .0) in
+    let h = pick-below _ _ (p .0) S (p .1 .1 .1) in
+    let at-products-of = c .before .before .before .before .before .before .before .before in
+    let own = product-there _ _ (p .0) (p .1 .1 .0) h _ (at-products-of .products-of .ensures .0) h in
+    let pick = least-right _ _ (p .0) (p .1 .1 .0) h _ (at-products-of .products-of .ensures .0) (c .before .before .before .before .least-product .ensures) in
+    let k = c .before .before .before .share .ensures in
+    times-fits (share-most _ _ (p .0) S (p .1 .1 .1) k own (at-products-of .products-of .ensures .1)) (c .before .before .before .before .least-product .result .score) (least-size _ _ (p .0) S (p .1 .1 .1) k own (at-products-of .products-of .ensures .1) pick)
 
 answered-requires : tie.Need-answered-requires
 answered-requires c κs =
-    let p = c .before .before .before .before .before .before .before .before .before .before .pre in
-    let at-products-of = c .before .before .before .before .before .before in
-    let h = pick-below _ _ (p .0) (p .1 .1) in
-    let own = product-there _ _ (p .0) (p .1 .0) h _ (at-products-of .products-of .ensures .0) h in
-    let pick = least-right _ _ (p .0) (p .1 .0) h _ (at-products-of .products-of .ensures .0) (c .before .before .least-product .ensures) in
-    first-answerable _ _ (p .0) (p .1 .1) own (at-products-of .products-of .ensures .1) (c .before .distance-after .ensures) (toZ-ofZ (cast-answered (c .before))) pick (toZ-ofZ (search (needs, c .struct-told .given)))
+    let p = c .before .before .before .before .before .before .before .before .before .before .before .before .before .pre in
+    let S = schedule-sized _ (p .1 .0) in
+    let h = pick-below _ _ (p .0) S (p .1 .1 .1) in
+    let at-products-of = c .before .before .before .before .before .before .before .before in
+    let own = product-there _ _ (p .0) (p .1 .1 .0) h _ (at-products-of .products-of .ensures .0) h in
+    let pick = least-right _ _ (p .0) (p .1 .1 .0) h _ (at-products-of .products-of .ensures .0) (c .before .before .before .before .least-product .ensures) in
+    let k = c .before .before .before .share .ensures in
+    let few = share-most _ _ (p .0) S (p .1 .1 .1) k own (at-products-of .products-of .ensures .1) in
+    let target = times-read few (toZ w32 (ofZ w32 (at-products-of .products-of .result))) (first-moves _ _ (p .0) S (p .1 .1 .1) k own (at-products-of .products-of .ensures .1) .target-size) in
+    let score = times-read few (c .before .before .before .before .least-product .result .score) (least-size _ _ (p .0) S (p .1 .1 .1) k own (at-products-of .products-of .ensures .1) pick) in
+    first-answerable _ _ (p .0) S (p .1 .1 .1) k own (at-products-of .products-of .ensures .1) (c .before .before .distance-after .ensures) target pick score
 
 returns : tie.Need-returns
 returns c =
-    let p = c .before .before .before .before .before .before .before .before .before .before .before .pre in
-    let at-products-of = c .before .before .before .before .before .before .before in
-    let h = pick-below _ _ (p .0) (p .1 .1) in
-    let own = product-there _ _ (p .0) (p .1 .0) h _ (at-products-of .products-of .ensures .0) h in
-    let pick = least-right _ _ (p .0) (p .1 .0) h _ (at-products-of .products-of .ensures .0) (c .before .before .before .least-product .ensures) in
-    first-right _ _ (p .0) (p .1 .1) own (at-products-of .products-of .ensures .1) (c .before .before .distance-after .ensures) (toZ-ofZ (cast-answered (c .before .before))) pick (toZ-ofZ (search (needs, c .before .struct-told .given))) (c .answered .ensures)
+    let p = c .before .before .before .before .before .before .before .before .before .before .before .before .before .before .pre in
+    let S = schedule-sized _ (p .1 .0) in
+    let h = pick-below _ _ (p .0) S (p .1 .1 .1) in
+    let at-products-of = c .before .before .before .before .before .before .before .before .before in
+    let own = product-there _ _ (p .0) (p .1 .1 .0) h _ (at-products-of .products-of .ensures .0) h in
+    let pick = least-right _ _ (p .0) (p .1 .1 .0) h _ (at-products-of .products-of .ensures .0) (c .before .before .before .before .before .least-product .ensures) in
+    let k = c .before .before .before .before .share .ensures in
+    let few = share-most _ _ (p .0) S (p .1 .1 .1) k own (at-products-of .products-of .ensures .1) in
+    let target = times-read few (toZ w32 (ofZ w32 (at-products-of .products-of .result))) (first-moves _ _ (p .0) S (p .1 .1 .1) k own (at-products-of .products-of .ensures .1) .target-size) in
+    let score = times-read few (c .before .before .before .before .before .least-product .result .score) (least-size _ _ (p .0) S (p .1 .1 .1) k own (at-products-of .products-of .ensures .1) pick) in
+    first-right _ _ (p .0) S (p .1 .1 .1) k own (at-products-of .products-of .ensures .1) (c .before .before .before .distance-after .ensures) target pick score (c .answered .ensures)
 
 pub first-answer-spec : {M : Type 1} → statement M
 first-answer-spec =
@@ -76,7 +140,11 @@ first-answer-spec =
     array-copy-out-own
     slice-aggregate-least-product
     least-product-requires
+    share-requires
+    cast-z
     distance-after-requires
     cast-answered
+    mul-answered
+    mul-answered-2
     answered-requires
     returns)
