@@ -48,6 +48,7 @@ pub record Schedule-sized (a : Schedule) : Type 0 where
   -- a run that may take steps may take one
   pub some-steps : (n : ℕ) → 1 ≤ n → 1 ≤ allowed-steps a n
   pub most-steps : (n : ℕ) → allowed-steps a n ≤ n
+  pub more-steps : {n m : ℕ} → n ≤ m → allowed-steps a n ≤ allowed-steps a m
   -- each step that may be taken gives a share
   pub gives : (n k : ℕ) → k < allowed-steps a n → 1 ≤ share a k
   -- sizes
@@ -61,6 +62,7 @@ fixed-sized =
       fits = fixed-fits;
       some-steps = λ n h. h;
       most-steps = λ n. omega arith;
+      more-steps = λ h. h;
       gives = λ n k h. omega arith;
       most-total = λ t h. weight-most h;
       most-share = λ k h. h;
@@ -84,6 +86,7 @@ table-sized table e =
       fits = f;
       some-steps = λ k h. omega (arith, n .0);
       most-steps = λ k. omega arith;
+      more-steps = λ h. omega arith;
       gives = λ m k h. entry-some 0 table (p2 .0) k (omega arith);
       most-total = λ t h. total t;
       most-share = λ k h. entry-most f total k;

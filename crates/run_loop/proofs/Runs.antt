@@ -9,12 +9,14 @@ use borrow.Author.Tests.{ltb-true, ltb-false}
 use lib.Dec.{ltb}
 use Rattle.files.specs.Sheet.{sheet, files-refusal}
 use Rattle.files.specs.Limits.{step-limit}
+use Rattle.method.specs.Problem.{Schedule, allowed-steps}
 use Rattle.method.specs.Plain.{plain-problem}
 use Rattle.method.specs.Iterates.{iterate}
 use Rattle.method.specs.declared.Test.the-variants.{Sharper}
 use Rattle.method.specs.Answers.{answer-at, stops, run-answer, run-iterate}
 use Rattle.method.specs.declared.Answer.{Answer}
 use Rattle.method.specs.declared.Verdict.{Verdict}
+use Rattle.method.proofs.Schedules.{Schedule-sized}
 use Rattle.method.proofs.Running.{Running, running-start, running-more, running-done, finished-answer, finished-iterate, stops-last}
 use Rattle.iteration.specs.declared.State.{State}
 use Rattle.iteration.specs.States.{iterate-of, Holds}
@@ -37,63 +39,63 @@ not-last n t v h e = go (ltb t n) refl
         true-false : true ≡ false → ⊥
         true-false w = let z : _≡_ {A = ℕ} 0 1 = cc in omega arith
 
-module _ (b s : List ℕ) (ok : files-refusal b s ≡ 0) where
-  pub going-start : {x : State} → Holds b s 0 x → Going b s x
+module _ (b s : List ℕ) (ok : files-refusal b s ≡ 0) {a : Schedule} (S : Schedule-sized a) where
+  pub going-start : {x : State} → Holds a b s 0 x → Going a b s x
   unfolding plain-problem iterate
   going-start {x} H =
       rw-steps (H .steps-are)
     where
-      rw-steps : x .steps ≡ 0 → Going b s x
+      rw-steps : x .steps ≡ 0 → Going a b s x
       rw-steps e =
           record {
-            held = subst (λ n. Holds b s n x) (sym e) H;
-            left = omega (arith, sheet-fits b s ok .some-steps);
-            undecided = rw e (running-start (plain-problem b s) .decides);
+            held = subst (λ n. Holds a b s n x) (sym e) H;
+            left = omega (arith, S .some-steps (sheet s .steps) (sheet-fits b s ok .some-steps));
+            undecided = rw e (running-start (plain-problem a b s) .decides);
           }
 
   -- a run that its first step stops
-  pub first-done : {a : Answer} → a ≡ answer-at Sharper (plain-problem b s) 1 (iterate-of b s 1) → {k : ℕ} → k ≡ sheet s .steps → {d : Bool} → d ≡ stops k 1 (a .verdict) → d ≡ true →
-      (a ≡ run-answer (plain-problem b s)) × (iterate-of b s 1 .shares ≡ run-iterate (plain-problem b s) .shares)
+  pub first-done : {z : Answer} → z ≡ answer-at Sharper (plain-problem a b s) 1 (iterate-of a b s 1) → {k : ℕ} → k ≡ allowed-steps a (sheet s .steps) → {d : Bool} → d ≡ stops k 1 (z .verdict) → d ≡ true →
+      (z ≡ run-answer (plain-problem a b s)) × (iterate-of a b s 1 .shares ≡ run-iterate (plain-problem a b s) .shares)
   unfolding plain-problem iterate
   first-done ea ek ed f =
-      let v : stops (sheet s .steps) 1 (answer-at Sharper (plain-problem b s) 1 (iterate-of b s 1) .verdict) ≡ true = rw (ek, ea) at (sym ed ∙ f) in
-      let d = running-done (running-start (plain-problem b s)) (omega (arith, sheet-fits b s ok .some-steps)) v in
-      (ea ∙ finished-answer d, ap (λ z. z .shares) (finished-iterate d))
+      let v : stops (allowed-steps a (sheet s .steps)) 1 (answer-at Sharper (plain-problem a b s) 1 (iterate-of a b s 1) .verdict) ≡ true = rw (ek, ea) at (sym ed ∙ f) in
+      let d = running-done (running-start (plain-problem a b s)) (omega (arith, S .some-steps (sheet s .steps) (sheet-fits b s ok .some-steps))) v in
+      (ea ∙ finished-answer d, ap (λ w. w .shares) (finished-iterate d))
 
-  module _ {x : State} (g : Going b s x) {y : State} (H : Holds b s (x .steps + 1) y) where
-    running : Running (plain-problem b s) (x .steps) (iterate-of b s (x .steps))
+  module _ {x : State} (g : Going a b s x) {y : State} (H : Holds a b s (x .steps + 1) y) where
+    running : Running (plain-problem a b s) (x .steps) (iterate-of a b s (x .steps))
     unfolding plain-problem
     running = record { within = omega (arith, g .left); iterated = refl; decides = g .undecided }
 
-    next-held : Holds b s (suc (x .steps)) y
+    next-held : Holds a b s (suc (x .steps)) y
     next-held = rw add-one at H
 
     next-few : suc (x .steps) ≤ step-limit
-    next-few = omega (arith, g .left, sheet-fits b s ok .most-steps)
+    next-few = omega (arith, g .left, S .most-steps (sheet s .steps), sheet-fits b s ok .most-steps)
 
     pub next-answerable : Answerable (y .distance) (y .weight) (y .«target_score») (y .least) s
-    next-answerable = answerable b s ok next-held next-few
+    next-answerable = answerable b s ok S next-held next-few
 
-    module _ {a : Answer} (ea : a ≡ answer-by Sharper (y .steps) (y .weight) (sheet s .tolerance) (y .distance) (y .«target_score») (y .least))
-        {k : ℕ} (ek : k ≡ sheet s .steps) {d : Bool} (ed : d ≡ stops k (y .steps) (a .verdict)) where
-      answer-is : a ≡ answer-at Sharper (plain-problem b s) (suc (x .steps)) (iterate-of b s (suc (x .steps)))
-      answer-is = ea ∙ answer-right b s ok next-held next-few
+    module _ {z : Answer} (ea : z ≡ answer-by Sharper (y .steps) (y .weight) (sheet s .tolerance) (y .distance) (y .«target_score») (y .least))
+        {k : ℕ} (ek : k ≡ allowed-steps a (sheet s .steps)) {d : Bool} (ed : d ≡ stops k (y .steps) (z .verdict)) where
+      answer-is : z ≡ answer-at Sharper (plain-problem a b s) (suc (x .steps)) (iterate-of a b s (suc (x .steps)))
+      answer-is = ea ∙ answer-right b s ok S next-held next-few
 
-      stopped-is : d ≡ stops (sheet s .steps) (suc (x .steps)) (answer-at Sharper (plain-problem b s) (suc (x .steps)) (iterate-of b s (suc (x .steps))) .verdict)
+      stopped-is : d ≡ stops (allowed-steps a (sheet s .steps)) (suc (x .steps)) (answer-at Sharper (plain-problem a b s) (suc (x .steps)) (iterate-of a b s (suc (x .steps))) .verdict)
       stopped-is = ed ∙ rw (ek, next-held .steps-are, answer-is)
 
-      pub going-more : d ≡ false → Going b s y
+      pub going-more : d ≡ false → Going a b s y
       unfolding plain-problem iterate
       going-more f =
           let p : y .steps ≡ suc (x .steps) = next-held .steps-are in
           record {
-            held = subst (λ n. Holds b s n y) (sym p) next-held;
-            left = rw p (not-last (sheet s .steps) (suc (x .steps)) _ (g .left) (sym stopped-is ∙ f));
+            held = subst (λ n. Holds a b s n y) (sym p) next-held;
+            left = rw p (not-last (allowed-steps a (sheet s .steps)) (suc (x .steps)) _ (g .left) (sym stopped-is ∙ f));
             undecided = rw p (running-more running (g .left) (sym stopped-is ∙ f) .decides);
           }
 
-      pub going-done : d ≡ true → (a ≡ run-answer (plain-problem b s)) × ((iterate-of b s (y .steps) .shares ≡ run-iterate (plain-problem b s) .shares) × (y .steps ≡ run-answer (plain-problem b s) .steps))
+      pub going-done : d ≡ true → (z ≡ run-answer (plain-problem a b s)) × ((iterate-of a b s (y .steps) .shares ≡ run-iterate (plain-problem a b s) .shares) × (y .steps ≡ run-answer (plain-problem a b s) .steps))
       unfolding plain-problem iterate answer-at
       going-done f =
           let d = running-done running (g .left) (sym stopped-is ∙ f) in
-          (answer-is ∙ finished-answer d, (rw (next-held .steps-are) (ap (λ z. z .shares) (finished-iterate d)), next-held .steps-are ∙ ap (λ (z : Answer). z .steps) (finished-answer d)))
+          (answer-is ∙ finished-answer d, (rw (next-held .steps-are) (ap (λ w. w .shares) (finished-iterate d)), next-held .steps-are ∙ ap (λ (w : Answer). w .steps) (finished-answer d)))

@@ -10,6 +10,7 @@ use lib.IntN.{ℤ, pos}
 use Rattle.files.specs.Book.{boats, columns, rows}
 use Rattle.files.specs.Sheet.{sheet}
 use Rattle.frank_wolfe.specs.Vectors.{ones}
+use Rattle.method.specs.Problem.{Schedule, allowed-steps}
 use Rattle.method.specs.Plain.{plain-problem}
 use Rattle.method.specs.Iterates.{scores, residual}
 use Rattle.method.specs.Answers.{steps-from, steps-used}
@@ -17,20 +18,20 @@ use Rattle.iteration.specs.declared.State.{State}
 use Rattle.iteration.specs.States.{iterate-of, pick-at, boat-products, target-product, Holds}
 
 -- the state holds an iterate that did not stop the run, and steps are left
-pub record Going (b s : List ℕ) (x : State) : Type 0 where
-  pub held : Holds b s (x .steps) x
-  pub left : x .steps < sheet s .steps
-  pub undecided : steps-from (sheet s .steps - x .steps) (x .steps) (plain-problem b s) (iterate-of b s (x .steps)) ≡ steps-used (plain-problem b s)
+pub record Going (a : Schedule) (b s : List ℕ) (x : State) : Type 0 where
+  pub held : Holds a b s (x .steps) x
+  pub left : x .steps < allowed-steps a (sheet s .steps)
+  pub undecided : steps-from (allowed-steps a (sheet s .steps) - x .steps) (x .steps) (plain-problem a b s) (iterate-of a b s (x .steps)) ≡ steps-used (plain-problem a b s)
 
 -- the first slots are the shares of the iterate after t steps, one a boat
-pub record Shares-at (b s : List ℕ) (t : ℕ) (qs : List ℕ) : Type 0 where
+pub record Shares-at (a : Schedule) (b s : List ℕ) (t : ℕ) (qs : List ℕ) : Type 0 where
   pub room : boats b ≤ length qs
-  pub are : take (boats b) qs ≡ iterate-of b s t .shares
+  pub are : take (boats b) qs ≡ iterate-of a b s t .shares
 
 -- the first slots are the scores under the residual after t steps, one a boat
-pub record Scores-at (b s : List ℕ) (t : ℕ) (ps : List ℤ) : Type 0 where
+pub record Scores-at (a : Schedule) (b s : List ℕ) (t : ℕ) (ps : List ℤ) : Type 0 where
   pub room : boats b ≤ length ps
-  pub are : take (boats b) ps ≡ scores (ones (columns b)) (residual (plain-problem b s) t (iterate-of b s t)) (rows b)
+  pub are : take (boats b) ps ≡ scores (ones (columns b)) (residual (plain-problem a b s) t (iterate-of a b s t)) (rows b)
 
 -- the first slots are the products of a boat's row less the target with every row
 pub record Products (b s : List ℕ) (boat : ℕ) (ps : List ℤ) : Type 0 where
@@ -68,9 +69,9 @@ remembering b s i m =
     m
 
 -- after t steps of a run that starts with these numbers and no boat in a slot
-unfoldable pub memory-after : (b s : List ℕ) → (t : ℕ) → (products : List ℤ) → Memory
-memory-after b s zero ps = memory-of (replicate 257 0) (replicate 64 (pos 0)) ps
-memory-after b s (suc t) ps = remembering b s (pick-at b s t) (memory-after b s t ps)
+unfoldable pub memory-after : Schedule → (b s : List ℕ) → (t : ℕ) → (products : List ℤ) → Memory
+memory-after a b s zero ps = memory-of (replicate 257 0) (replicate 64 (pos 0)) ps
+memory-after a b s (suc t) ps = remembering b s (pick-at a b s t) (memory-after a b s t ps)
 
 -- where a boat has a slot, its products are there; the slots taken are the first ones, and the last is not
 pub record Remembered (b s : List ℕ) (m : Memory) : Type 0 where

@@ -5,10 +5,13 @@ ghost use mathlib.Core.Path.{_≡_};
 ghost use mathlib.Core.List.{_++_};
 ghost use Prim.Native.Nat.{_+_, _*_, _≤_, _<_};
 ghost use lib.ListN.{length, getD, set, drop};
+ghost use Rattle.method.specs.Problem.{allowed-steps};
+ghost use Rattle.method.specs.Calls.{schedule-of, schedule-refusal};
 ghost use Rattle.method.specs.Plain.{plain-problem};
 ghost use Rattle.method.specs.Answers.{run-answer, run-iterate};
 ghost use Rattle.files.specs.Book.{boats};
 ghost use Rattle.files.specs.Sheet.{files-refusal};
+ghost use Rattle.files.specs.Sheet as Sheets;
 ghost use Rattle.iteration.specs.States.{file-layout, iterate-of, scores-of, Holds};
 ghost use Rattle.run_loop.specs.Runs.{Shares-at, Scores-at, Remembered, memory-of, slot-of, remembering, memory-after};
 use iteration::Layout;
@@ -63,6 +66,8 @@ pub fn step(
     state: State,
     book: &[u8],
     sheet: &[u8],
+    lent: bool,
+    table: &[u16],
     layout: Layout,
     shares: &mut [u16],
     scores: &mut [i64],
@@ -71,19 +76,20 @@ pub fn step(
     memory: &mut [i32],
 ) -> State
     requires { ⌜ files-refusal (now book) (now sheet) ≡ 0 ⌝ }
+    requires { ⌜ schedule-refusal (schedule-of lent (now table)) ≡ 0 ⌝ }
     requires { ⌜ layout ≡ file-layout (now book) (now sheet) ⌝ }
-    requires { ⌜ Holds (now book) (now sheet) (state .steps) state ⌝ }
-    requires { do ⌜ state .steps < (← ⟦State::MOST_STEPS⟧) ⌝ }
-    requires { ⌜ Shares-at (now book) (now sheet) (state .steps) (now shares) ⌝ }
-    requires { ⌜ Scores-at (now book) (now sheet) (state .steps) (now scores) ⌝ }
+    requires { ⌜ Holds (schedule-of lent (now table)) (now book) (now sheet) (state .steps) state ⌝ }
+    requires { do ⌜ state .steps < allowed-steps (schedule-of lent (now table)) (← ⟦State::MOST_STEPS⟧) ⌝ }
+    requires { ⌜ Shares-at (schedule-of lent (now table)) (now book) (now sheet) (state .steps) (now shares) ⌝ }
+    requires { ⌜ Scores-at (schedule-of lent (now table)) (now book) (now sheet) (state .steps) (now scores) ⌝ }
     requires { ⌜ Remembered (now book) (now sheet) (memory-of (now tags) (now targets) (now memory)) ⌝ }
-    ensures { λ r. ⌜ Holds (now (book .entry)) (now (sheet .entry)) (state .steps + 1) r ⌝ }
-    ensures { λ _. ⌜ now (shares .exit) ≡ iterate-of (now (book .entry)) (now (sheet .entry)) (state .steps + 1) .shares ++ drop (boats (now (book .entry))) (now (shares .entry)) ⌝ }
-    ensures { λ _. ⌜ now (scores .exit) ≡ scores-of (now (book .entry)) (now (sheet .entry)) (state .steps + 1) ++ drop (boats (now (book .entry))) (now (scores .entry)) ⌝ }
+    ensures { λ r. ⌜ Holds (schedule-of lent (now (table .entry))) (now (book .entry)) (now (sheet .entry)) (state .steps + 1) r ⌝ }
+    ensures { λ _. ⌜ now (shares .exit) ≡ iterate-of (schedule-of lent (now (table .entry))) (now (book .entry)) (now (sheet .entry)) (state .steps + 1) .shares ++ drop (boats (now (book .entry))) (now (shares .entry)) ⌝ }
+    ensures { λ _. ⌜ now (scores .exit) ≡ scores-of (schedule-of lent (now (table .entry))) (now (book .entry)) (now (sheet .entry)) (state .steps + 1) ++ drop (boats (now (book .entry))) (now (scores .entry)) ⌝ }
     ensures { λ _. ⌜ memory-of (now (tags .exit)) (now (targets .exit)) (now (memory .exit)) ≡ remembering (now (book .entry)) (now (sheet .entry)) (state .best) (memory-of (now (tags .entry)) (now (targets .entry)) (now (memory .entry))) ⌝ }
 {
     let best = state.best;
-    let k = state.steps + 1;
+    let k = schedules::share(lent, table, state.steps);
     let boats = layout.boats;
     let slot = remember(best, book, sheet, layout, tags, targets, memory);
     let at = slot * boats;
@@ -93,32 +99,36 @@ pub fn step(
     add_shares(shares, best, k);
     let least = scoring::rescored(scores, k, &memory[at..], boats);
     let pick = scoring::picked(least, scores, shares, boats);
-    state.next(score, own, target, pick)
+    state.next(k, score, own, target, pick)
 }
 
-// A run from its fresh state, with the shares and scores of no step in the first slots; the memory has room for 64 boats' products.
+// A run of so many steps from its fresh state, with the shares and scores of no step in the first slots; the memory has room for 64 boats' products.
 // It leaves the shares of its last step, the scores after it, and the products of the boats that it picked.
 pub fn run_from(
     start: State,
+    steps: u32,
     book: &[u8],
     sheet: &[u8],
+    lent: bool,
+    table: &[u16],
     layout: Layout,
     shares: &mut [u16],
     scores: &mut [i64],
     memory: &mut [i32],
 ) -> Answer
     requires { ⌜ files-refusal (now book) (now sheet) ≡ 0 ⌝ }
+    requires { ⌜ schedule-refusal (schedule-of lent (now table)) ≡ 0 ⌝ }
     requires { ⌜ layout ≡ file-layout (now book) (now sheet) ⌝ }
-    requires { ⌜ Holds (now book) (now sheet) 0 start ⌝ }
-    requires { ⌜ Shares-at (now book) (now sheet) 0 (now shares) ⌝ }
-    requires { ⌜ Scores-at (now book) (now sheet) 0 (now scores) ⌝ }
+    requires { ⌜ steps ≡ allowed-steps (schedule-of lent (now table)) (Sheets.sheet (now sheet) .steps) ⌝ }
+    requires { ⌜ Holds (schedule-of lent (now table)) (now book) (now sheet) 0 start ⌝ }
+    requires { ⌜ Shares-at (schedule-of lent (now table)) (now book) (now sheet) 0 (now shares) ⌝ }
+    requires { ⌜ Scores-at (schedule-of lent (now table)) (now book) (now sheet) 0 (now scores) ⌝ }
     requires { ⌜ 64 * boats (now book) ≤ length (now memory) ⌝ }
-    ensures { λ r. ⌜ r ≡ run-answer (plain-problem (now (book .entry)) (now (sheet .entry))) ⌝ }
-    ensures { λ _. ⌜ now (shares .exit) ≡ run-iterate (plain-problem (now (book .entry)) (now (sheet .entry))) .shares ++ drop (boats (now (book .entry))) (now (shares .entry)) ⌝ }
-    ensures { λ _. ⌜ now (scores .exit) ≡ scores-of (now (book .entry)) (now (sheet .entry)) (run-answer (plain-problem (now (book .entry)) (now (sheet .entry))) .steps) ++ drop (boats (now (book .entry))) (now (scores .entry)) ⌝ }
-    ensures { λ _. ⌜ now (memory .exit) ≡ memory-after (now (book .entry)) (now (sheet .entry)) (run-answer (plain-problem (now (book .entry)) (now (sheet .entry))) .steps) (now (memory .entry)) .products ⌝ }
+    ensures { λ r. ⌜ r ≡ run-answer (plain-problem (schedule-of lent (now (table .entry))) (now (book .entry)) (now (sheet .entry))) ⌝ }
+    ensures { λ _. ⌜ now (shares .exit) ≡ run-iterate (plain-problem (schedule-of lent (now (table .entry))) (now (book .entry)) (now (sheet .entry))) .shares ++ drop (boats (now (book .entry))) (now (shares .entry)) ⌝ }
+    ensures { λ _. ⌜ now (scores .exit) ≡ scores-of (schedule-of lent (now (table .entry))) (now (book .entry)) (now (sheet .entry)) (run-answer (plain-problem (schedule-of lent (now (table .entry))) (now (book .entry)) (now (sheet .entry))) .steps) ++ drop (boats (now (book .entry))) (now (scores .entry)) ⌝ }
+    ensures { λ _. ⌜ now (memory .exit) ≡ memory-after (schedule-of lent (now (table .entry))) (now (book .entry)) (now (sheet .entry)) (run-answer (plain-problem (schedule-of lent (now (table .entry))) (now (book .entry)) (now (sheet .entry))) .steps) (now (memory .entry)) .products ⌝ }
 {
-    let steps = files::steps(sheet);
     let mut tags = [0u8; 257];
     let mut targets = [0i32; 64];
     let mut state = start;
@@ -127,6 +137,8 @@ pub fn run_from(
             state,
             book,
             sheet,
+            lent,
+            table,
             layout,
             shares,
             scores,

@@ -3,35 +3,31 @@ use mathlib.Core.Path.{sym}
 use Prim.Native.Nat.{_-_}
 use native.Mathlib.Omega.{arith}
 use borrow.Author.Needs.{needs}
-use Rattle.iteration.proofs.States.{sheet-fits}
+use Rattle.method.specs.Calls.{schedule-of}
+use Rattle.method.proofs.Schedules.{schedule-sized}
 use Rattle.run_loop.specs.Runs.{memory-of}
 use Rattle.run_loop.proofs.Runs.{next-answerable, going-more, going-done}
-use Rattle.run_loop.proofs.Keeping.{Kept, kept-start, few-here, kept-more, kept-done}
+use Rattle.run_loop.proofs.Keeping.{Kept, kept-start, left-here, kept-more, kept-done}
 use Rattle.run_loop.proofs.run_from.Statement.{statement}
 use Rattle.run_loop.proofs.run_from.Tie as tie
 use Rattle.run_loop.proofs.run_from.Reads as reads
 use Rattle.run_loop.proofs.run_from.Lts as lts
-use Rattle.files.proofs.steps.Reads as steps-reads
 use Rattle.iteration.proofs.State.answer.Reads as answer-reads
 use Rattle.run_loop.proofs.step.Reads as step-reads
 use Rattle.verdicts.proofs.stops.Reads as stops-reads
 
 abbrev Inv-loop : tie.InvT-loop
-Inv-loop book sheet layout shares₀ scores₀ memory₀ steps tags₀ targets₀ state₀ shares scores memory tags targets state =
-    Kept book sheet state shares₀ shares scores₀ scores memory₀ (memory-of tags targets memory)
+Inv-loop steps book sheet lent table layout shares₀ scores₀ memory₀ tags₀ targets₀ state₀ shares scores memory tags targets state =
+    Kept (schedule-of lent table) book sheet state shares₀ shares scores₀ scores memory₀ (memory-of tags targets memory)
 
 abbrev μ-loop : tie.MeasureT-loop
-μ-loop book sheet layout shares₀ scores₀ memory₀ steps tags₀ targets₀ state₀ shares scores memory tags targets state =
+μ-loop steps book sheet lent table layout shares₀ scores₀ memory₀ tags₀ targets₀ state₀ shares scores memory tags targets state =
     steps - state .steps
-
-steps-requires : tie.Need-steps-requires Inv-loop μ-loop
-steps-requires c κs =
-    sheet-fits _ _ (c .before .before .before .pre .0) .at-least
 
 loop-holds : tie.Need-loop-holds Inv-loop μ-loop
 loop-holds c =
     let p = c .before .before .before .before .pre in
-    kept-start _ _ (p .0) (p .1 .1 .0) (p .1 .1 .1 .0) (p .1 .1 .1 .1 .0) (p .1 .1 .1 .1 .1)
+    kept-start _ _ (p .0) (schedule-sized _ (p .1 .0)) (p .1 .1 .1 .1 .0) (p .1 .1 .1 .1 .1 .0) (p .1 .1 .1 .1 .1 .1 .0) (p .1 .1 .1 .1 .1 .1 .1)
 
 slice-aggregate-step : tie.Need-slice-aggregate-step Inv-loop μ-loop
 slice-aggregate-step c =
@@ -44,15 +40,16 @@ slice-aggregate-step-2 c =
 step-requires : tie.Need-step-requires Inv-loop μ-loop
 step-requires c κs =
     let at-loop = c .before .before .before .before .before in
-    let ok = at-loop .before .before .before .before .before .pre .0 in
+    let p = at-loop .before .before .before .before .before .pre in
     let k = at-loop .loop .inv in
-    (ok, (at-loop .before .before .before .before .before .pre .1 .0, (k .going .held, (few-here _ _ ok k, (k .shared, (k .scored, k .remembers))))))
+    (p .0, (p .1 .0, (p .1 .1 .0, (k .going .held, (left-here _ _ (p .0) (schedule-sized _ (p .1 .0)) k, (k .shared, (k .scored, k .remembers)))))))
 
 answer-requires : tie.Need-answer-requires Inv-loop μ-loop
 answer-requires c κs =
     let at-loop = c .before .before .before .before .before .before .before .before .before .before .before .before in
-    let ok = at-loop .before .before .before .before .before .pre .0 in
-    next-answerable _ _ ok (at-loop .loop .inv .going) (c .before .before .before .before .before .before .step .ensures .0)
+    let p = at-loop .before .before .before .before .before .pre in
+    let S = schedule-sized _ (p .1 .0) in
+    next-answerable _ _ (p .0) S (at-loop .loop .inv .going) (c .before .before .before .before .before .before .step .ensures .0)
 
 same-length : tie.Need-same-length Inv-loop μ-loop
 same-length c =
@@ -73,26 +70,28 @@ returns : tie.Need-returns Inv-loop μ-loop
 returns c =
     let at-step = c .before .before .before .before .before .before .before .before .before in
     let at-loop = at-step .before .before .before .before .before .before in
-    let ok = at-loop .before .before .before .before .before .pre .0 in
+    let p = at-loop .before .before .before .before .before .pre in
+    let S = schedule-sized _ (p .1 .0) in
     let k = at-loop .loop .inv in
     let h = at-step .step .ensures in
-    let d = going-done _ _ ok (k .going) (h .0) (c .before .before .answer .ensures) (at-loop .before .steps .ensures) (c .before .stops .ensures) (c .if1 .taken) in
-    (d .0, kept-done _ _ ok k (h .0) (h .1 .0) (h .1 .1 .0) (h .1 .1 .1) (d .1 .0) (d .1 .1))
+    let d = going-done _ _ (p .0) S (k .going) (h .0) (c .before .before .answer .ensures) (p .1 .1 .1 .0) (c .before .stops .ensures) (c .if1 .taken) in
+    (d .0, kept-done _ _ (p .0) S k (h .0) (h .1 .0) (h .1 .1 .0) (h .1 .1 .1) (d .1 .0) (d .1 .1))
 
 loop-less : tie.Need-loop-less Inv-loop μ-loop
 loop-less c =
     let at-step = c .before .before .before .before .before .before .before .before .before in
     let at-loop = at-step .before .before .before .before .before .before in
-    omega (arith, at-step .step .ensures .0 .steps-are, at-loop .loop .inv .going .left, at-loop .before .steps .ensures)
+    omega (arith, at-step .step .ensures .0 .steps-are, at-loop .loop .inv .going .left, at-loop .before .before .before .before .before .pre .1 .1 .1 .0)
 
 loop-again : tie.Need-loop-again Inv-loop μ-loop
 loop-again c =
     let at-step = c .before .before .before .before .before .before .before .before .before in
     let at-loop = at-step .before .before .before .before .before .before in
-    let ok = at-loop .before .before .before .before .before .pre .0 in
+    let p = at-loop .before .before .before .before .before .pre in
+    let S = schedule-sized _ (p .1 .0) in
     let k = at-loop .loop .inv in
     let h = at-step .step .ensures in
-    kept-more _ _ ok k (h .0) (h .1 .0) (h .1 .1 .0) (h .1 .1 .1) (going-more _ _ ok (k .going) (h .0) (c .before .before .answer .ensures) (at-loop .before .steps .ensures) (c .before .stops .ensures) (c .if1 .left))
+    kept-more _ _ (p .0) S k (h .0) (h .1 .0) (h .1 .1 .0) (h .1 .1 .1) (going-more _ _ (p .0) S (k .going) (h .0) (c .before .before .answer .ensures) (p .1 .1 .1 .0) (c .before .stops .ensures) (c .if1 .left))
 
 pub run-from-spec : {M : Type 1} → statement M
 run-from-spec =
@@ -100,7 +99,6 @@ run-from-spec =
     (tie.spec
     Inv-loop
     μ-loop
-    steps-requires
     loop-holds
     slice-aggregate-step
     slice-aggregate-step-2
