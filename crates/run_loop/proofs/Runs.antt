@@ -3,19 +3,21 @@ use mathlib.Core.Path.{_≡_, refl, sym, ap, _∙_, subst}
 use mathlib.Core.Bool.{Bool, true, false}
 use mathlib.Core.List.{List}
 use Prim.Native.Nat.{ℕ, suc, _+_, _≤_, _<_}
+use native.Mathlib.Nat.{zero-add}
 use native.Mathlib.Omega.{arith}
 use native.Mathlib.Numerals.{add-one}
 use borrow.Author.Tests.{ltb-true, ltb-false}
 use lib.Dec.{ltb}
 use Rattle.files.specs.Sheet.{sheet, files-refusal}
 use Rattle.files.specs.Limits.{step-limit}
-use Rattle.method.specs.Problem.{Schedule, allowed-steps}
+use Rattle.method.specs.Problem.{Schedule, share, allowed-steps}
 use Rattle.method.specs.Plain.{plain-problem}
 use Rattle.method.specs.Iterates.{iterate}
 use Rattle.method.specs.declared.Test.the-variants.{Sharper}
 use Rattle.method.specs.Answers.{answer-at, stops, run-answer, run-iterate}
 use Rattle.method.specs.declared.Answer.{Answer}
 use Rattle.method.specs.declared.Verdict.{Verdict}
+use Rattle.method.proofs.Weights.{weight-zero, weight-suc}
 use Rattle.method.proofs.Schedules.{Schedule-sized}
 use Rattle.method.proofs.Running.{Running, running-start, running-more, running-done, finished-answer, finished-iterate, stops-last}
 use Rattle.iteration.specs.declared.State.{State}
@@ -52,6 +54,11 @@ module _ (b s : List ℕ) (ok : files-refusal b s ≡ 0) {a : Schedule} (S : Sch
             left = omega (arith, S .some-steps (sheet s .steps) (sheet-fits b s ok .some-steps));
             undecided = rw e (running-start (plain-problem a b s) .decides);
           }
+
+  -- the first step gives what W is after it
+  pub first-weight : {z : Answer} → z ≡ answer-at Sharper (plain-problem a b s) 1 (iterate-of a b s 1) → z .weight ≡ share a 0
+  unfolding plain-problem answer-at
+  first-weight ez = ap (λ (w : Answer). w .weight) ez ∙ weight-suc a 0 ∙ rw (weight-zero a) (zero-add (share a 0))
 
   -- a run that its first step stops
   pub first-done : {z : Answer} → z ≡ answer-at Sharper (plain-problem a b s) 1 (iterate-of a b s 1) → {k : ℕ} → k ≡ allowed-steps a (sheet s .steps) → {d : Bool} → d ≡ stops k 1 (z .verdict) → d ≡ true →
