@@ -1,4 +1,4 @@
--- The outcomes of `check_card`: refused by the files, a short share list, the card's form or its numbers, or answered.
+-- The outcomes of `check_card_with`: refused by the terms or the files, a short share list, the card's form or its numbers, or answered.
 use mathlib.Core.Path.{_≡_, refl, sym, ap, _∙_}
 use mathlib.Core.Bool.{true, false, _&&_, cond}
 use mathlib.Core.List.{List, _∷_, _++_}
@@ -10,21 +10,23 @@ use lib.ListN.{length, take, drop, set, replicate}
 use lib.Seq.{take-set-lt, length-take-le}
 use Rattle.files.specs.Bytes.{all-bytes, number}
 use Rattle.files.specs.Book.{boats, columns}
-use Rattle.files.specs.Sheet.{sheet, files-refusal}
+use Rattle.files.specs.Sheet.{files-refusal}
 use Rattle.files.proofs.Refusal.{and-true}
 use Rattle.method.specs.declared.Answer.{Answer}
 use Rattle.method.specs.declared.Searched.{Searched}
 use Rattle.method.specs.declared.Searched.the-variants.{Refused, Answered}
-use Rattle.method.specs.Problem.{problem}
-use Rattle.method.specs.Answers.{outcome, search-refusal, slots-after}
+use Rattle.method.specs.Problem.{Terms, call-steps, call-problem}
+use Rattle.method.specs.Calls.{call-refusal}
+use Rattle.method.proofs.Accepted.{files-ok}
+use Rattle.method.specs.Answers.{outcome, search-refusal-with, slots-after}
 use Rattle.method.specs.Bounds.{answer-of}
 use Rattle.method.proofs.Promise.{outcome-refused, outcome-answered}
 use Rattle.iteration.specs.declared.Layout.{Layout}
 use Rattle.iteration.specs.States.{file-layout}
 use Rattle.iteration.proofs.States.{book-fits}
-use Rattle.card_format.specs.Format.{card-fields, card-test, pair-count, shares-into, card-shares, card-answer}
-use Rattle.card_format.specs.Checks.{pairs-in-order, form-refusal, truth-refusal, card-refusal, check-refusal}
-use Rattle.card_format.specs.Checking.{Check-right}
+use Rattle.card_format.specs.Format.{card-fields, card-test, pair-count, shares-into, card-shares, card-answer-with}
+use Rattle.card_format.specs.Checks.{pairs-in-order, form-refusal, truth-refusal, card-refusal-with, check-refusal-with}
+use Rattle.card_format.specs.Checking.{Check-right-with}
 use Rattle.card_format.proofs.Pairs.{into-none, into-more}
 use Rattle.card_format.proofs.Checking.{check-right}
 use Rattle.card_pairs.proofs.Pairs.{boat-below, order-more}
@@ -59,9 +61,9 @@ order-wider k next n m bs h o = wide k next bs o
         let below : number 0 2 bs < n = ltb-true (number 0 2 bs) n (t .0) in
         rw order-more (simp (q .0, lt-ltb (number 0 2 bs) m (omega arith), t .1, wide k (suc (number 0 2 bs)) (drop 4 bs) (p .1)))
 
-module _ (b s w : List ℕ) (ok : files-refusal b s ≡ 0) (f : form-refusal (boats b) (columns b) (sheet s .steps) w ≡ 0) {k : ℕ} (ek : k ≡ pair-count w) where
-  is-formed : Formed (boats b) (sheet s .steps) w
-  is-formed = formed (boats b) (columns b) (sheet s .steps) w f
+module _ (m : Terms) (b s w : List ℕ) (ok : files-refusal b s ≡ 0) (f : form-refusal (boats b) (columns b) (call-steps m s) w ≡ 0) {k : ℕ} (ek : k ≡ pair-count w) where
+  is-formed : Formed (boats b) (call-steps m s) w
+  is-formed = formed (boats b) (columns b) (call-steps m s) w f
 
   in-order : pairs-in-order k 0 (boats b) (drop (length w - 36 - 4 * k) w) ≡ true
   in-order = rw ek (order-at (is-formed .back) ∙ is-formed .ordered)
@@ -84,85 +86,85 @@ layout-boats b s ok e = rw e (book-fits b s ok .most-boats)
 
 -- ---- Outcomes
 
-module _ (b s w slots : List ℕ) where
+module _ (m : Terms) (b s w slots : List ℕ) where
   -- what the check gives back and leaves in the list, by the refusal number
   abbrev Gives : (refusal : ℕ) → Searched → List ℕ → Type 0
-  Gives n r now = (r ≡ outcome n (card-answer b s w)) × (now ≡ slots-after n (card-shares (boats b) w) slots)
+  Gives n r now = (r ≡ outcome n (card-answer-with m b s w)) × (now ≡ slots-after n (card-shares (boats b) w) slots)
 
   -- and what is promised of it, of a card of bytes
-  pub promised : all-bytes w ≡ true → {r : Searched} {now : List ℕ} → Gives (check-refusal b s w (length slots)) r now →
-      (r ≡ outcome (check-refusal b s w (length slots)) (card-answer b s w))
-      × ((now ≡ slots-after (check-refusal b s w (length slots)) (card-shares (boats b) w) slots) × Check-right b s w r now)
-  promised all g = (g .0, (g .1, check-right b s w slots all refl (g .0) (g .1)))
+  pub promised : all-bytes w ≡ true → {r : Searched} {now : List ℕ} → Gives (check-refusal-with m b s w (length slots)) r now →
+      (r ≡ outcome (check-refusal-with m b s w (length slots)) (card-answer-with m b s w))
+      × ((now ≡ slots-after (check-refusal-with m b s w (length slots)) (card-shares (boats b) w) slots) × Check-right-with m b s w r now)
+  promised all g = (g .0, (g .1, check-right m b s w slots all refl (g .0) (g .1)))
 
   refused : (n : ℕ) → (n ≡ 0 → ⊥) → Gives n (Refused n) slots
   unfolding outcome slots-after
   refused zero h = absurd (h refl)
   refused (suc n) h = (refl, refl)
 
-  pub refused-by-files : (n : ℕ) → n ≡ files-refusal b s → (n ≡ 0 → ⊥) → Gives (check-refusal b s w (length slots)) (Refused n) slots
-  unfolding check-refusal search-refusal
-  refused-by-files zero e h = absurd (h refl)
-  refused-by-files (suc n) e h = rw (← e, eqb·suc-zero n, eqb·suc-zero n) (refused (suc n) h)
+  pub refused-by-call : (n : ℕ) → n ≡ call-refusal m b s → (n ≡ 0 → ⊥) → Gives (check-refusal-with m b s w (length slots)) (Refused n) slots
+  unfolding check-refusal-with search-refusal-with
+  refused-by-call zero e h = absurd (h refl)
+  refused-by-call (suc n) e h = rw (← e, eqb·suc-zero n, eqb·suc-zero n) (refused (suc n) h)
 
-  module _ (ok : files-refusal b s ≡ 0) {l : Layout} (el : l ≡ file-layout b s) where
-    pub refused-short : length slots < l .boats → Gives (check-refusal b s w (length slots)) (Refused 21) slots
-    unfolding check-refusal search-refusal outcome slots-after file-layout
+  module _ (ok : call-refusal m b s ≡ 0) {l : Layout} (el : l ≡ file-layout b s) where
+    pub refused-short : length slots < l .boats → Gives (check-refusal-with m b s w (length slots)) (Refused 21) slots
+    unfolding check-refusal-with search-refusal-with outcome slots-after file-layout
     refused-short h = let k : ltb (length slots) (boats b) ≡ true = lt-ltb (length slots) (boats b) (rw el at h) in rw (ok, k) (refl, refl)
 
     module _ (room : l .boats ≤ length slots) where
-      by-card : check-refusal b s w (length slots) ≡ card-refusal b s w
-      unfolding check-refusal search-refusal file-layout
+      by-card : check-refusal-with m b s w (length slots) ≡ card-refusal-with m b s w
+      unfolding check-refusal-with search-refusal-with file-layout
       by-card = let k : ltb (length slots) (boats b) ≡ false = le-ltb (length slots) (boats b) (rw el at room) in rw (ok, k)
 
-      card-parts : card-refusal b s w ≡
-          cond (eqb (form-refusal (boats b) (columns b) (sheet s .steps) w) 0) (truth-refusal (problem b s) (card-shares (boats b) w) w) (form-refusal (boats b) (columns b) (sheet s .steps) w)
-      unfolding card-refusal
+      card-parts : card-refusal-with m b s w ≡
+          cond (eqb (form-refusal (boats b) (columns b) (call-steps m s) w) 0) (truth-refusal (call-problem m b s) (card-shares (boats b) w) w) (form-refusal (boats b) (columns b) (call-steps m s) w)
+      unfolding card-refusal-with
       card-parts = refl
 
       -- the form as the code has it
-      module _ {n c k : ℕ} (ec : c ≡ l .columns) (ek : k ≡ sheet s .steps) (en : n ≡ form-refusal (l .boats) c k w) where
-        form-is : n ≡ form-refusal (boats b) (columns b) (sheet s .steps) w
+      module _ {n c k : ℕ} (ec : c ≡ l .columns) (ek : k ≡ call-steps m s) (en : n ≡ form-refusal (l .boats) c k w) where
+        form-is : n ≡ form-refusal (boats b) (columns b) (call-steps m s) w
         unfolding file-layout
         form-is = en ∙ rw (ec, ek, el)
 
-        pub refused-by-form : (n ≡ 0 → ⊥) → Gives (check-refusal b s w (length slots)) (Refused n) slots
+        pub refused-by-form : (n ≡ 0 → ⊥) → Gives (check-refusal-with m b s w (length slots)) (Refused n) slots
         refused-by-form h = by n form-is h
           where
-            by : (n : ℕ) → n ≡ form-refusal (boats b) (columns b) (sheet s .steps) w → (n ≡ 0 → ⊥) → Gives (check-refusal b s w (length slots)) (Refused n) slots
+            by : (n : ℕ) → n ≡ form-refusal (boats b) (columns b) (call-steps m s) w → (n ≡ 0 → ⊥) → Gives (check-refusal-with m b s w (length slots)) (Refused n) slots
             by zero e h = absurd (h refl)
             by (suc n) e h = rw (by-card, card-parts, ← e, eqb·suc-zero n) (refused (suc n) h)
 
         module _ (zn : n ≡ 0) where
-          pub form-zero : form-refusal (boats b) (columns b) (sheet s .steps) w ≡ 0
+          pub form-zero : form-refusal (boats b) (columns b) (call-steps m s) w ≡ 0
           form-zero = sym form-is ∙ zn
 
-          by-truth : check-refusal b s w (length slots) ≡ truth-refusal (problem b s) (card-shares (boats b) w) w
+          by-truth : check-refusal-with m b s w (length slots) ≡ truth-refusal (call-problem m b s) (card-shares (boats b) w) w
           by-truth = by-card ∙ card-parts ∙ rw form-zero
 
           -- a judgement by shares that are the card's
           abbrev Judged : (found : List ℕ) → Searched → Type 0
           Judged found r =
-              r ≡ outcome (truth-refusal (problem b s) (take (boats b) found) w) (answer-of (card-test w) (problem b s) (take (boats b) found) (card-fields w .steps))
+              r ≡ outcome (truth-refusal (call-problem m b s) (take (boats b) found) w) (answer-of (card-test w) (call-problem m b s) (take (boats b) found) (card-fields w .steps))
 
           own : (found : List ℕ) → take (boats b) found ≡ card-shares (boats b) w → {r : Searched} → Judged found r →
-              outcome (truth-refusal (problem b s) (card-shares (boats b) w) w) (card-answer b s w) ≡ r
-          unfolding card-answer
+              outcome (truth-refusal (call-problem m b s) (card-shares (boats b) w) w) (card-answer-with m b s w) ≡ r
+          unfolding card-answer-with
           own found ef e = sym (rw ef at e)
 
-          pub refused-by-truth : (found : List ℕ) → take (boats b) found ≡ card-shares (boats b) w → (m : ℕ) → Judged found (Refused m) → Gives (check-refusal b s w (length slots)) (Refused m) slots
-          refused-by-truth found ef m e =
-              let p = outcome-refused (truth-refusal (problem b s) (card-shares (boats b) w) w) m (card-answer b s w) (own found ef e) in
-              rw (by-truth, p .0) (refused m (λ z. omega (arith, p .1)))
+          pub refused-by-truth : (found : List ℕ) → take (boats b) found ≡ card-shares (boats b) w → (j : ℕ) → Judged found (Refused j) → Gives (check-refusal-with m b s w (length slots)) (Refused j) slots
+          refused-by-truth found ef j e =
+              let p = outcome-refused (truth-refusal (call-problem m b s) (card-shares (boats b) w) w) j (card-answer-with m b s w) (own found ef e) in
+              rw (by-truth, p .0) (refused j (λ z. omega (arith, p .1)))
 
           module _ (found : List ℕ) (ef : take (boats b) found ≡ card-shares (boats b) w) (lf : length found ≡ 256) where
             found-count : length (card-shares (boats b) w) ≡ boats b
-            found-count = sym (ap length ef) ∙ length-take-le (boats b) found (omega (arith, book-fits b s ok .most-boats))
+            found-count = sym (ap length ef) ∙ length-take-le (boats b) found (omega (arith, book-fits b s (files-ok m b s ok) .most-boats))
 
             pub answered : {now : List ℕ} → now ≡ take (l .boats) found ++ drop (l .boats) slots → (a : Answer) → Judged found (Answered a) →
-                Gives (check-refusal b s w (length slots)) (Answered a) now
+                Gives (check-refusal-with m b s w (length slots)) (Answered a) now
             unfolding outcome slots-after file-layout
             answered {now} e a h =
-                let p = outcome-answered (truth-refusal (problem b s) (card-shares (boats b) w) w) (card-answer b s w) a (own found ef h) in
+                let p = outcome-answered (truth-refusal (call-problem m b s) (card-shares (boats b) w) w) (card-answer-with m b s w) a (own found ef h) in
                 let r : now ≡ card-shares (boats b) w ++ drop (boats b) slots = e ∙ rw (el, ef) in
                 rw (by-truth, p .0, ← p .1) (refl, r ∙ rw found-count)

@@ -1,4 +1,4 @@
--- The outcomes of `write_card`, refused by the files, refused by a short buffer, or filed, are those of the definitions.
+-- The outcomes of `write_card_with`, refused by the terms or the files, refused by a short buffer, or filed, are those of the definitions.
 use mathlib.Core.Path.{_≡_, refl, ap, _∙_}
 use mathlib.Core.Bool.{true, false}
 use mathlib.Core.List.{List, _++_}
@@ -10,18 +10,19 @@ use lib.Dec.{ltb, eqb·suc-zero}
 use lib.ListN.{length, take, drop}
 use lib.Seq.{take-at}
 use Rattle.files.specs.Book.{boats, columns}
-use Rattle.files.specs.Sheet.{sheet, files-refusal}
+use Rattle.files.specs.Sheet.{sheet}
 use Rattle.method.specs.declared.Test.the-variants.{Sharper}
 use Rattle.method.specs.declared.Answer.{Answer}
-use Rattle.method.specs.Problem.{problem}
+use Rattle.method.specs.Problem.{Terms, call-problem}
+use Rattle.method.specs.Calls.{call-refusal}
 use Rattle.method.specs.Iterates.{support}
 use Rattle.method.specs.Answers.{slots-after, run-answer, run-iterate}
 use Rattle.method.proofs.Accepted.{share-count}
 use Rattle.card_format.specs.declared.Written.{Written}
 use Rattle.card_format.specs.declared.Written.the-variants.{Refused, Filed}
-use Rattle.card_format.specs.Format.{pairs, trailer-bytes, answer-fields, card-bytes, run-card}
-use Rattle.card_format.specs.Checks.{write-refusal}
-use Rattle.card_format.specs.Filing.{filing, Filing-right}
+use Rattle.card_format.specs.Format.{pairs, trailer-bytes, answer-fields, card-bytes, run-card-with}
+use Rattle.card_format.specs.Checks.{write-refusal-with}
+use Rattle.card_format.specs.Filing.{filing, Filing-right-with}
 use Rattle.card_format.proofs.RunCards.{run-pairs-length, run-card-length}
 use Rattle.card_format.proofs.Filing.{filing-right}
 use Rattle.buffers.specs.Placed.{placed}
@@ -29,45 +30,45 @@ use Rattle.buffers.proofs.Placing.{placed-next}
 
 -- ---- Outcomes
 
-module _ (b s out : List ℕ) where
+module _ (m : Terms) (b s out : List ℕ) where
   -- what the writer gives back and leaves in the buffer, by the refusal number
   abbrev Gives : (refusal : ℕ) → Written → List ℕ → Type 0
-  Gives n r now = (r ≡ filing n (run-answer (problem b s)) (length (run-card b s))) × (now ≡ slots-after n (run-card b s) out)
+  Gives n r now = (r ≡ filing n (run-answer (call-problem m b s)) (length (run-card-with m b s))) × (now ≡ slots-after n (run-card-with m b s) out)
 
   -- and what is promised of it
   abbrev pub Promises : Written → List ℕ → Type 0
   Promises r now =
-      (r ≡ filing (write-refusal b s (length out)) (run-answer (problem b s)) (length (run-card b s)))
-      × ((now ≡ slots-after (write-refusal b s (length out)) (run-card b s) out) × Filing-right b s r now)
+      (r ≡ filing (write-refusal-with m b s (length out)) (run-answer (call-problem m b s)) (length (run-card-with m b s)))
+      × ((now ≡ slots-after (write-refusal-with m b s (length out)) (run-card-with m b s) out) × Filing-right-with m b s r now)
 
-  promised : {r : Written} {now : List ℕ} → Gives (write-refusal b s (length out)) r now → Promises r now
-  promised g = (g .0, (g .1, filing-right b s out refl (g .0) (g .1)))
+  promised : {r : Written} {now : List ℕ} → Gives (write-refusal-with m b s (length out)) r now → Promises r now
+  promised g = (g .0, (g .1, filing-right m b s out refl (g .0) (g .1)))
 
   refused : (n : ℕ) → (n ≡ 0 → ⊥) → Gives n (Refused n) out
   unfolding filing slots-after
   refused zero h = absurd (h refl)
   refused (suc n) h = (refl, refl)
 
-  pub refused-by-files : (n : ℕ) → n ≡ files-refusal b s → (n ≡ 0 → ⊥) → Promises (Refused n) out
-  unfolding write-refusal
-  refused-by-files zero e h = absurd (h refl)
-  refused-by-files (suc n) e h = promised (rw (← e, eqb·suc-zero n) (refused (suc n) h))
+  pub refused-by-call : (n : ℕ) → n ≡ call-refusal m b s → (n ≡ 0 → ⊥) → Promises (Refused n) out
+  unfolding write-refusal-with
+  refused-by-call zero e h = absurd (h refl)
+  refused-by-call (suc n) e h = promised (rw (← e, eqb·suc-zero n) (refused (suc n) h))
 
-  module _ (ok : files-refusal b s ≡ 0) {n : ℕ} (en : n ≡ boats b) {a : Answer} (ea : a ≡ run-answer (problem b s)) (z : List ℕ) {qs : List ℕ} (eq : qs ≡ run-iterate (problem b s) .shares ++ z) (k : ℕ)
+  module _ (ok : call-refusal m b s ≡ 0) {n : ℕ} (en : n ≡ boats b) {a : Answer} (ea : a ≡ run-answer (call-problem m b s)) (z : List ℕ) {qs : List ℕ} (eq : qs ≡ run-iterate (call-problem m b s) .shares ++ z) (k : ℕ)
       (ek : k ≡ support (take n qs)) where
-    shares-are : take n qs ≡ run-iterate (problem b s) .shares
+    shares-are : take n qs ≡ run-iterate (call-problem m b s) .shares
     unfolding run-iterate
-    shares-are = rw en (ap (take (boats b)) eq ∙ take-at (run-iterate (problem b s) .shares) z (boats b) (share-count b s ok _))
+    shares-are = rw en (ap (take (boats b)) eq ∙ take-at (run-iterate (call-problem m b s) .shares) z (boats b) (share-count m b s ok _))
 
-    size-is : length (run-card b s) ≡ 4 * k + 36
-    size-is = run-card-length b s ok ∙ rw (ek, shares-are)
+    size-is : length (run-card-with m b s) ≡ 4 * k + 36
+    size-is = run-card-length m b s ok ∙ rw (ek, shares-are)
 
     pairs-size : length (pairs 0 (take n qs)) ≡ 4 * k
-    pairs-size = rw (ek, shares-are) (run-pairs-length b s ok)
+    pairs-size = rw (ek, shares-are) (run-pairs-length m b s ok)
 
     pub refused-short : length out < 4 * k + 36 → Promises (Refused 22) out
-    unfolding write-refusal filing slots-after
-    refused-short h = let q : ltb (length out) (length (run-card b s)) ≡ true = lt-ltb (length out) (length (run-card b s)) (rw size-is h) in promised (rw (ok, q) (refl, refl))
+    unfolding write-refusal-with filing slots-after
+    refused-short h = let q : ltb (length out) (length (run-card-with m b s)) ≡ true = lt-ltb (length out) (length (run-card-with m b s)) (rw size-is h) in promised (rw (ok, q) (refl, refl))
 
     module _ (room : 4 * k + 36 ≤ length out) where
       pub pairs-fit : length (pairs 0 (take n qs)) ≤ length out
@@ -75,18 +76,18 @@ module _ (b s out : List ℕ) where
 
       module _ (now₁ now₂ : List ℕ) (e₁ : now₁ ≡ placed out 0 (pairs 0 (take n qs))) (τ c : ℕ) (eτ : τ ≡ sheet s .tolerance) (ec : c ≡ columns b)
           (e₂ : now₂ ≡ placed now₁ (4 * k) (trailer-bytes Sharper (answer-fields a (4 * k) τ n c))) where
-        card-is : pairs 0 (take n qs) ++ trailer-bytes Sharper (answer-fields a (4 * k) τ n c) ≡ run-card b s
-        unfolding run-card card-bytes
+        card-is : pairs 0 (take n qs) ++ trailer-bytes Sharper (answer-fields a (4 * k) τ n c) ≡ run-card-with m b s
+        unfolding run-card-with card-bytes
         card-is = rw (← pairs-size, eτ, ec, ea, shares-are, en)
 
-        buffer-is : now₂ ≡ run-card b s ++ drop (length (run-card b s)) out
+        buffer-is : now₂ ≡ run-card-with m b s ++ drop (length (run-card-with m b s)) out
         unfolding placed
         buffer-is =
             (unfold placed in placed-next out 0 (pairs 0 (take n qs)) (trailer-bytes Sharper (answer-fields a (4 * k) τ n c)) (4 * k) e₁ e₂ (omega (arith, pairs-size)) (omega (arith, pairs-size)))
-            ∙ rw (card-is, zero-add (length (run-card b s)))
+            ∙ rw (card-is, zero-add (length (run-card-with m b s)))
 
         pub filed : Promises (Filed a (4 * k + 36)) now₂
-        unfolding write-refusal filing slots-after
+        unfolding write-refusal-with filing slots-after
         filed =
-            let q : ltb (length out) (length (run-card b s)) ≡ false = le-ltb (length out) (length (run-card b s)) (rw size-is room) in
+            let q : ltb (length out) (length (run-card-with m b s)) ≡ false = le-ltb (length out) (length (run-card-with m b s)) (rw size-is room) in
             promised (rw (ok, q) (rw (ea, size-is), buffer-is))

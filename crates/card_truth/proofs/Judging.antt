@@ -3,6 +3,7 @@ use mathlib.Core.Path.{_≡_, refl, sym, ap, _∙_}
 use mathlib.Core.Bool.{Bool, true, false, _||_, not}
 use mathlib.Core.List.{List}
 use Prim.Native.Nat.{ℕ, _-_, _≤_}
+use native.Mathlib.Nat.{le-trans}
 use native.Mathlib.Omega.{arith}
 use borrow.Author.Tests.{eqb-true, eq-eqb, ne-eqb, not-true, not-false}
 use lib.Dec.{leb}
@@ -18,7 +19,8 @@ use Rattle.method.specs.declared.Test.{Test}
 use Rattle.method.specs.declared.Test.the-variants.{Former, Sharper}
 use Rattle.method.specs.declared.Answer.{Answer}
 use Rattle.method.specs.declared.Searched.the-variants.{Refused, Answered}
-use Rattle.method.specs.Problem.{fixed, problem, weight}
+use Rattle.method.specs.Problem.{Terms, allowed-steps, call-steps, call-problem, weight}
+use Rattle.method.proofs.Schedules.{Schedule-sized}
 use Rattle.method.specs.Answers.{outcome}
 use Rattle.iteration.specs.declared.Layout.{Layout}
 use Rattle.iteration.specs.States.{file-layout}
@@ -52,7 +54,7 @@ formed n c steps w e =
       ordered = p6 .0;
     }
 
-module _ (b s w : List ℕ) (ok : files-refusal b s ≡ 0) {l : Layout} (e : l ≡ file-layout b s) (f : Card-readable (sheet s .steps) w)
+module _ (b s w : List ℕ) (ok : files-refusal b s ≡ 0) (m : Terms) (S : Schedule-sized (m .schedule)) {l : Layout} (e : l ≡ file-layout b s) (f : Card-readable (call-steps m s) w)
     (shares : List ℕ) where
   -- the shares, one a boat
   abbrev qs : List ℕ
@@ -62,47 +64,47 @@ module _ (b s w : List ℕ) (ok : files-refusal b s ≡ 0) {l : Layout} (e : l �
   unfolding file-layout
   few-boats = rw e (book-fits b s ok .most-boats)
 
-  pub few-steps : card-fields w .steps ≤ step-limit
-  few-steps = omega (arith, f .most-steps, sheet-fits b s ok .most-steps)
+  pub few-steps : card-fields w .steps ≤ allowed-steps (m .schedule) step-limit
+  few-steps = le-trans (f .most-steps) (S .more-steps (sheet-fits b s ok .most-steps))
 
-  module _ (g : Bool) (eg : g ≡ shares-total fixed (pair-count w) (take (l .boats) shares) (card-fields w .steps)) where
-    total-is : shares-total fixed (pair-count w) qs (card-fields w .steps) ≡ g
+  module _ (g : Bool) (eg : g ≡ shares-total (m .schedule) (pair-count w) (take (l .boats) shares) (card-fields w .steps)) where
+    total-is : shares-total (m .schedule) (pair-count w) qs (card-fields w .steps) ≡ g
     unfolding file-layout
     total-is = sym (eg ∙ rw e)
 
-    pub total-refused : not g ≡ true → Refused 37 ≡ outcome (truth-refusal (problem b s) qs w) (answer-of (card-test w) (problem b s) qs (card-fields w .steps))
-    unfolding problem truth-refusal outcome
+    pub total-refused : not g ≡ true → Refused 37 ≡ outcome (truth-refusal (call-problem m b s) qs w) (answer-of (card-test w) (call-problem m b s) qs (card-fields w .steps))
+    unfolding call-problem truth-refusal outcome
     total-refused k = rw (total-is, not-true g k) refl
 
     module _ (g₁ : not g ≡ false) {t : ℕ} (et : t ≡ card-fields w .steps) where
-      pub steps-asked : (1 ≤ t) × (t ≤ step-limit)
-      steps-asked = (omega (arith, f .some-step), omega (arith, few-steps))
+      pub steps-asked : (1 ≤ t) × (t ≤ allowed-steps (m .schedule) step-limit)
+      steps-asked = (omega (arith, f .some-step), rw et few-steps)
 
-      pub total-asked : sum (take (boats b) shares) ≡ weight fixed t
+      pub total-asked : sum (take (boats b) shares) ≡ weight (m .schedule) t
       unfolding shares-total
       total-asked = rw et (eqb-true _ _ (and-true (leb (pair-count w) (card-fields w .steps)) _ (total-is ∙ not-false g g₁) .1))
 
-      module _ {test : Test} (eq : test ≡ card-test w) {a : Answer} (ea : a ≡ answer-of test (problem b s) qs t) where
-        answer-is : a ≡ answer-of (card-test w) (problem b s) qs (card-fields w .steps)
+      module _ {test : Test} (eq : test ≡ card-test w) {a : Answer} (ea : a ≡ answer-of test (call-problem m b s) qs t) where
+        answer-is : a ≡ answer-of (card-test w) (call-problem m b s) qs (card-fields w .steps)
         answer-is = ea ∙ rw (eq, et)
 
-        module _ {k : ℕ} (ek : k ≡ sheet s .steps) (h : Bool) (eh : h ≡ numbers-agree k w a) where
-          numbers-are : numbers-agree (sheet s .steps) w (answer-of (card-test w) (problem b s) qs (card-fields w .steps)) ≡ h
+        module _ {k : ℕ} (ek : k ≡ call-steps m s) (h : Bool) (eh : h ≡ numbers-agree k w a) where
+          numbers-are : numbers-agree (call-steps m s) w (answer-of (card-test w) (call-problem m b s) qs (card-fields w .steps)) ≡ h
           numbers-are = sym (eh ∙ rw (ek, answer-is))
 
-          pub numbers-refused : not h ≡ true → Refused 38 ≡ outcome (truth-refusal (problem b s) qs w) (answer-of (card-test w) (problem b s) qs (card-fields w .steps))
-          unfolding problem truth-refusal outcome
+          pub numbers-refused : not h ≡ true → Refused 38 ≡ outcome (truth-refusal (call-problem m b s) qs w) (answer-of (card-test w) (call-problem m b s) qs (card-fields w .steps))
+          unfolding call-problem truth-refusal outcome
           numbers-refused q = rw (total-is, not-false g g₁, numbers-are, not-true h q) refl
 
           module _ (h₁ : not h ≡ false) {x : ℕ} (ex : x ≡ number (length w - 28) 4 w) {τ : ℕ} (eτ : τ ≡ sheet s .tolerance) where
-            pub tolerance-refused : (x ≡ τ → ⊥) → Refused 39 ≡ outcome (truth-refusal (problem b s) qs w) (answer-of (card-test w) (problem b s) qs (card-fields w .steps))
-            unfolding problem truth-refusal outcome
+            pub tolerance-refused : (x ≡ τ → ⊥) → Refused 39 ≡ outcome (truth-refusal (call-problem m b s) qs w) (answer-of (card-test w) (call-problem m b s) qs (card-fields w .steps))
+            unfolding call-problem truth-refusal outcome
             tolerance-refused q = rw (total-is, not-false g g₁, numbers-are, not-false h h₁, tolerance-at w (f .long), ← ex, ← eτ, ne-eqb x τ q) refl
 
-            accepts : x ≡ τ → truth-refusal (problem b s) qs w ≡ 0
-            unfolding problem truth-refusal
+            accepts : x ≡ τ → truth-refusal (call-problem m b s) qs w ≡ 0
+            unfolding call-problem truth-refusal
             accepts q = rw (total-is, not-false g g₁, numbers-are, not-false h h₁, tolerance-at w (f .long), ← ex, ← eτ, eq-eqb x τ q) refl
 
-            pub judged-true : x ≡ τ → Answered a ≡ outcome (truth-refusal (problem b s) qs w) (answer-of (card-test w) (problem b s) qs (card-fields w .steps))
+            pub judged-true : x ≡ τ → Answered a ≡ outcome (truth-refusal (call-problem m b s) qs w) (answer-of (card-test w) (call-problem m b s) qs (card-fields w .steps))
             unfolding outcome
             judged-true q = rw (accepts q) (ap Answered answer-is)

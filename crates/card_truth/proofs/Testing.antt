@@ -9,18 +9,18 @@ use lib.ListN.{length}
 use Rattle.frank_wolfe.specs.Vectors.{sum}
 use Rattle.files.specs.Bytes.{number}
 use Rattle.method.specs.declared.Answer.{Answer}
-use Rattle.method.specs.Problem.{fixed, weight}
+use Rattle.method.specs.Problem.{Schedule, weight}
 use Rattle.method.specs.Answers.{verdict-number, stops}
 use Rattle.card_format.specs.Format.{card-fields, pair-count}
 use Rattle.card_format.specs.Checks.{shares-total, numbers-agree}
 use Rattle.card_input.proofs.Reading.{verdict-at, distance-at, gap-at}
 
-module _ (w qs : List ℕ) (t : ℕ) (et : t ≡ card-fields w .steps) (k : ℕ) (ek : k ≡ pair-count w) where
-  pub boats-many : t < k → false ≡ shares-total fixed (pair-count w) qs (card-fields w .steps)
+module _ (a : Schedule) (w qs : List ℕ) (t : ℕ) (et : t ≡ card-fields w .steps) (k : ℕ) (ek : k ≡ pair-count w) where
+  pub boats-many : t < k → false ≡ shares-total a (pair-count w) qs (card-fields w .steps)
   unfolding shares-total
   boats-many h = simp (← et, ← ek, lt-leb _ _ h)
 
-  pub total-tested : k ≤ t → (x : ℕ) → x ≡ sum qs → (n : ℕ) → n ≡ weight fixed t → eqb x n ≡ shares-total fixed (pair-count w) qs (card-fields w .steps)
+  pub total-tested : k ≤ t → (x : ℕ) → x ≡ sum qs → (n : ℕ) → n ≡ weight a t → eqb x n ≡ shares-total a (pair-count w) qs (card-fields w .steps)
   unfolding shares-total
   total-tested h x ex n en = simp (← et, ← ek, le-leb _ _ h, ← ex, en)
 

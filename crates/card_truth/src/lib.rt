@@ -7,7 +7,8 @@ ghost use lib.ListN.{length, take};
 ghost use Rattle.files.specs.Book.{boats};
 ghost use Rattle.files.specs.Sheet.{files-refusal};
 ghost use Rattle.files.specs.Sheet as Sheets;
-ghost use Rattle.method.specs.Problem.{fixed, problem};
+ghost use Rattle.method.specs.Problem.{allowed-steps, call-problem};
+ghost use Rattle.method.specs.Calls.{schedule-of, schedule-refusal, terms};
 ghost use Rattle.method.specs.Answers.{outcome};
 ghost use Rattle.method.specs.Bounds.{answer-of};
 ghost use Rattle.iteration.specs.States.{file-layout};
@@ -19,17 +20,23 @@ use iteration::State;
 use method::Answer;
 use method::Searched;
 
-// Whether a card's boats that hold shares are no more than its steps used, and the shares total t (t + 1) / 2.
-fn shares_total(card: &[u8], shares: [u16; 256], boats: usize) -> bool
+// Whether a card's boats that hold shares are no more than its steps used, and the shares total what so many steps give.
+fn shares_total(
+    lent: bool,
+    table: &[u16],
+    card: &[u8],
+    shares: [u16; 256],
+    boats: usize,
+) -> bool
     requires { ⌜ (36 ≤ length (now card)) × (boats ≤ 256) ⌝ }
-    requires { do ⌜ card-fields (now card) .steps ≤ (← ⟦State::MOST_STEPS⟧) ⌝ }
-    ensures { λ r. ⌜ r ≡ shares-total fixed (pair-count (now (card .entry))) (take boats shares) (card-fields (now (card .entry)) .steps) ⌝ }
+    requires { do ⌜ card-fields (now card) .steps ≤ allowed-steps (schedule-of lent (now table)) (← ⟦State::MOST_STEPS⟧) ⌝ }
+    ensures { λ r. ⌜ r ≡ shares-total (schedule-of lent (now (table .entry))) (pair-count (now (card .entry))) (take boats shares) (card-fields (now (card .entry)) .steps) ⌝ }
 {
     let t = card_input::steps_used(card);
     if (t as usize) < card_input::pair_count(card) {
         return false;
     }
-    card_pairs::total(shares, boats) == totals::total_after(t)
+    card_pairs::total(shares, boats) == schedules::total(lent, table, t)
 }
 
 // Whether a card's E, G and verdict are an answer's, and the verdict ends a run of so many steps.
@@ -55,26 +62,32 @@ fn numbers_agree(card: &[u8], steps: u32, a: Answer) -> bool
 pub fn judged(
     book: &[u8],
     sheet: &[u8],
+    lent: bool,
+    table: &[u16],
     layout: Layout,
     card: &[u8],
     shares: [u16; 256],
 ) -> Searched
     requires { ⌜ files-refusal (now book) (now sheet) ≡ 0 ⌝ }
+    requires { ⌜ schedule-refusal (schedule-of lent (now table)) ≡ 0 ⌝ }
     requires { ⌜ layout ≡ file-layout (now book) (now sheet) ⌝ }
-    requires { ⌜ Card-readable (Sheets.sheet (now sheet) .steps) (now card) ⌝ }
-    ensures { λ r. ⌜ r ≡ outcome (truth-refusal (problem (now (book .entry)) (now (sheet .entry))) (take (boats (now (book .entry))) shares) (now (card .entry))) (answer-of (card-test (now (card .entry))) (problem (now (book .entry)) (now (sheet .entry))) (take (boats (now (book .entry))) shares) (card-fields (now (card .entry)) .steps)) ⌝ }
+    requires { ⌜ Card-readable (allowed-steps (schedule-of lent (now table)) (Sheets.sheet (now sheet) .steps)) (now card) ⌝ }
+    ensures { λ r. ⌜ r ≡ outcome (truth-refusal (call-problem (terms lent (now (table .entry))) (now (book .entry)) (now (sheet .entry))) (take (boats (now (book .entry))) shares) (now (card .entry))) (answer-of (card-test (now (card .entry))) (call-problem (terms lent (now (table .entry))) (now (book .entry)) (now (sheet .entry))) (take (boats (now (book .entry))) shares) (card-fields (now (card .entry)) .steps)) ⌝ }
 {
-    if !shares_total(card, shares, layout.boats) {
+    if !shares_total(lent, table, card, shares, layout.boats) {
         return Searched::Refused(37);
     }
     let answer = factored_run::answer_of(
         card_input::test_of(card),
         book,
         sheet,
+        lent,
+        table,
         shares,
         card_input::steps_used(card),
     );
-    if !numbers_agree(card, files::steps(sheet), answer) {
+    let steps = schedules::steps(lent, table, files::steps(sheet));
+    if !numbers_agree(card, steps, answer) {
         return Searched::Refused(38);
     }
     if files::u32_at(card, card.len() - 28) != files::tolerance(sheet) {

@@ -22,7 +22,7 @@ use Rattle.sheet_output.specs.Back.{Sheet-fit, Sheet-reads-back}
 use Rattle.sheet_output.proofs.Values.{length-values-bytes}
 use Rattle.sheet_output.proofs.Back.{sheet-trailer-length, sheet-reads-back}
 use Rattle.buffers.proofs.Writing.{front-taken}
-use Rattle.method.specs.Problem.{problem}
+use Rattle.method.specs.Problem.{call-problem}
 use Rattle.method.specs.Plain.{plain-problem}
 use Rattle.repeated_columns.specs.Repeating.{repeated, plain-of}
 use Rattle.repeated_columns.proofs.Repeating.{length-repeated}
@@ -174,7 +174,7 @@ own-fit : (c : ℕ) (s : List ℕ) → Sheet-fits c s → Factors-fit c (sheet s
 own-fit c s g = record { each-column = g .factor-count; some-columns = omega arith; most-columns = omega arith }
 
 pub files-twin : Files-twin
-unfolding Files-twin Files-derived Book-derived Sheet-derived derived-rows derived plain-problem plain-of problem
+unfolding Files-twin Files-derived Book-derived Sheet-derived derived-rows derived plain-problem plain-of call-problem
 files-twin b s ok =
     let fs = sheet s .factors in
     let known = files-accepted b s ok .1 in
@@ -186,5 +186,5 @@ files-twin b s ok =
       sheet-fits = t .most-bytes;
       accepted = files-derived fs b s ok f;
       same-boats = k .boats-back ∙ row-count fs b (book-passed b s ok) (f .each-column);
-      plain-twin = rw (k .columns-back, k .rows-back, t .sheet-back);
+      plain-twin = λ m. rw (k .columns-back, k .rows-back, t .sheet-back);
     }

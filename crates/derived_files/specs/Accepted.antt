@@ -8,7 +8,7 @@ use Rattle.frank_wolfe.specs.Vectors.{sum}
 use Rattle.files.specs.Book.{boats, columns, book-refusal}
 use Rattle.files.specs.Sheet.{sheet, files-refusal}
 use Rattle.files.specs.Fits.{Sheet-fits}
-use Rattle.method.specs.Problem.{problem}
+use Rattle.method.specs.Problem.{Terms, call-problem}
 use Rattle.method.specs.Plain.{plain-problem}
 use Rattle.repeated_columns.specs.Repeating.{plain-of}
 use Rattle.book_output.specs.Back.{Book-of}
@@ -39,13 +39,13 @@ twin-book b s = derived-book (sheet s .factors) b
 abbrev pub twin-sheet : (sheet : List ℕ) → List ℕ
 twin-sheet s = derived-sheet (sheet s .factors) s
 
--- a plain search on them is about the plain twin of the problem of b and s
+-- a plain search on them is about the plain twin of the problem that b and s set, in a call of any terms
 pub record Twin-files (b s : List ℕ) : Type 0 where
   pub book-fits : length (twin-book b s) ≤ 32780
   pub sheet-fits : length (twin-sheet s) ≤ 144
   pub accepted : files-refusal (twin-book b s) (twin-sheet s) ≡ 0
   pub same-boats : boats (twin-book b s) ≡ boats b
-  pub plain-twin : plain-problem (twin-book b s) (twin-sheet s) ≡ plain-of (problem b s)
+  pub plain-twin : (m : Terms) → plain-problem (m .schedule) (twin-book b s) (twin-sheet s) ≡ plain-of (call-problem m b s)
 
 unfoldable pub Files-twin : Type 0
 Files-twin = (b s : List ℕ) → files-refusal b s ≡ 0 → Twin-files b s

@@ -13,7 +13,7 @@ use Rattle.factors.specs.Factors.{all-ones}
 use Rattle.factors.proofs.Factors.{all-ones-are, second-edition}
 use Rattle.method.specs.declared.Test.{Test}
 use Rattle.method.specs.declared.Answer.{Answer}
-use Rattle.method.specs.Problem.{Problem, fixed, weight, problem}
+use Rattle.method.specs.Problem.{Problem, Terms, weight, call-problem}
 use Rattle.method.specs.Plain.{plain-problem}
 use Rattle.method.specs.Answers.{run-answer, run-iterate}
 use Rattle.method.specs.Bounds.{answer-of}
@@ -37,20 +37,20 @@ module _ (b s : List ℕ) (ok : files-refusal b s ≡ 0) where
 
   -- ---- Every factor 1
   module _ {t : Bool} (e : t ≡ all-ones (sheet s .factors)) where
-    module _ (h : t ≡ true) where
-      plain-is : plain-problem b s ≡ problem b s
-      unfolding problem plain-problem
+    module _ (m : Terms) (h : t ≡ true) where
+      plain-is : plain-problem (m .schedule) b s ≡ call-problem m b s
+      unfolding call-problem plain-problem
       plain-is =
           let n : sheet s .factors ≡ ones (columns b) = all-ones-are (sheet s .factors) (sym e ∙ h) ∙ ap ones (g .factor-count) in
           rw n
 
-      pub plain-run : {a : Answer} → a ≡ run-answer (plain-problem b s) → a ≡ run-answer (problem b s)
+      pub plain-run : {a : Answer} → a ≡ run-answer (plain-problem (m .schedule) b s) → a ≡ run-answer (call-problem m b s)
       plain-run q = q ∙ ap run-answer plain-is
 
-      pub plain-shares : (rest : List ℕ) {now : List ℕ} → now ≡ run-iterate (plain-problem b s) .shares ++ rest → now ≡ run-iterate (problem b s) .shares ++ rest
+      pub plain-shares : (rest : List ℕ) {now : List ℕ} → now ≡ run-iterate (plain-problem (m .schedule) b s) .shares ++ rest → now ≡ run-iterate (call-problem m b s) .shares ++ rest
       plain-shares rest q = q ∙ ap (λ (p : Problem). run-iterate p .shares ++ rest) plain-is
 
-      pub plain-answer : (test : Test) (qs : List ℕ) (k : ℕ) {a : Answer} → a ≡ answer-of test (plain-problem b s) qs k → a ≡ answer-of test (problem b s) qs k
+      pub plain-answer : (test : Test) (qs : List ℕ) (k : ℕ) {a : Answer} → a ≡ answer-of test (plain-problem (m .schedule) b s) qs k → a ≡ answer-of test (call-problem m b s) qs k
       plain-answer test qs k q = q ∙ ap (λ (p : Problem). answer-of test p qs k) plain-is
 
     pub lettered : t ≡ false → sheet-lettered WSH2 s ≡ true
@@ -61,9 +61,9 @@ module _ (b s : List ℕ) (ok : files-refusal b s ≡ 0) where
   unfolding Files-twin
   twin = files-twin b s ok
 
-  same : Same-runs (problem b s)
-  unfolding problem Plain-twin
-  same = plain-twin (problem b s) (g .factor-count)
+  same : (m : Terms) → Same-runs (call-problem m b s)
+  unfolding call-problem Plain-twin
+  same m = plain-twin (call-problem m b s) (g .factor-count)
 
   module _ {fs : List ℕ} (ef : fs ≡ sheet s .factors) where
     pub book-derivable : (book-refusal b ≡ 0) × ((length fs ≡ columns b) × (sum fs ≤ 64))
@@ -83,35 +83,35 @@ module _ (b s : List ℕ) (ok : files-refusal b s ≡ 0) where
       book-is : take n own ≡ twin-book b s
       book-is = front-taken (replicate 32780 0) (derived-book fs b) eo en room ∙ rw ef
 
-      module _ {own′ : List ℕ} (eo′ : own′ ≡ placed (replicate 144 0) 0 (derived-sheet fs s)) {m : ℕ} (em : m ≡ length (derived-sheet fs s)) where
+      module _ {own′ : List ℕ} (eo′ : own′ ≡ placed (replicate 144 0) 0 (derived-sheet fs s)) {k : ℕ} (ek : k ≡ length (derived-sheet fs s)) where
         room′ : length (derived-sheet fs s) ≤ 144
         room′ = rw ef (twin .sheet-fits)
 
-        pub sheet-inside : m ≤ length own′
-        sheet-inside = front-inside (replicate 144 0) (derived-sheet fs s) eo′ em room′
+        pub sheet-inside : k ≤ length own′
+        sheet-inside = front-inside (replicate 144 0) (derived-sheet fs s) eo′ ek room′
 
-        sheet-is : take m own′ ≡ twin-sheet s
-        sheet-is = front-taken (replicate 144 0) (derived-sheet fs s) eo′ em room′ ∙ rw ef
+        sheet-is : take k own′ ≡ twin-sheet s
+        sheet-is = front-taken (replicate 144 0) (derived-sheet fs s) eo′ ek room′ ∙ rw ef
 
-        pub derived-passed : files-refusal (take n own) (take m own′) ≡ 0
+        pub derived-passed : files-refusal (take n own) (take k own′) ≡ 0
         derived-passed = rw (book-is, sheet-is) (twin .accepted)
 
         pub derived-boats : boats (take n own) ≡ boats b
         derived-boats = rw book-is (twin .same-boats)
 
-        derived-is : plain-problem (take n own) (take m own′) ≡ plain-of (problem b s)
-        derived-is = rw (book-is, sheet-is) (twin .plain-twin)
+        derived-is : (m : Terms) → plain-problem (m .schedule) (take n own) (take k own′) ≡ plain-of (call-problem m b s)
+        derived-is m = rw (book-is, sheet-is) (twin .plain-twin m)
 
-        pub derived-run : {a : Answer} → a ≡ run-answer (plain-problem (take n own) (take m own′)) → a ≡ run-answer (problem b s)
-        derived-run q = q ∙ ap run-answer derived-is ∙ same .same-answer
+        pub derived-run : (m : Terms) {a : Answer} → a ≡ run-answer (plain-problem (m .schedule) (take n own) (take k own′)) → a ≡ run-answer (call-problem m b s)
+        derived-run m q = q ∙ ap run-answer (derived-is m) ∙ same m .same-answer
 
-        pub derived-shares : (slots : List ℕ) {now : List ℕ} → now ≡ run-iterate (plain-problem (take n own) (take m own′)) .shares ++ drop (boats (take n own)) slots →
-            now ≡ run-iterate (problem b s) .shares ++ drop (boats b) slots
-        derived-shares slots q = q ∙ rw (derived-is, same .same-shares, derived-boats)
+        pub derived-shares : (m : Terms) (slots : List ℕ) {now : List ℕ} → now ≡ run-iterate (plain-problem (m .schedule) (take n own) (take k own′)) .shares ++ drop (boats (take n own)) slots →
+            now ≡ run-iterate (call-problem m b s) .shares ++ drop (boats b) slots
+        derived-shares m slots q = q ∙ rw (derived-is m, same m .same-shares, derived-boats)
 
-        pub derived-answer : (test : Test) (shares : List ℕ) (t : ℕ) {a : Answer} →
-            a ≡ answer-of test (plain-problem (take n own) (take m own′)) (take (boats (take n own)) shares) t → a ≡ answer-of test (problem b s) (take (boats b) shares) t
-        derived-answer test shares t q = q ∙ rw (derived-is, derived-boats, same .same-of)
+        pub derived-answer : (m : Terms) (test : Test) (shares : List ℕ) (t : ℕ) {a : Answer} →
+            a ≡ answer-of test (plain-problem (m .schedule) (take n own) (take k own′)) (take (boats (take n own)) shares) t → a ≡ answer-of test (call-problem m b s) (take (boats b) shares) t
+        derived-answer m test shares t q = q ∙ rw (derived-is m, derived-boats, same m .same-of)
 
-        pub derived-total : (shares : List ℕ) (t : ℕ) → sum (take (boats b) shares) ≡ weight fixed t → sum (take (boats (take n own)) shares) ≡ weight fixed t
-        derived-total shares t q = rw derived-boats q
+        pub derived-total : (m : Terms) (shares : List ℕ) (t : ℕ) → sum (take (boats b) shares) ≡ weight (m .schedule) t → sum (take (boats (take n own)) shares) ≡ weight (m .schedule) t
+        derived-total m shares t q = rw derived-boats q

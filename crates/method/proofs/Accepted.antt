@@ -77,8 +77,11 @@ module _ (m : Terms) (b s : List ℕ) (ok : call-refusal m b s ≡ 0) where
   pub files-ok : files-refusal b s ≡ 0
   files-ok = both (schedule-refusal (m .schedule)) (files-refusal b s) ok .1
 
+  pub schedule-ok : schedule-refusal (m .schedule) ≡ 0
+  schedule-ok = both (schedule-refusal (m .schedule)) (files-refusal b s) ok .0
+
   pub call-schedule : Schedule-sized (m .schedule)
-  call-schedule = schedule-sized (m .schedule) (both (schedule-refusal (m .schedule)) (files-refusal b s) ok .0)
+  call-schedule = schedule-sized (m .schedule) schedule-ok
 
   few : sum (sheet s .factors) ≤ 64
   few = files-accepted b s files-ok .1 .few-factors

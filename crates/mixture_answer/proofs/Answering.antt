@@ -1,4 +1,4 @@
--- The answer of shares, one a boat, that total t (t + 1) / 2: what the residual and the scores give is that of the definitions.
+-- The answer of shares, one a boat, that total what t steps give: what the residual and the scores give is that of the definitions.
 use mathlib.Core.Path.{_≡_, sym, ap, _∙_}
 use mathlib.Core.List.{List}
 use Prim.Native.Nat.{ℕ, _*_, _≤_}
@@ -17,13 +17,13 @@ use Rattle.files.proofs.Access.{rows-at}
 use Rattle.files.specs.Limits.{step-limit, total-limit, entry-limit}
 use Rattle.method.specs.declared.Test.{Test}
 use Rattle.method.specs.declared.Answer.{Answer}
-use Rattle.method.specs.Problem.{fixed, weight}
+use Rattle.method.specs.Problem.{Schedule, weight}
 use Rattle.method.specs.Plain.{plain-problem}
 use Rattle.method.specs.Iterates as M
 use Rattle.method.specs.Iterates.{Iterate, residual}
 use Rattle.method.specs.Bounds.{mixture-iterate, answer-of}
 use Rattle.method.specs.Minimum.{minimum}
-use Rattle.method.proofs.Weights.{weight-most}
+use Rattle.method.proofs.Schedules.{Schedule-sized}
 use Rattle.method.proofs.Argmin.{argmin-at}
 use Rattle.method.proofs.Shares.{Mixed, shares-mixed}
 use Rattle.method.proofs.Mixtures.{residual-bounded}
@@ -41,25 +41,25 @@ pub all-rows : (b s : List ℕ) → files-refusal b s ≡ 0 → {l : Layout} →
 unfolding file-layout
 all-rows b s ok e = rw e (grid b s ok)
 
-module _ (b s : List ℕ) (ok : files-refusal b s ≡ 0) {l : Layout} (e : l ≡ file-layout b s) (shares : List ℕ) {t : ℕ} (some : 1 ≤ t) (few : t ≤ step-limit)
-    (total : sum (take (boats b) shares) ≡ weight fixed t) where
+module _ (b s : List ℕ) (ok : files-refusal b s ≡ 0) {a : Schedule} (S : Schedule-sized a) {l : Layout} (e : l ≡ file-layout b s) (shares : List ℕ) {t : ℕ} (some : 1 ≤ t) (few : t ≤ step-limit)
+    (total : sum (take (boats b) shares) ≡ weight a t) where
   pub few-shares : sum (take (boats b) shares) ≤ total-limit
-  few-shares = rw total (weight-most few)
+  few-shares = rw total (S .most-total t few)
 
   module _ (slots : length shares ≡ 256) where
     abbrev x : Iterate
-    x = mixture-iterate (plain-problem b s) (take (boats b) shares)
+    x = mixture-iterate (plain-problem a b s) (take (boats b) shares)
 
     abbrev r : List ℤ
-    r = residual (plain-problem b s) t (mixture-iterate (plain-problem b s) (take (boats b) shares))
+    r = residual (plain-problem a b s) t (mixture-iterate (plain-problem a b s) (take (boats b) shares))
 
     abbrev w : ℕ
-    w = weight fixed t
+    w = weight a t
 
-    mixed : Mixed (plain-problem b s) t x
+    mixed : Mixed (plain-problem a b s) t x
     unfolding plain-problem
     mixed =
-        shares-mixed (plain-problem b s) t (take (boats b) shares)
+        shares-mixed (plain-problem a b s) t (take (boats b) shares)
         (length-take-le (boats b) shares (omega (arith, book-fits b s ok .most-boats)) ∙ sym (book-fits b s ok .row-count)) total
 
     -- ---- The residual and the scores of the code
@@ -72,7 +72,7 @@ module _ (b s : List ℕ) (ok : files-refusal b s ≡ 0) {l : Layout} (e : l ≡
 
       pub entries : Bounded entry-limit (l .columns) now
       unfolding plain-problem file-layout
-      entries = rw e (bounded-front b s ok (4000 * w) now r n residual-is (residual-bounded (in-range b s ok) mixed .each) (omega (arith, weight-most few)))
+      entries = rw e (bounded-front b s ok (4000 * w) now r n residual-is (residual-bounded (in-range b s ok S) mixed .each) (omega (arith, S .most-total t few)))
 
       module _ {lo : Least} (h : lo ≡ least-of (M.scores (ones (l .columns)) (take (l .columns) now) (rows-from (l .boats) (l .columns) (drop (l .rows) b)))) where
         scored : lo ≡ least-of (M.scores (ones (columns b)) r (rows b))
@@ -85,20 +85,20 @@ module _ (b s : List ℕ) (ok : files-refusal b s ≡ 0) {l : Layout} (e : l ≡
 
         -- the least score as the machine has it
         least-read : toZ w64 (ofZ w64 (lo .score)) ≡ minimum (M.scores (ones (columns b)) r (rows b))
-        least-read = rw least-is (read w64 33269760000000 (omega (arith, least-size b s ok some few mixed, weight-most few)) tt)
+        least-read = rw least-is (read w64 33269760000000 (omega (arith, least-size b s ok S some few mixed, S .most-total t few)) tt)
 
-        pub measurable : Measurable now (weight fixed t) (toZ w64 (ofZ w64 (lo .score))) s l
+        pub measurable : Measurable now (weight a t) (toZ w64 (ofZ w64 (lo .score))) s l
         unfolding file-layout
         measurable =
             rw (e, least-read)
             (record {
               target = target-span b s ok;
               entries = rw e at entries;
-              numbers = rw (residual-is, target-is b s ok) (mixed-answerable b s ok some few mixed);
+              numbers = rw (residual-is, target-is b s ok) (mixed-answerable b s ok S some few mixed);
             })
 
-        pub answered : (test : Test) {a : Answer} →
-            a ≡ measure test t (weight fixed t) (sheet s .tolerance) (take (l .columns) now) (values (l .columns) (drop (l .target) s)) (toZ w64 (ofZ w64 (lo .score))) →
-            a ≡ answer-of test (plain-problem b s) (take (boats b) shares) t
+        pub answered : (test : Test) {z : Answer} →
+            z ≡ measure test t (weight a t) (sheet s .tolerance) (take (l .columns) now) (values (l .columns) (drop (l .target) s)) (toZ w64 (ofZ w64 (lo .score))) →
+            z ≡ answer-of test (plain-problem a b s) (take (boats b) shares) t
         unfolding file-layout
-        answered test f = f ∙ rw (e, least-read, residual-is, target-is b s ok) (mixed-answer b s ok some few mixed test)
+        answered test f = f ∙ rw (e, least-read, residual-is, target-is b s ok) (mixed-answer b s ok S some few mixed test)

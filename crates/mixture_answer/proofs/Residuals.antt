@@ -20,6 +20,7 @@ use Rattle.method.specs.Plain.{plain-problem}
 use Rattle.method.specs.Iterates.{row}
 use Rattle.method.proofs.Argmin.{among-row}
 use Rattle.method.proofs.Entries as E
+use Rattle.method.proofs.Schedules.{fixed-sized}
 use Rattle.method.proofs.Plain.{well-formed, in-range}
 use Rattle.sums.specs.Operands.{Span, Movable}
 use Rattle.card_pairs.proofs.Pairs.{sum-more}
@@ -122,7 +123,7 @@ module _ (b s : List ℕ) (ok : files-refusal b s ≡ 0) where
       record {
         within = omega arith;
         long = refl;
-        later = rw z (zeros-add (columns b) _ (length-sum (columns b) (sheet s .target) (take (boats b) shares) (rows b) (sheet-fits b s ok .target-length) (well-formed b s ok .wide)));
+        later = rw z (zeros-add (columns b) _ (length-sum (columns b) (sheet s .target) (take (boats b) shares) (rows b) (sheet-fits b s ok .target-length) (well-formed b s ok fixed-sized .wide)));
         used = 0;
         parts = omega arith;
         size = rw z (zero-bounded (columns b));
@@ -167,7 +168,7 @@ module _ (b s : List ℕ) (ok : files-refusal b s ≡ 0) where
 
       difference-bounded : E.Bounded 4000 (subtract (row (rows b) i) (sheet s .target))
       unfolding plain-problem
-      difference-bounded = E.bounded-subtract (in-range b s ok .rows-bounded _ (among-row (rows b) i (omega (arith, book-fits b s ok .row-count)))) (in-range b s ok .target-bounded)
+      difference-bounded = E.bounded-subtract (in-range b s ok fixed-sized .rows-bounded _ (among-row (rows b) i (omega (arith, book-fits b s ok .row-count)))) (in-range b s ok fixed-sized .target-bounded)
 
       moved-front : (x : List ℤ) →
           x ≡ add (take (columns b) r) (scale q (subtract (values (columns b) (drop (rows-offset b + 2 * (i * columns b)) b)) (values (columns b) (drop (target-offset s) s)))) ++ drop (columns b) r →

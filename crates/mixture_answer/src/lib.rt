@@ -9,7 +9,8 @@ ghost use Rattle.files.specs.Book.{boats, columns, rows};
 ghost use Rattle.files.specs.Sheet.{files-refusal};
 ghost use Rattle.files.specs.Sheet as Sheets;
 ghost use Rattle.files.specs.Limits.{total-limit};
-ghost use Rattle.method.specs.Problem.{fixed, weight};
+ghost use Rattle.method.specs.Problem.{weight, allowed-steps};
+ghost use Rattle.method.specs.Calls.{schedule-of, schedule-refusal};
 ghost use Rattle.method.specs.Plain.{plain-problem};
 ghost use Rattle.iteration.specs.States.{file-layout};
 ghost use Rattle.method.specs.Bounds.{answer-of};
@@ -46,15 +47,18 @@ pub fn answer_of(
     test: Test,
     book: &[u8],
     sheet: &[u8],
+    lent: bool,
+    table: &[u16],
     layout: Layout,
     shares: [u16; 256],
     t: u32,
 ) -> Answer
     requires { ⌜ files-refusal (now book) (now sheet) ≡ 0 ⌝ }
+    requires { ⌜ schedule-refusal (schedule-of lent (now table)) ≡ 0 ⌝ }
     requires { ⌜ layout ≡ file-layout (now book) (now sheet) ⌝ }
-    requires { do ⌜ (1 ≤ t) × (t ≤ (← ⟦State::MOST_STEPS⟧)) ⌝ }
-    requires { ⌜ sum (take (boats (now book)) shares) ≡ weight fixed t ⌝ }
-    ensures { λ x. ⌜ x ≡ answer-of test (plain-problem (now (book .entry)) (now (sheet .entry))) (take (boats (now (book .entry))) shares) t ⌝ }
+    requires { do ⌜ (1 ≤ t) × (t ≤ allowed-steps (schedule-of lent (now table)) (← ⟦State::MOST_STEPS⟧)) ⌝ }
+    requires { ⌜ sum (take (boats (now book)) shares) ≡ weight (schedule-of lent (now table)) t ⌝ }
+    ensures { λ x. ⌜ x ≡ answer-of test (plain-problem (schedule-of lent (now (table .entry))) (now (book .entry)) (now (sheet .entry))) (take (boats (now (book .entry))) shares) t ⌝ }
 {
     let rows = layout.rows;
     let columns = layout.columns;
@@ -64,7 +68,7 @@ pub fn answer_of(
     iteration::measured(
         test,
         t,
-        totals::total_after(t),
+        schedules::total(lent, table, t),
         &r,
         least.score,
         sheet,

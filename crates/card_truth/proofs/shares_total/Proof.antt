@@ -8,7 +8,7 @@ use Rattle.card_truth.proofs.shares_total.Lts as lts
 use Rattle.card_input.proofs.pair_count.Reads as pair-count-reads
 use Rattle.card_input.proofs.steps_used.Reads as steps-used-reads
 use Rattle.card_pairs.proofs.total.Reads as total-reads
-use Rattle.totals.proofs.total_after.Reads as total-after-reads
+use Rattle.schedules.proofs.total.Reads as total-reads′
 
 steps-used-requires : tie.Need-steps-used-requires
 steps-used-requires c κs = search needs
@@ -25,8 +25,8 @@ returns c = search (needs, boats-many)
 total-requires : tie.Need-total-requires
 total-requires c κs = search needs
 
-total-after-requires : tie.Need-total-after-requires
-total-after-requires c κs = search needs
+total-requires-2 : tie.Need-total-requires-2
+total-requires-2 c κs = search needs
 
 returns-2 : tie.Need-returns-2
 returns-2 c = search (needs, total-tested)
@@ -40,5 +40,5 @@ shares-total-spec =
     pair-count-requires
     returns
     total-requires
-    total-after-requires
+    total-requires-2
     returns-2)

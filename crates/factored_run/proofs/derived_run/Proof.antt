@@ -3,23 +3,24 @@ use borrow.Author.Needs.{needs}
 use mathlib.Core.Path.{sym}
 use native.Mathlib.Omega.{arith}
 use lib.Seq.{length-take-le}
+use Rattle.method.specs.Calls.{terms}
 use Rattle.factored_run.proofs.Factored.{whole, book-derivable, sheet-derivable, book-inside, sheet-inside, derived-passed, derived-boats, derived-run, derived-shares}
 use Rattle.factored_run.proofs.derived_run.Statement.{statement}
 use Rattle.factored_run.proofs.derived_run.Tie as tie
 
 factors-of-requires : tie.Need-factors-of-requires
-factors-of-requires c κs = (whole _ _ (c .before .before .before .pre .0), c .before .before .before .pre .1 .0)
+factors-of-requires c κs = (whole _ _ (c .before .before .before .before .pre .0), c .before .before .before .before .pre .1 .1 .0)
 
 put-book-requires : tie.Need-put-book-requires
 put-book-requires c κs =
-    let start = c .before .before .before .before .before in
+    let start = c .before .before .before .before .before .before in
     let d = book-derivable _ _ (start .pre .0) (c .before .factors-of .ensures) in
     (d .0, (d .1 .0, (d .1 .1, search needs)))
 
 put-sheet-requires : tie.Need-put-sheet-requires
 put-sheet-requires c κs =
     let at-factors = c .before .before .before .before in
-    let start = at-factors .before .before .before .before in
+    let start = at-factors .before .before .before .before .before in
     let d = sheet-derivable _ _ (start .pre .0) (at-factors .factors-of .ensures) in
     (d .0, (d .1 .0, (d .1 .1, search needs)))
 
@@ -28,7 +29,7 @@ array-share-prefix-own-book c =
     let at-put-sheet = c .before in
     let at-put-book = at-put-sheet .before .before .before in
     let at-factors = at-put-book .before .before in
-    let start = at-factors .before .before .before .before in
+    let start = at-factors .before .before .before .before .before in
     book-inside _ _ (start .pre .0) (at-factors .factors-of .ensures) (at-put-book .put-book .ensures .1) (at-put-book .put-book .ensures .0)
 
 slice-aggregate-run : tie.Need-slice-aggregate-run
@@ -36,7 +37,7 @@ slice-aggregate-run c =
     let at-put-sheet = c .before .before in
     let at-put-book = at-put-sheet .before .before .before in
     let at-factors = at-put-book .before .before in
-    let start = at-factors .before .before .before .before in
+    let start = at-factors .before .before .before .before .before in
     sym (length-take-le _ _ (book-inside _ _ (start .pre .0) (at-factors .factors-of .ensures) (at-put-book .put-book .ensures .1) (at-put-book .put-book .ensures .0)))
 
 array-share-prefix-own-sheet : tie.Need-array-share-prefix-own-sheet
@@ -44,7 +45,7 @@ array-share-prefix-own-sheet c =
     let at-put-sheet = c .before .before in
     let at-put-book = at-put-sheet .before .before .before in
     let at-factors = at-put-book .before .before in
-    let start = at-factors .before .before .before .before in
+    let start = at-factors .before .before .before .before .before in
     sheet-inside _ _ (start .pre .0) (at-factors .factors-of .ensures) (at-put-book .put-book .ensures .1) (at-put-book .put-book .ensures .0) (at-put-sheet .put-sheet .ensures .1) (at-put-sheet .put-sheet .ensures .0)
 
 slice-aggregate-run-2 : tie.Need-slice-aggregate-run-2
@@ -52,7 +53,7 @@ slice-aggregate-run-2 c =
     let at-put-sheet = c .before .before .before in
     let at-put-book = at-put-sheet .before .before .before in
     let at-factors = at-put-book .before .before in
-    let start = at-factors .before .before .before .before in
+    let start = at-factors .before .before .before .before .before in
     sym (length-take-le _ _ (sheet-inside _ _ (start .pre .0) (at-factors .factors-of .ensures) (at-put-book .put-book .ensures .1) (at-put-book .put-book .ensures .0) (at-put-sheet .put-sheet .ensures .1) (at-put-sheet .put-sheet .ensures .0)))
 
 run-requires : tie.Need-run-requires
@@ -60,8 +61,8 @@ run-requires c κs =
     let at-put-sheet = c .before .before .before .before in
     let at-put-book = at-put-sheet .before .before .before in
     let at-factors = at-put-book .before .before in
-    let start = at-factors .before .before .before .before in
-    (derived-passed _ _ (start .pre .0) (at-factors .factors-of .ensures) (at-put-book .put-book .ensures .1) (at-put-book .put-book .ensures .0) (at-put-sheet .put-sheet .ensures .1) (at-put-sheet .put-sheet .ensures .0), omega (arith, derived-boats _ _ (start .pre .0) (at-factors .factors-of .ensures) (at-put-book .put-book .ensures .1) (at-put-book .put-book .ensures .0) (at-put-sheet .put-sheet .ensures .1) (at-put-sheet .put-sheet .ensures .0), start .pre .1 .1))
+    let start = at-factors .before .before .before .before .before in
+    (derived-passed _ _ (start .pre .0) (at-factors .factors-of .ensures) (at-put-book .put-book .ensures .1) (at-put-book .put-book .ensures .0) (at-put-sheet .put-sheet .ensures .1) (at-put-sheet .put-sheet .ensures .0), (start .pre .1 .0, omega (arith, derived-boats _ _ (start .pre .0) (at-factors .factors-of .ensures) (at-put-book .put-book .ensures .1) (at-put-book .put-book .ensures .0) (at-put-sheet .put-sheet .ensures .1) (at-put-sheet .put-sheet .ensures .0), start .pre .1 .1 .1)))
 
 returns : tie.Need-returns
 returns c =
@@ -69,8 +70,8 @@ returns c =
     let at-put-sheet = at-run .before .before .before .before .before in
     let at-put-book = at-put-sheet .before .before .before in
     let at-factors = at-put-book .before .before in
-    let start = at-factors .before .before .before .before in
-    (derived-run _ _ (start .pre .0) (at-factors .factors-of .ensures) (at-put-book .put-book .ensures .1) (at-put-book .put-book .ensures .0) (at-put-sheet .put-sheet .ensures .1) (at-put-sheet .put-sheet .ensures .0) (at-run .run .ensures .0), derived-shares _ _ (start .pre .0) (at-factors .factors-of .ensures) (at-put-book .put-book .ensures .1) (at-put-book .put-book .ensures .0) (at-put-sheet .put-sheet .ensures .1) (at-put-sheet .put-sheet .ensures .0) _ (at-run .run .ensures .1))
+    let start = at-factors .before .before .before .before .before in
+    (derived-run _ _ (start .pre .0) (at-factors .factors-of .ensures) (at-put-book .put-book .ensures .1) (at-put-book .put-book .ensures .0) (at-put-sheet .put-sheet .ensures .1) (at-put-sheet .put-sheet .ensures .0) (terms (start .args .lent) (start .args .table .now)) (at-run .run .ensures .0), derived-shares _ _ (start .pre .0) (at-factors .factors-of .ensures) (at-put-book .put-book .ensures .1) (at-put-book .put-book .ensures .0) (at-put-sheet .put-sheet .ensures .1) (at-put-sheet .put-sheet .ensures .0) (terms (start .args .lent) (start .args .table .now)) _ (at-run .run .ensures .1))
 
 pub derived-run-spec : {M : Type 1} → statement M
 derived-run-spec =

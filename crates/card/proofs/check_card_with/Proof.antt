@@ -1,64 +1,64 @@
--- `card::check_card` meets its contract.
+-- `card::check_card_with` meets its contract.
 use mathlib.Core.Path.{refl, sym, _∙_}
 use denote.Ref.{now}
 use Rattle.iteration.proofs.States.{sheet-fits}
 use Rattle.files.proofs.Numbers.{all-bytes-known}
 use Rattle.card_truth.proofs.Judging.{formed}
-use Rattle.card.proofs.Checking.{layout-boats, pairs-room, pairs-asked, found-are, promised, refused-by-files, refused-short, refused-by-form, form-zero, refused-by-truth, answered}
+use Rattle.card.proofs.Checking.{layout-boats, pairs-room, pairs-asked, found-are, promised, refused-by-call, refused-short, refused-by-form, form-zero, refused-by-truth, answered}
 use borrow.Author.Needs.{needs}
-use Rattle.card.proofs.check_card.Statement.{statement}
-use Rattle.card.proofs.check_card.Tie as tie
-use Rattle.card.proofs.check_card.Reads as reads
-use Rattle.card.proofs.check_card.Lts as lts
+use Rattle.card.proofs.check_card_with.Statement.{statement}
+use Rattle.card.proofs.check_card_with.Tie as tie
+use Rattle.card.proofs.check_card_with.Reads as reads
+use Rattle.card.proofs.check_card_with.Lts as lts
 use Rattle.card_truth.proofs.judged.Reads as judged-reads
 use Rattle.card_input.proofs.form_refusal.Reads as form-refusal-reads
 use Rattle.card_input.proofs.pair_count.Reads as pair-count-reads
 use Rattle.card_pairs.proofs.shares_of.Reads as shares-of-reads
-use Rattle.validation.proofs.files_refusal.Reads as files-refusal-reads
+use Rattle.calls.proofs.call_refusal.Reads as call-refusal-reads
 use Rattle.files.proofs.steps.Reads as steps-reads
 use Rattle.card.proofs.fill.Reads as fill-reads
 use Rattle.iteration.proofs.layout_of.Reads as layout-of-reads
 
-files-refusal-requires : tie.Need-files-refusal-requires
-files-refusal-requires c κs = search needs
+call-refusal-requires : tie.Need-call-refusal-requires
+call-refusal-requires c κs = search needs
 
 returns : tie.Need-returns
 returns c =
-    let at-files-refusal = c .before in
-    let start = at-files-refusal .before .before .before .before .before in
-    promised _ _ _ (now (start .args .shares)) (all-bytes-known _ (at-files-refusal .before .before .shared-slice-known3 .given)) (refused-by-files _ _ _ _ _ (at-files-refusal .files-refusal .ensures) (c .if1 .taken))
+    let at-call-refusal = c .before in
+    let start = at-call-refusal .before .before .before .before .before in
+    promised _ _ _ (now (start .args .shares)) (all-bytes-known _ (at-call-refusal .before .before .shared-slice-known3 .given)) (refused-by-call _ _ _ _ _ (at-call-refusal .call-refusal .ensures) (c .if1 .taken))
 
 layout-of-requires : tie.Need-layout-of-requires
 layout-of-requires c κs = search needs
 
 returns-2 : tie.Need-returns-2
 returns-2 c =
-    let at-files-refusal = c .before .before .before in
-    let start = at-files-refusal .before .before .before .before .before in
-    promised _ _ _ (now (start .args .shares)) (all-bytes-known _ (at-files-refusal .before .before .shared-slice-known3 .given)) (refused-short _ _ _ _ (sym (at-files-refusal .files-refusal .ensures) ∙ c .before .before .if1 .left) (c .before .layout-of .ensures) (c .if2 .taken))
+    let at-call-refusal = c .before .before .before in
+    let start = at-call-refusal .before .before .before .before .before in
+    promised _ _ _ (now (start .args .shares)) (all-bytes-known _ (at-call-refusal .before .before .shared-slice-known3 .given)) (refused-short _ _ _ _ (sym (at-call-refusal .call-refusal .ensures) ∙ c .before .before .if1 .left) (c .before .layout-of .ensures) (c .if2 .taken))
 
 steps-requires : tie.Need-steps-requires
-steps-requires c κs = sheet-fits _ _ (sym (c .before .before .before .files-refusal .ensures) ∙ c .before .before .if1 .left) .at-least
+steps-requires c κs = sheet-fits _ _ (sym (c .before .before .before .call-refusal .ensures) ∙ c .before .before .if1 .left) .at-least
 
 form-refusal-requires : tie.Need-form-refusal-requires
-form-refusal-requires c κs = layout-boats _ _ (sym (c .before .before .before .before .files-refusal .ensures) ∙ c .before .before .before .if1 .left) (c .before .before .layout-of .ensures)
+form-refusal-requires c κs = layout-boats _ _ (sym (c .before .before .before .before .call-refusal .ensures) ∙ c .before .before .before .if1 .left) (c .before .before .layout-of .ensures)
 
 returns-3 : tie.Need-returns-3
 returns-3 c =
     let at-layout-of = c .before .before .before .before in
     let at-if1 = at-layout-of .before in
-    let at-files-refusal = at-if1 .before in
-    let accepted = sym (at-files-refusal .files-refusal .ensures) ∙ at-if1 .if1 .left in
-    let start = at-files-refusal .before .before .before .before .before in
-    promised _ _ _ (now (start .args .shares)) (all-bytes-known _ (at-files-refusal .before .before .shared-slice-known3 .given)) (refused-by-form _ _ _ _ accepted (at-layout-of .layout-of .ensures) (c .before .before .before .if2 .left) refl (c .before .before .steps .ensures) (c .before .form-refusal .ensures) (c .if3 .taken))
+    let at-call-refusal = at-if1 .before in
+    let accepted = sym (at-call-refusal .call-refusal .ensures) ∙ at-if1 .if1 .left in
+    let start = at-call-refusal .before .before .before .before .before in
+    promised _ _ _ (now (start .args .shares)) (all-bytes-known _ (at-call-refusal .before .before .shared-slice-known3 .given)) (refused-by-form _ _ _ _ accepted (at-layout-of .layout-of .ensures) (c .before .before .before .if2 .left) refl (c .before .before .steps .ensures) (c .before .form-refusal .ensures) (c .if3 .taken))
 
 pair-count-requires : tie.Need-pair-count-requires
 pair-count-requires c κs =
     let at-layout-of = c .before .before .before .before in
     let at-if1 = at-layout-of .before in
-    let at-files-refusal = at-if1 .before in
-    let accepted = sym (at-files-refusal .files-refusal .ensures) ∙ at-if1 .if1 .left in
-    let start = at-files-refusal .before .before .before .before .before in
+    let at-call-refusal = at-if1 .before in
+    let accepted = sym (at-call-refusal .call-refusal .ensures) ∙ at-if1 .if1 .left in
+    let start = at-call-refusal .before .before .before .before .before in
     formed _ _ _ _ (form-zero _ _ _ (now (start .args .shares)) accepted (at-layout-of .layout-of .ensures) (c .before .before .before .if2 .left) refl (c .before .before .steps .ensures) (c .before .form-refusal .ensures) (c .if3 .left)) .readable .long
 
 sub-shares-of : tie.Need-sub-shares-of
@@ -66,9 +66,9 @@ sub-shares-of c =
     let at-if2 = c .before .before .before .before in
     let at-layout-of = at-if2 .before in
     let at-if1 = at-layout-of .before in
-    let at-files-refusal = at-if1 .before in
-    let accepted = sym (at-files-refusal .files-refusal .ensures) ∙ at-if1 .if1 .left in
-    let start = at-files-refusal .before .before .before .before .before in
+    let at-call-refusal = at-if1 .before in
+    let accepted = sym (at-call-refusal .call-refusal .ensures) ∙ at-if1 .if1 .left in
+    let start = at-call-refusal .before .before .before .before .before in
     formed _ _ _ _ (form-zero _ _ _ (now (start .args .shares)) accepted (at-layout-of .layout-of .ensures) (at-if2 .if2 .left) refl (c .before .before .before .steps .ensures) (c .before .before .form-refusal .ensures) (c .before .if3 .left)) .readable .long
 
 mul-shares-of : tie.Need-mul-shares-of
@@ -79,9 +79,9 @@ sub-shares-of-2 c =
     let at-if2 = c .before .before .before .before in
     let at-layout-of = at-if2 .before in
     let at-if1 = at-layout-of .before in
-    let at-files-refusal = at-if1 .before in
-    let accepted = sym (at-files-refusal .files-refusal .ensures) ∙ at-if1 .if1 .left in
-    let start = at-files-refusal .before .before .before .before .before in
+    let at-call-refusal = at-if1 .before in
+    let accepted = sym (at-call-refusal .call-refusal .ensures) ∙ at-if1 .if1 .left in
+    let start = at-call-refusal .before .before .before .before .before in
     pairs-room _ _ _ accepted (form-zero _ _ _ (now (start .args .shares)) accepted (at-layout-of .layout-of .ensures) (at-if2 .if2 .left) refl (c .before .before .before .steps .ensures) (c .before .before .form-refusal .ensures) (c .before .if3 .left)) (c .pair-count .ensures .0)
 
 shares-of-requires : tie.Need-shares-of-requires
@@ -89,9 +89,9 @@ shares-of-requires c κs =
     let at-if2 = c .before .before .before .before in
     let at-layout-of = at-if2 .before in
     let at-if1 = at-layout-of .before in
-    let at-files-refusal = at-if1 .before in
-    let accepted = sym (at-files-refusal .files-refusal .ensures) ∙ at-if1 .if1 .left in
-    let start = at-files-refusal .before .before .before .before .before in
+    let at-call-refusal = at-if1 .before in
+    let accepted = sym (at-call-refusal .call-refusal .ensures) ∙ at-if1 .if1 .left in
+    let start = at-call-refusal .before .before .before .before .before in
     pairs-asked _ _ _ accepted (form-zero _ _ _ (now (start .args .shares)) accepted (at-layout-of .layout-of .ensures) (at-if2 .if2 .left) refl (c .before .before .before .steps .ensures) (c .before .before .form-refusal .ensures) (c .before .if3 .left)) (c .pair-count .ensures .0)
 
 judged-requires : tie.Need-judged-requires
@@ -102,9 +102,9 @@ judged-requires c κs =
     let at-if2 = at-steps .before in
     let at-layout-of = at-if2 .before in
     let at-if1 = at-layout-of .before in
-    let at-files-refusal = at-if1 .before in
-    let accepted = sym (at-files-refusal .files-refusal .ensures) ∙ at-if1 .if1 .left in
-    let start = at-files-refusal .before .before .before .before .before in
+    let at-call-refusal = at-if1 .before in
+    let accepted = sym (at-call-refusal .call-refusal .ensures) ∙ at-if1 .if1 .left in
+    let start = at-call-refusal .before .before .before .before .before in
     let right-form = form-zero _ _ _ (now (start .args .shares)) accepted (at-layout-of .layout-of .ensures) (at-if2 .if2 .left) refl (at-steps .steps .ensures) (at-form-refusal .form-refusal .ensures) (at-if3 .if3 .left) in
     (accepted, (at-layout-of .layout-of .ensures, formed _ _ _ _ right-form .readable))
 
@@ -119,8 +119,8 @@ fill-requires c κs =
     let at-if2 = c .before .before .before .before .before .before .before .before .before .before in
     let at-layout-of = at-if2 .before in
     let at-if1 = at-layout-of .before in
-    let at-files-refusal = at-if1 .before in
-    let accepted = sym (at-files-refusal .files-refusal .ensures) ∙ at-if1 .if1 .left in
+    let at-call-refusal = at-if1 .before in
+    let accepted = sym (at-call-refusal .call-refusal .ensures) ∙ at-if1 .if1 .left in
     (layout-boats _ _ accepted (at-layout-of .layout-of .ensures), at-if2 .if2 .left)
 
 returns-4 : tie.Need-returns-4
@@ -131,11 +131,11 @@ returns-4 c =
     let at-if2 = at-steps .before in
     let at-layout-of = at-if2 .before in
     let at-if1 = at-layout-of .before in
-    let at-files-refusal = at-if1 .before in
-    let accepted = sym (at-files-refusal .files-refusal .ensures) ∙ at-if1 .if1 .left in
-    let start = at-files-refusal .before .before .before .before .before in
+    let at-call-refusal = at-if1 .before in
+    let accepted = sym (at-call-refusal .call-refusal .ensures) ∙ at-if1 .if1 .left in
+    let start = at-call-refusal .before .before .before .before .before in
     let right-form = form-zero _ _ _ (now (start .args .shares)) accepted (at-layout-of .layout-of .ensures) (at-if2 .if2 .left) refl (at-steps .steps .ensures) (at-form-refusal .form-refusal .ensures) (at-if3 .if3 .left) in
-    promised _ _ _ (now (start .args .shares)) (all-bytes-known _ (at-files-refusal .before .before .shared-slice-known3 .given)) (refused-by-truth _ _ _ _ accepted (at-layout-of .layout-of .ensures) (at-if2 .if2 .left) refl (at-steps .steps .ensures) (at-form-refusal .form-refusal .ensures) (at-if3 .if3 .left) _ (found-are _ _ _ accepted right-form (c .before .before .before .before .before .pair-count .ensures .0) (c .before .before .before .before .shares-of .ensures)) _ (sym (c .before .n .given .1) ∙ c .before .before .before .judged .ensures))
+    promised _ _ _ (now (start .args .shares)) (all-bytes-known _ (at-call-refusal .before .before .shared-slice-known3 .given)) (refused-by-truth _ _ _ _ accepted (at-layout-of .layout-of .ensures) (at-if2 .if2 .left) refl (at-steps .steps .ensures) (at-form-refusal .form-refusal .ensures) (at-if3 .if3 .left) _ (found-are _ _ _ accepted right-form (c .before .before .before .before .before .pair-count .ensures .0) (c .before .before .before .before .shares-of .ensures)) _ (sym (c .before .n .given .1) ∙ c .before .before .before .judged .ensures))
 
 same-length : tie.Need-same-length
 same-length c = search needs
@@ -152,18 +152,18 @@ returns-5 c =
     let at-if2 = at-steps .before in
     let at-layout-of = at-if2 .before in
     let at-if1 = at-layout-of .before in
-    let at-files-refusal = at-if1 .before in
-    let accepted = sym (at-files-refusal .files-refusal .ensures) ∙ at-if1 .if1 .left in
-    let at-shared-slice-known3 = at-files-refusal .before .before in
+    let at-call-refusal = at-if1 .before in
+    let accepted = sym (at-call-refusal .call-refusal .ensures) ∙ at-if1 .if1 .left in
+    let at-shared-slice-known3 = at-call-refusal .before .before in
     let start = at-shared-slice-known3 .before .before .before in
     let right-form = form-zero _ _ _ (now (start .args .shares)) accepted (at-layout-of .layout-of .ensures) (at-if2 .if2 .left) refl (at-steps .steps .ensures) (at-form-refusal .form-refusal .ensures) (at-if3 .if3 .left) in
     promised _ _ _ (now (start .args .shares)) (all-bytes-known _ (at-shared-slice-known3 .shared-slice-known3 .given)) (answered _ _ _ _ accepted (at-layout-of .layout-of .ensures) (at-if2 .if2 .left) refl (at-steps .steps .ensures) (at-form-refusal .form-refusal .ensures) (at-if3 .if3 .left) _ (found-are _ _ _ accepted right-form (at-pair-count .pair-count .ensures .0) (at-shares-of .shares-of .ensures)) (search (needs, at-shares-of .shares-of .ok)) (c .before .before .fill .ensures) _ (sym (at-answer .answer .given .1) ∙ at-judged .judged .ensures))
 
-pub check-card-spec : {M : Type 1} → statement M
-check-card-spec =
+pub check-card-with-spec : {M : Type 1} → statement M
+check-card-with-spec =
     tie.close
     (tie.spec
-    files-refusal-requires
+    call-refusal-requires
     returns
     layout-of-requires
     returns-2

@@ -1,41 +1,41 @@
--- `card::write_card` meets its contract.
+-- `card::write_card_with` meets its contract.
 use denote.Ref.{now}
 use mathlib.Core.Path.{sym, _∙_}
 use Rattle.iteration.proofs.States.{book-fits, sheet-fits}
-use Rattle.card.proofs.Filing.{refused-by-files, refused-short, pairs-fit, filed}
+use Rattle.card.proofs.Filing.{refused-by-call, refused-short, pairs-fit, filed}
 use borrow.Author.Needs.{needs}
-use Rattle.card.proofs.write_card.Statement.{statement}
-use Rattle.card.proofs.write_card.Tie as tie
-use Rattle.card.proofs.write_card.Reads as reads
-use Rattle.card.proofs.write_card.Lts as lts
+use Rattle.card.proofs.write_card_with.Statement.{statement}
+use Rattle.card.proofs.write_card_with.Tie as tie
+use Rattle.card.proofs.write_card_with.Reads as reads
+use Rattle.card.proofs.write_card_with.Lts as lts
 use Rattle.card_output.proofs.holding.Reads as holding-reads
 use Rattle.card_output.proofs.put_pairs.Reads as put-pairs-reads
 use Rattle.card_output.proofs.put_trailer.Reads as put-trailer-reads
 use Rattle.files.proofs.boats.Reads as boats-reads
 use Rattle.files.proofs.columns.Reads as columns-reads
-use Rattle.validation.proofs.files_refusal.Reads as files-refusal-reads
+use Rattle.calls.proofs.call_refusal.Reads as call-refusal-reads
 use Rattle.files.proofs.tolerance.Reads as tolerance-reads
 use Rattle.factored_run.proofs.run.Reads as run-reads
 
-files-refusal-requires : tie.Need-files-refusal-requires
-files-refusal-requires c κs = search needs
+call-refusal-requires : tie.Need-call-refusal-requires
+call-refusal-requires c κs = search needs
 
 returns : tie.Need-returns
-returns c = refused-by-files _ _ _ _ (c .before .files-refusal .ensures) (c .if1 .taken)
+returns c = refused-by-call _ _ _ _ (c .before .call-refusal .ensures) (c .if1 .taken)
 
 boats-requires : tie.Need-boats-requires
-boats-requires c κs = book-fits _ _ (sym (c .before .files-refusal .ensures) ∙ c .if1 .left) .at-least
+boats-requires c κs = book-fits _ _ (sym (c .before .call-refusal .ensures) ∙ c .if1 .left) .at-least
 
 slice-aggregate-run : tie.Need-slice-aggregate-run
 slice-aggregate-run c = search needs
 
 run-requires : tie.Need-run-requires
 run-requires c κs =
-    let ok = sym (c .before .before .before .files-refusal .ensures) ∙ c .before .before .if1 .left in
+    let ok = sym (c .before .before .before .call-refusal .ensures) ∙ c .before .before .if1 .left in
     (ok, book-fits _ _ ok .most-boats)
 
 holding-requires : tie.Need-holding-requires
-holding-requires c κs = rw (c .before .before .before .boats .ensures) (book-fits _ _ (sym (c .before .before .before .before .before .files-refusal .ensures) ∙ c .before .before .before .before .if1 .left) .most-boats)
+holding-requires c κs = rw (c .before .before .before .boats .ensures) (book-fits _ _ (sym (c .before .before .before .before .before .call-refusal .ensures) ∙ c .before .before .before .before .if1 .left) .most-boats)
 
 mul-back : tie.Need-mul-back
 mul-back c = search needs
@@ -48,30 +48,30 @@ returns-2 c =
     let at-run = c .before .before .before in
     let at-boats = at-run .before .before in
     let at-if1 = at-boats .before in
-    let at-files-refusal = at-if1 .before in
-    refused-short _ _ _ (sym (at-files-refusal .files-refusal .ensures) ∙ at-if1 .if1 .left) (at-boats .boats .ensures) (at-run .run .ensures .0) _ (at-run .run .ensures .1) _ (c .before .holding .ensures .0) (c .if2 .taken)
+    let at-call-refusal = at-if1 .before in
+    refused-short _ _ _ (sym (at-call-refusal .call-refusal .ensures) ∙ at-if1 .if1 .left) (at-boats .boats .ensures) (at-run .run .ensures .0) _ (at-run .run .ensures .1) _ (c .before .holding .ensures .0) (c .if2 .taken)
 
 put-pairs-requires : tie.Need-put-pairs-requires
 put-pairs-requires c κs =
     let at-run = c .before .before .before .before in
     let at-boats = at-run .before .before in
     let at-if1 = at-boats .before in
-    let at-files-refusal = at-if1 .before in
-    let start = at-files-refusal .before .before .before .before in
-    let ok = sym (at-files-refusal .files-refusal .ensures) ∙ at-if1 .if1 .left in
+    let at-call-refusal = at-if1 .before in
+    let start = at-call-refusal .before .before .before .before in
+    let ok = sym (at-call-refusal .call-refusal .ensures) ∙ at-if1 .if1 .left in
     (rw (at-boats .boats .ensures) (book-fits _ _ ok .most-boats), pairs-fit _ _ (now (start .args .output)) ok (at-boats .boats .ensures) (at-run .run .ensures .0) _ (at-run .run .ensures .1) _ (c .before .before .holding .ensures .0) (c .before .if2 .left))
 
 tolerance-requires : tie.Need-tolerance-requires
 tolerance-requires c κs =
     let at-if1 = c .before .before .before .before .before .before .before .before .before .before .before in
-    let at-files-refusal = at-if1 .before in
-    sheet-fits _ _ (sym (at-files-refusal .files-refusal .ensures) ∙ at-if1 .if1 .left) .at-least
+    let at-call-refusal = at-if1 .before in
+    sheet-fits _ _ (sym (at-call-refusal .call-refusal .ensures) ∙ at-if1 .if1 .left) .at-least
 
 columns-requires : tie.Need-columns-requires
 columns-requires c κs =
     let at-if1 = c .before .before .before .before .before .before .before .before .before .before .before .before in
-    let at-files-refusal = at-if1 .before in
-    book-fits _ _ (sym (at-files-refusal .files-refusal .ensures) ∙ at-if1 .if1 .left) .at-least
+    let at-call-refusal = at-if1 .before in
+    book-fits _ _ (sym (at-call-refusal .call-refusal .ensures) ∙ at-if1 .if1 .left) .at-least
 
 put-trailer-requires : tie.Need-put-trailer-requires
 put-trailer-requires c κs = search needs
@@ -91,15 +91,15 @@ returns-3 c =
     let at-run = at-holding .before .before in
     let at-boats = at-run .before .before in
     let at-if1 = at-boats .before in
-    let at-files-refusal = at-if1 .before in
-    let ok = sym (at-files-refusal .files-refusal .ensures) ∙ at-if1 .if1 .left in
+    let at-call-refusal = at-if1 .before in
+    let ok = sym (at-call-refusal .call-refusal .ensures) ∙ at-if1 .if1 .left in
     filed _ _ _ ok (at-boats .boats .ensures) (at-run .run .ensures .0) _ (at-run .run .ensures .1) _ (at-holding .holding .ensures .0) (at-if2 .if2 .left) _ _ (at-put-pairs .put-pairs .ensures) _ _ (at-tolerance .tolerance .ensures) (c .before .before .before .columns .ensures .0) (c .before .before .put-trailer .ensures)
 
-pub write-card-spec : {M : Type 1} → statement M
-write-card-spec =
+pub write-card-with-spec : {M : Type 1} → statement M
+write-card-with-spec =
     tie.close
     (tie.spec
-    files-refusal-requires
+    call-refusal-requires
     returns
     boats-requires
     slice-aggregate-run
