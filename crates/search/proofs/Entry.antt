@@ -1,6 +1,6 @@
 -- The outcomes of `search_with`, refused by the terms or the files, refused by a short share list, or answered, are those of the definitions. Assumes nothing.
 use mathlib.Core.Path.{_≡_, refl, ap, _∙_}
-use mathlib.Core.Bool.{true, false}
+use mathlib.Core.Bool.{Bool, true, false}
 use mathlib.Core.List.{List, _++_}
 use Prim.Native.Nat.{ℕ, zero, suc, _≤_, _<_}
 use borrow.Author.Tests.{lt-ltb, le-ltb}
@@ -10,13 +10,16 @@ use Rattle.files.specs.Book.{boats}
 use Rattle.method.specs.declared.Answer.{Answer}
 use Rattle.method.specs.declared.Searched.{Searched}
 use Rattle.method.specs.declared.Searched.the-variants.{Refused, Answered}
-use Rattle.method.specs.Problem.{Terms, call-problem}
-use Rattle.method.specs.Calls.{call-refusal}
+use Rattle.method.specs.Problem.{Terms, plain-terms, call-problem}
+use Rattle.method.specs.Calls.{terms, call-refusal}
 use Rattle.method.specs.Answers.{outcome, search-refusal-with, slots-after, run-answer, run-iterate}
 use Rattle.method.specs.Promise.{Outcome-right-with}
 use Rattle.method.proofs.Promise.{run-share-count, outcome-right}
 
-module _ (m : Terms) (b s slots : List ℕ) where
+module _ (l : Bool) (table b s slots : List ℕ) where
+  abbrev m : Terms
+  m = terms l table
+
   -- what a search gives back and leaves in the list, by the refusal number
   abbrev Gives : (refusal : ℕ) → Searched → List ℕ → Type 0
   Gives n r now = (r ≡ outcome n (run-answer (call-problem m b s))) × (now ≡ slots-after n (run-iterate (call-problem m b s) .shares) slots)
@@ -25,10 +28,11 @@ module _ (m : Terms) (b s slots : List ℕ) where
   abbrev pub Promises : Searched → List ℕ → Type 0
   Promises r now =
       (r ≡ outcome (search-refusal-with m b s (length slots)) (run-answer (call-problem m b s)))
-      × ((now ≡ slots-after (search-refusal-with m b s (length slots)) (run-iterate (call-problem m b s) .shares) slots) × Outcome-right-with m b s r now)
+      × ((now ≡ slots-after (search-refusal-with m b s (length slots)) (run-iterate (call-problem m b s) .shares) slots)
+      × (Outcome-right-with m b s r now × (l ≡ false → m ≡ plain-terms)))
 
   promised : {r : Searched} {now : List ℕ} → Gives (search-refusal-with m b s (length slots)) r now → Promises r now
-  promised {r} {now} g = (g .0, (g .1, outcome-right m b s slots _ r now refl (g .0) (g .1)))
+  promised {r} {now} g = (g .0, (g .1, (outcome-right m b s slots _ r now refl (g .0) (g .1), λ e. rw e)))
 
   refused : (n : ℕ) → (n ≡ 0 → ⊥) → Gives n (Refused n) slots
   unfolding outcome slots-after
