@@ -1,6 +1,6 @@
 -- The outcomes of `check_card_with`: refused by the terms or the files, a short share list, the card's form or its numbers, or answered.
 use mathlib.Core.Path.{_≡_, refl, sym, ap, _∙_}
-use mathlib.Core.Bool.{true, false, _&&_, cond}
+use mathlib.Core.Bool.{Bool, true, false, _&&_, cond}
 use mathlib.Core.List.{List, _∷_, _++_}
 use Prim.Native.Nat.{ℕ, zero, suc, _+_, _*_, _-_, _≤_, _<_}
 use native.Mathlib.Omega.{arith}
@@ -15,8 +15,8 @@ use Rattle.files.proofs.Refusal.{and-true}
 use Rattle.method.specs.declared.Answer.{Answer}
 use Rattle.method.specs.declared.Searched.{Searched}
 use Rattle.method.specs.declared.Searched.the-variants.{Refused, Answered}
-use Rattle.method.specs.Problem.{Terms, call-steps, call-problem}
-use Rattle.method.specs.Calls.{call-refusal}
+use Rattle.method.specs.Problem.{Terms, plain-terms, call-steps, call-problem}
+use Rattle.method.specs.Calls.{terms, call-refusal}
 use Rattle.method.proofs.Accepted.{files-ok}
 use Rattle.method.specs.Answers.{outcome, search-refusal-with, slots-after}
 use Rattle.method.specs.Bounds.{answer-of}
@@ -86,7 +86,10 @@ layout-boats b s ok e = rw e (book-fits b s ok .most-boats)
 
 -- ---- Outcomes
 
-module _ (m : Terms) (b s w slots : List ℕ) where
+module _ (l : Bool) (table b s w slots : List ℕ) where
+  abbrev m : Terms
+  m = terms l table
+
   -- what the check gives back and leaves in the list, by the refusal number
   abbrev Gives : (refusal : ℕ) → Searched → List ℕ → Type 0
   Gives n r now = (r ≡ outcome n (card-answer-with m b s w)) × (now ≡ slots-after n (card-shares (boats b) w) slots)
@@ -94,8 +97,9 @@ module _ (m : Terms) (b s w slots : List ℕ) where
   -- and what is promised of it, of a card of bytes
   pub promised : all-bytes w ≡ true → {r : Searched} {now : List ℕ} → Gives (check-refusal-with m b s w (length slots)) r now →
       (r ≡ outcome (check-refusal-with m b s w (length slots)) (card-answer-with m b s w))
-      × ((now ≡ slots-after (check-refusal-with m b s w (length slots)) (card-shares (boats b) w) slots) × Check-right-with m b s w r now)
-  promised all g = (g .0, (g .1, check-right m b s w slots all refl (g .0) (g .1)))
+      × ((now ≡ slots-after (check-refusal-with m b s w (length slots)) (card-shares (boats b) w) slots)
+      × (Check-right-with m b s w r now × (l ≡ false → m ≡ plain-terms)))
+  promised all g = (g .0, (g .1, (check-right m b s w slots all refl (g .0) (g .1), λ e. rw e)))
 
   refused : (n : ℕ) → (n ≡ 0 → ⊥) → Gives n (Refused n) slots
   unfolding outcome slots-after
@@ -107,12 +111,12 @@ module _ (m : Terms) (b s w slots : List ℕ) where
   refused-by-call zero e h = absurd (h refl)
   refused-by-call (suc n) e h = rw (← e, eqb·suc-zero n, eqb·suc-zero n) (refused (suc n) h)
 
-  module _ (ok : call-refusal m b s ≡ 0) {l : Layout} (el : l ≡ file-layout b s) where
-    pub refused-short : length slots < l .boats → Gives (check-refusal-with m b s w (length slots)) (Refused 21) slots
+  module _ (ok : call-refusal m b s ≡ 0) {y : Layout} (el : y ≡ file-layout b s) where
+    pub refused-short : length slots < y .boats → Gives (check-refusal-with m b s w (length slots)) (Refused 21) slots
     unfolding check-refusal-with search-refusal-with outcome slots-after file-layout
     refused-short h = let k : ltb (length slots) (boats b) ≡ true = lt-ltb (length slots) (boats b) (rw el at h) in rw (ok, k) (refl, refl)
 
-    module _ (room : l .boats ≤ length slots) where
+    module _ (room : y .boats ≤ length slots) where
       by-card : check-refusal-with m b s w (length slots) ≡ card-refusal-with m b s w
       unfolding check-refusal-with search-refusal-with file-layout
       by-card = let k : ltb (length slots) (boats b) ≡ false = le-ltb (length slots) (boats b) (rw el at room) in rw (ok, k)
@@ -123,7 +127,7 @@ module _ (m : Terms) (b s w slots : List ℕ) where
       card-parts = refl
 
       -- the form as the code has it
-      module _ {n c k : ℕ} (ec : c ≡ l .columns) (ek : k ≡ call-steps m s) (en : n ≡ form-refusal (l .boats) c k w) where
+      module _ {n c k : ℕ} (ec : c ≡ y .columns) (ek : k ≡ call-steps m s) (en : n ≡ form-refusal (y .boats) c k w) where
         form-is : n ≡ form-refusal (boats b) (columns b) (call-steps m s) w
         unfolding file-layout
         form-is = en ∙ rw (ec, ek, el)
@@ -161,7 +165,7 @@ module _ (m : Terms) (b s w slots : List ℕ) where
             found-count : length (card-shares (boats b) w) ≡ boats b
             found-count = sym (ap length ef) ∙ length-take-le (boats b) found (omega (arith, book-fits b s (files-ok m b s ok) .most-boats))
 
-            pub answered : {now : List ℕ} → now ≡ take (l .boats) found ++ drop (l .boats) slots → (a : Answer) → Judged found (Answered a) →
+            pub answered : {now : List ℕ} → now ≡ take (y .boats) found ++ drop (y .boats) slots → (a : Answer) → Judged found (Answered a) →
                 Gives (check-refusal-with m b s w (length slots)) (Answered a) now
             unfolding outcome slots-after file-layout
             answered {now} e a h =

@@ -1,6 +1,6 @@
 -- The outcomes of `write_card_with`, refused by the terms or the files, refused by a short buffer, or filed, are those of the definitions.
 use mathlib.Core.Path.{_≡_, refl, ap, _∙_}
-use mathlib.Core.Bool.{true, false}
+use mathlib.Core.Bool.{Bool, true, false}
 use mathlib.Core.List.{List, _++_}
 use Prim.Native.Nat.{ℕ, zero, suc, _+_, _*_, _≤_, _<_}
 use native.Mathlib.Nat.{zero-add}
@@ -13,8 +13,8 @@ use Rattle.files.specs.Book.{boats, columns}
 use Rattle.files.specs.Sheet.{sheet}
 use Rattle.method.specs.declared.Test.the-variants.{Sharper}
 use Rattle.method.specs.declared.Answer.{Answer}
-use Rattle.method.specs.Problem.{Terms, call-problem}
-use Rattle.method.specs.Calls.{call-refusal}
+use Rattle.method.specs.Problem.{Terms, plain-terms, call-problem}
+use Rattle.method.specs.Calls.{terms, call-refusal}
 use Rattle.method.specs.Iterates.{support}
 use Rattle.method.specs.Answers.{slots-after, run-answer, run-iterate}
 use Rattle.method.proofs.Accepted.{share-count}
@@ -30,7 +30,10 @@ use Rattle.buffers.proofs.Placing.{placed-next}
 
 -- ---- Outcomes
 
-module _ (m : Terms) (b s out : List ℕ) where
+module _ (l : Bool) (table b s out : List ℕ) where
+  abbrev m : Terms
+  m = terms l table
+
   -- what the writer gives back and leaves in the buffer, by the refusal number
   abbrev Gives : (refusal : ℕ) → Written → List ℕ → Type 0
   Gives n r now = (r ≡ filing n (run-answer (call-problem m b s)) (length (run-card-with m b s))) × (now ≡ slots-after n (run-card-with m b s) out)
@@ -39,10 +42,11 @@ module _ (m : Terms) (b s out : List ℕ) where
   abbrev pub Promises : Written → List ℕ → Type 0
   Promises r now =
       (r ≡ filing (write-refusal-with m b s (length out)) (run-answer (call-problem m b s)) (length (run-card-with m b s)))
-      × ((now ≡ slots-after (write-refusal-with m b s (length out)) (run-card-with m b s) out) × Filing-right-with m b s r now)
+      × ((now ≡ slots-after (write-refusal-with m b s (length out)) (run-card-with m b s) out)
+      × (Filing-right-with m b s r now × (l ≡ false → m ≡ plain-terms)))
 
   promised : {r : Written} {now : List ℕ} → Gives (write-refusal-with m b s (length out)) r now → Promises r now
-  promised g = (g .0, (g .1, filing-right m b s out refl (g .0) (g .1)))
+  promised g = (g .0, (g .1, (filing-right m b s out refl (g .0) (g .1), λ e. rw e)))
 
   refused : (n : ℕ) → (n ≡ 0 → ⊥) → Gives n (Refused n) out
   unfolding filing slots-after

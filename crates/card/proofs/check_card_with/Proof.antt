@@ -1,6 +1,8 @@
 -- `card::check_card_with` meets its contract.
 use mathlib.Core.Path.{refl, sym, _∙_}
 use denote.Ref.{now}
+use Rattle.method.specs.Calls.{terms}
+use Rattle.method.proofs.Accepted.{files-ok, schedule-ok}
 use Rattle.iteration.proofs.States.{sheet-fits}
 use Rattle.files.proofs.Numbers.{all-bytes-known}
 use Rattle.card_truth.proofs.Judging.{formed}
@@ -16,6 +18,7 @@ use Rattle.card_input.proofs.pair_count.Reads as pair-count-reads
 use Rattle.card_pairs.proofs.shares_of.Reads as shares-of-reads
 use Rattle.calls.proofs.call_refusal.Reads as call-refusal-reads
 use Rattle.files.proofs.steps.Reads as steps-reads
+use Rattle.schedules.proofs.steps.Reads as steps-reads′
 use Rattle.card.proofs.fill.Reads as fill-reads
 use Rattle.iteration.proofs.layout_of.Reads as layout-of-reads
 
@@ -25,88 +28,100 @@ call-refusal-requires c κs = search needs
 returns : tie.Need-returns
 returns c =
     let at-call-refusal = c .before in
-    let start = at-call-refusal .before .before .before .before .before in
-    promised _ _ _ (now (start .args .shares)) (all-bytes-known _ (at-call-refusal .before .before .shared-slice-known3 .given)) (refused-by-call _ _ _ _ _ (at-call-refusal .call-refusal .ensures) (c .if1 .taken))
+    let start = at-call-refusal .before .before .before .before .before .before in
+    promised (start .args .lent) (start .args .table .now) _ _ _ (now (start .args .shares)) (all-bytes-known _ (at-call-refusal .before .before .shared-slice-known4 .given)) (refused-by-call (start .args .lent) (start .args .table .now) _ _ _ _ _ (at-call-refusal .call-refusal .ensures) (c .if1 .taken))
 
 layout-of-requires : tie.Need-layout-of-requires
-layout-of-requires c κs = search needs
+layout-of-requires c κs =
+    let start = c .before .before .before .before .before .before .before in
+    files-ok (terms (start .args .lent) (start .args .table .now)) _ _ (sym (c .before .call-refusal .ensures) ∙ c .if1 .left)
 
 returns-2 : tie.Need-returns-2
 returns-2 c =
     let at-call-refusal = c .before .before .before in
-    let start = at-call-refusal .before .before .before .before .before in
-    promised _ _ _ (now (start .args .shares)) (all-bytes-known _ (at-call-refusal .before .before .shared-slice-known3 .given)) (refused-short _ _ _ _ (sym (at-call-refusal .call-refusal .ensures) ∙ c .before .before .if1 .left) (c .before .layout-of .ensures) (c .if2 .taken))
+    let start = at-call-refusal .before .before .before .before .before .before in
+    promised (start .args .lent) (start .args .table .now) _ _ _ (now (start .args .shares)) (all-bytes-known _ (at-call-refusal .before .before .shared-slice-known4 .given)) (refused-short (start .args .lent) (start .args .table .now) _ _ _ _ (sym (at-call-refusal .call-refusal .ensures) ∙ c .before .before .if1 .left) (c .before .layout-of .ensures) (c .if2 .taken))
 
 steps-requires : tie.Need-steps-requires
-steps-requires c κs = sheet-fits _ _ (sym (c .before .before .before .call-refusal .ensures) ∙ c .before .before .if1 .left) .at-least
+steps-requires c κs =
+    let at-call-refusal = c .before .before .before in
+    let start = at-call-refusal .before .before .before .before .before .before in
+    sheet-fits _ _ (files-ok (terms (start .args .lent) (start .args .table .now)) _ _ (sym (at-call-refusal .call-refusal .ensures) ∙ c .before .before .if1 .left)) .at-least
+
+steps-requires-2 : tie.Need-steps-requires-2
+steps-requires-2 c κs = search needs
 
 form-refusal-requires : tie.Need-form-refusal-requires
-form-refusal-requires c κs = layout-boats _ _ (sym (c .before .before .before .before .call-refusal .ensures) ∙ c .before .before .before .if1 .left) (c .before .before .layout-of .ensures)
+form-refusal-requires c κs =
+    let at-layout-of = c .before .before .before in
+    let at-call-refusal = at-layout-of .before .before in
+    let start = at-call-refusal .before .before .before .before .before .before in
+    layout-boats _ _ (files-ok (terms (start .args .lent) (start .args .table .now)) _ _ (sym (at-call-refusal .call-refusal .ensures) ∙ at-layout-of .before .if1 .left)) (at-layout-of .layout-of .ensures)
 
 returns-3 : tie.Need-returns-3
 returns-3 c =
-    let at-layout-of = c .before .before .before .before in
+    let at-layout-of = c .before .before .before .before .before in
     let at-if1 = at-layout-of .before in
     let at-call-refusal = at-if1 .before in
     let accepted = sym (at-call-refusal .call-refusal .ensures) ∙ at-if1 .if1 .left in
-    let start = at-call-refusal .before .before .before .before .before in
-    promised _ _ _ (now (start .args .shares)) (all-bytes-known _ (at-call-refusal .before .before .shared-slice-known3 .given)) (refused-by-form _ _ _ _ accepted (at-layout-of .layout-of .ensures) (c .before .before .before .if2 .left) refl (c .before .before .steps .ensures) (c .before .form-refusal .ensures) (c .if3 .taken))
+    let start = at-call-refusal .before .before .before .before .before .before in
+    promised (start .args .lent) (start .args .table .now) _ _ _ (now (start .args .shares)) (all-bytes-known _ (at-call-refusal .before .before .shared-slice-known4 .given)) (refused-by-form (start .args .lent) (start .args .table .now) _ _ _ _ accepted (at-layout-of .layout-of .ensures) (c .before .before .before .before .if2 .left) refl (c .before .before .steps2 .ensures ∙ rw (c .before .before .before .steps .ensures)) (c .before .form-refusal .ensures) (c .if3 .taken))
 
 pair-count-requires : tie.Need-pair-count-requires
 pair-count-requires c κs =
-    let at-layout-of = c .before .before .before .before in
+    let at-layout-of = c .before .before .before .before .before in
     let at-if1 = at-layout-of .before in
     let at-call-refusal = at-if1 .before in
     let accepted = sym (at-call-refusal .call-refusal .ensures) ∙ at-if1 .if1 .left in
-    let start = at-call-refusal .before .before .before .before .before in
-    formed _ _ _ _ (form-zero _ _ _ (now (start .args .shares)) accepted (at-layout-of .layout-of .ensures) (c .before .before .before .if2 .left) refl (c .before .before .steps .ensures) (c .before .form-refusal .ensures) (c .if3 .left)) .readable .long
+    let start = at-call-refusal .before .before .before .before .before .before in
+    formed _ _ _ _ (form-zero (start .args .lent) (start .args .table .now) _ _ _ (now (start .args .shares)) accepted (at-layout-of .layout-of .ensures) (c .before .before .before .before .if2 .left) refl (c .before .before .steps2 .ensures ∙ rw (c .before .before .before .steps .ensures)) (c .before .form-refusal .ensures) (c .if3 .left)) .readable .long
 
 sub-shares-of : tie.Need-sub-shares-of
 sub-shares-of c =
-    let at-if2 = c .before .before .before .before in
+    let at-if2 = c .before .before .before .before .before in
     let at-layout-of = at-if2 .before in
     let at-if1 = at-layout-of .before in
     let at-call-refusal = at-if1 .before in
     let accepted = sym (at-call-refusal .call-refusal .ensures) ∙ at-if1 .if1 .left in
-    let start = at-call-refusal .before .before .before .before .before in
-    formed _ _ _ _ (form-zero _ _ _ (now (start .args .shares)) accepted (at-layout-of .layout-of .ensures) (at-if2 .if2 .left) refl (c .before .before .before .steps .ensures) (c .before .before .form-refusal .ensures) (c .before .if3 .left)) .readable .long
+    let start = at-call-refusal .before .before .before .before .before .before in
+    formed _ _ _ _ (form-zero (start .args .lent) (start .args .table .now) _ _ _ (now (start .args .shares)) accepted (at-layout-of .layout-of .ensures) (at-if2 .if2 .left) refl (c .before .before .before .steps2 .ensures ∙ rw (c .before .before .before .before .steps .ensures)) (c .before .before .form-refusal .ensures) (c .before .if3 .left)) .readable .long
 
 mul-shares-of : tie.Need-mul-shares-of
 mul-shares-of c = search needs
 
 sub-shares-of-2 : tie.Need-sub-shares-of-2
 sub-shares-of-2 c =
-    let at-if2 = c .before .before .before .before in
+    let at-if2 = c .before .before .before .before .before in
     let at-layout-of = at-if2 .before in
     let at-if1 = at-layout-of .before in
     let at-call-refusal = at-if1 .before in
     let accepted = sym (at-call-refusal .call-refusal .ensures) ∙ at-if1 .if1 .left in
-    let start = at-call-refusal .before .before .before .before .before in
-    pairs-room _ _ _ accepted (form-zero _ _ _ (now (start .args .shares)) accepted (at-layout-of .layout-of .ensures) (at-if2 .if2 .left) refl (c .before .before .before .steps .ensures) (c .before .before .form-refusal .ensures) (c .before .if3 .left)) (c .pair-count .ensures .0)
+    let start = at-call-refusal .before .before .before .before .before .before in
+    pairs-room (terms (start .args .lent) (start .args .table .now)) _ _ _ (files-ok (terms (start .args .lent) (start .args .table .now)) _ _ accepted) (form-zero (start .args .lent) (start .args .table .now) _ _ _ (now (start .args .shares)) accepted (at-layout-of .layout-of .ensures) (at-if2 .if2 .left) refl (c .before .before .before .steps2 .ensures ∙ rw (c .before .before .before .before .steps .ensures)) (c .before .before .form-refusal .ensures) (c .before .if3 .left)) (c .pair-count .ensures .0)
 
 shares-of-requires : tie.Need-shares-of-requires
 shares-of-requires c κs =
-    let at-if2 = c .before .before .before .before in
+    let at-if2 = c .before .before .before .before .before in
     let at-layout-of = at-if2 .before in
     let at-if1 = at-layout-of .before in
     let at-call-refusal = at-if1 .before in
     let accepted = sym (at-call-refusal .call-refusal .ensures) ∙ at-if1 .if1 .left in
-    let start = at-call-refusal .before .before .before .before .before in
-    pairs-asked _ _ _ accepted (form-zero _ _ _ (now (start .args .shares)) accepted (at-layout-of .layout-of .ensures) (at-if2 .if2 .left) refl (c .before .before .before .steps .ensures) (c .before .before .form-refusal .ensures) (c .before .if3 .left)) (c .pair-count .ensures .0)
+    let start = at-call-refusal .before .before .before .before .before .before in
+    pairs-asked (terms (start .args .lent) (start .args .table .now)) _ _ _ (files-ok (terms (start .args .lent) (start .args .table .now)) _ _ accepted) (form-zero (start .args .lent) (start .args .table .now) _ _ _ (now (start .args .shares)) accepted (at-layout-of .layout-of .ensures) (at-if2 .if2 .left) refl (c .before .before .before .steps2 .ensures ∙ rw (c .before .before .before .before .steps .ensures)) (c .before .before .form-refusal .ensures) (c .before .if3 .left)) (c .pair-count .ensures .0)
 
 judged-requires : tie.Need-judged-requires
 judged-requires c κs =
     let at-if3 = c .before .before in
     let at-form-refusal = at-if3 .before in
-    let at-steps = at-form-refusal .before in
-    let at-if2 = at-steps .before in
+    let at-steps2 = at-form-refusal .before in
+    let at-if2 = at-steps2 .before .before in
     let at-layout-of = at-if2 .before in
     let at-if1 = at-layout-of .before in
     let at-call-refusal = at-if1 .before in
     let accepted = sym (at-call-refusal .call-refusal .ensures) ∙ at-if1 .if1 .left in
-    let start = at-call-refusal .before .before .before .before .before in
-    let right-form = form-zero _ _ _ (now (start .args .shares)) accepted (at-layout-of .layout-of .ensures) (at-if2 .if2 .left) refl (at-steps .steps .ensures) (at-form-refusal .form-refusal .ensures) (at-if3 .if3 .left) in
-    (accepted, (at-layout-of .layout-of .ensures, formed _ _ _ _ right-form .readable))
+    let start = at-call-refusal .before .before .before .before .before .before in
+    let right-form = form-zero (start .args .lent) (start .args .table .now) _ _ _ (now (start .args .shares)) accepted (at-layout-of .layout-of .ensures) (at-if2 .if2 .left) refl (at-steps2 .steps2 .ensures ∙ rw (at-steps2 .before .steps .ensures)) (at-form-refusal .form-refusal .ensures) (at-if3 .if3 .left) in
+    (files-ok (terms (start .args .lent) (start .args .table .now)) _ _ accepted, (schedule-ok (terms (start .args .lent) (start .args .table .now)) _ _ accepted, (at-layout-of .layout-of .ensures, formed _ _ _ _ right-form .readable)))
 
 enum-known-n : tie.Need-enum-known-n
 enum-known-n c = search needs
@@ -116,26 +131,27 @@ enum-known-answer c = search needs
 
 fill-requires : tie.Need-fill-requires
 fill-requires c κs =
-    let at-if2 = c .before .before .before .before .before .before .before .before .before .before in
+    let at-if2 = c .before .before .before .before .before .before .before .before .before .before .before in
     let at-layout-of = at-if2 .before in
     let at-if1 = at-layout-of .before in
     let at-call-refusal = at-if1 .before in
     let accepted = sym (at-call-refusal .call-refusal .ensures) ∙ at-if1 .if1 .left in
-    (layout-boats _ _ accepted (at-layout-of .layout-of .ensures), at-if2 .if2 .left)
+    let start = at-call-refusal .before .before .before .before .before .before in
+    (layout-boats _ _ (files-ok (terms (start .args .lent) (start .args .table .now)) _ _ accepted) (at-layout-of .layout-of .ensures), at-if2 .if2 .left)
 
 returns-4 : tie.Need-returns-4
 returns-4 c =
     let at-if3 = c .before .before .before .before .before .before in
     let at-form-refusal = at-if3 .before in
-    let at-steps = at-form-refusal .before in
-    let at-if2 = at-steps .before in
+    let at-steps2 = at-form-refusal .before in
+    let at-if2 = at-steps2 .before .before in
     let at-layout-of = at-if2 .before in
     let at-if1 = at-layout-of .before in
     let at-call-refusal = at-if1 .before in
     let accepted = sym (at-call-refusal .call-refusal .ensures) ∙ at-if1 .if1 .left in
-    let start = at-call-refusal .before .before .before .before .before in
-    let right-form = form-zero _ _ _ (now (start .args .shares)) accepted (at-layout-of .layout-of .ensures) (at-if2 .if2 .left) refl (at-steps .steps .ensures) (at-form-refusal .form-refusal .ensures) (at-if3 .if3 .left) in
-    promised _ _ _ (now (start .args .shares)) (all-bytes-known _ (at-call-refusal .before .before .shared-slice-known3 .given)) (refused-by-truth _ _ _ _ accepted (at-layout-of .layout-of .ensures) (at-if2 .if2 .left) refl (at-steps .steps .ensures) (at-form-refusal .form-refusal .ensures) (at-if3 .if3 .left) _ (found-are _ _ _ accepted right-form (c .before .before .before .before .before .pair-count .ensures .0) (c .before .before .before .before .shares-of .ensures)) _ (sym (c .before .n .given .1) ∙ c .before .before .before .judged .ensures))
+    let start = at-call-refusal .before .before .before .before .before .before in
+    let right-form = form-zero (start .args .lent) (start .args .table .now) _ _ _ (now (start .args .shares)) accepted (at-layout-of .layout-of .ensures) (at-if2 .if2 .left) refl (at-steps2 .steps2 .ensures ∙ rw (at-steps2 .before .steps .ensures)) (at-form-refusal .form-refusal .ensures) (at-if3 .if3 .left) in
+    promised (start .args .lent) (start .args .table .now) _ _ _ (now (start .args .shares)) (all-bytes-known _ (at-call-refusal .before .before .shared-slice-known4 .given)) (refused-by-truth (start .args .lent) (start .args .table .now) _ _ _ _ accepted (at-layout-of .layout-of .ensures) (at-if2 .if2 .left) refl (at-steps2 .steps2 .ensures ∙ rw (at-steps2 .before .steps .ensures)) (at-form-refusal .form-refusal .ensures) (at-if3 .if3 .left) _ (found-are (terms (start .args .lent) (start .args .table .now)) _ _ _ (files-ok (terms (start .args .lent) (start .args .table .now)) _ _ accepted) right-form (c .before .before .before .before .before .pair-count .ensures .0) (c .before .before .before .before .shares-of .ensures)) _ (sym (c .before .n .given .1) ∙ c .before .before .before .judged .ensures))
 
 same-length : tie.Need-same-length
 same-length c = search needs
@@ -148,16 +164,16 @@ returns-5 c =
     let at-pair-count = at-shares-of .before in
     let at-if3 = at-pair-count .before in
     let at-form-refusal = at-if3 .before in
-    let at-steps = at-form-refusal .before in
-    let at-if2 = at-steps .before in
+    let at-steps2 = at-form-refusal .before in
+    let at-if2 = at-steps2 .before .before in
     let at-layout-of = at-if2 .before in
     let at-if1 = at-layout-of .before in
     let at-call-refusal = at-if1 .before in
     let accepted = sym (at-call-refusal .call-refusal .ensures) ∙ at-if1 .if1 .left in
-    let at-shared-slice-known3 = at-call-refusal .before .before in
-    let start = at-shared-slice-known3 .before .before .before in
-    let right-form = form-zero _ _ _ (now (start .args .shares)) accepted (at-layout-of .layout-of .ensures) (at-if2 .if2 .left) refl (at-steps .steps .ensures) (at-form-refusal .form-refusal .ensures) (at-if3 .if3 .left) in
-    promised _ _ _ (now (start .args .shares)) (all-bytes-known _ (at-shared-slice-known3 .shared-slice-known3 .given)) (answered _ _ _ _ accepted (at-layout-of .layout-of .ensures) (at-if2 .if2 .left) refl (at-steps .steps .ensures) (at-form-refusal .form-refusal .ensures) (at-if3 .if3 .left) _ (found-are _ _ _ accepted right-form (at-pair-count .pair-count .ensures .0) (at-shares-of .shares-of .ensures)) (search (needs, at-shares-of .shares-of .ok)) (c .before .before .fill .ensures) _ (sym (at-answer .answer .given .1) ∙ at-judged .judged .ensures))
+    let at-shared-slice-known4 = at-call-refusal .before .before in
+    let start = at-shared-slice-known4 .before .before .before .before in
+    let right-form = form-zero (start .args .lent) (start .args .table .now) _ _ _ (now (start .args .shares)) accepted (at-layout-of .layout-of .ensures) (at-if2 .if2 .left) refl (at-steps2 .steps2 .ensures ∙ rw (at-steps2 .before .steps .ensures)) (at-form-refusal .form-refusal .ensures) (at-if3 .if3 .left) in
+    promised (start .args .lent) (start .args .table .now) _ _ _ (now (start .args .shares)) (all-bytes-known _ (at-shared-slice-known4 .shared-slice-known4 .given)) (answered (start .args .lent) (start .args .table .now) _ _ _ _ accepted (at-layout-of .layout-of .ensures) (at-if2 .if2 .left) refl (at-steps2 .steps2 .ensures ∙ rw (at-steps2 .before .steps .ensures)) (at-form-refusal .form-refusal .ensures) (at-if3 .if3 .left) _ (found-are (terms (start .args .lent) (start .args .table .now)) _ _ _ (files-ok (terms (start .args .lent) (start .args .table .now)) _ _ accepted) right-form (at-pair-count .pair-count .ensures .0) (at-shares-of .shares-of .ensures)) (search (needs, at-shares-of .shares-of .ok)) (c .before .before .fill .ensures) _ (sym (at-answer .answer .given .1) ∙ at-judged .judged .ensures))
 
 pub check-card-with-spec : {M : Type 1} → statement M
 check-card-with-spec =
@@ -168,6 +184,7 @@ check-card-with-spec =
     layout-of-requires
     returns-2
     steps-requires
+    steps-requires-2
     form-refusal-requires
     returns-3
     pair-count-requires
