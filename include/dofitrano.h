@@ -17,6 +17,7 @@
 #ifndef DOFITRANO_H
 #define DOFITRANO_H
 
+#include <stdbool.h>
 #include <stddef.h>
 #include <stdint.h>
 
@@ -49,14 +50,18 @@ enum dofitrano_refusal {
     /* the calling program */
     DOFITRANO_SHARE_LIST = 21,  /* share list shorter than the number of boats */
     DOFITRANO_CARD_BUFFER = 22, /* card buffer shorter than the card */
+    /* a table of shares that is lent */
+    DOFITRANO_TABLE_LENGTH = 49, /* no entry, or more than 360 */
+    DOFITRANO_TABLE_ENTRY = 50,  /* an entry of 0, or one whose square is above twice the running total that includes it */
+    DOFITRANO_TABLE_TOTAL = 51,  /* a final total above 64,980 */
     /* the card */
     DOFITRANO_CARD_LENGTH = 31,    /* shorter than 36 or longer than 40,000 bytes */
     DOFITRANO_CARD_LETTERS = 32,   /* letters not WCD1 or WCD2 */
     DOFITRANO_CARD_SIZES = 33,     /* boats or columns differ from the book's */
-    DOFITRANO_CARD_STEPS = 34,     /* verdict outside 1 to 3, or steps used 0 or above the sheet's */
+    DOFITRANO_CARD_STEPS = 34,     /* verdict outside 1 to 3, or steps used 0 or above the steps asked */
     DOFITRANO_CARD_BACK = 35,      /* back 0, no multiple of 4, above 4 x boats, or before the first byte */
     DOFITRANO_CARD_BOATS = 36,     /* boats not strictly ascending, a boat not in the book, or a share of 0 */
-    DOFITRANO_CARD_SHARES = 37,    /* more boats than steps used, or shares not totalling t (t + 1) / 2 */
+    DOFITRANO_CARD_SHARES = 37,    /* more boats than steps used, or shares not totalling W of those steps */
     DOFITRANO_CARD_UNTRUE = 38,    /* E, G or the verdict, judged by the test of the letters, untrue of the shares */
     DOFITRANO_CARD_TOLERANCE = 39, /* tolerance differs from the sheet's */
     /* the scale cells */
@@ -72,7 +77,7 @@ enum dofitrano_refusal {
 enum dofitrano_verdict {
     DOFITRANO_WITHIN = 1, /* the squared distance is at most the tolerance */
     DOFITRANO_BEYOND = 2, /* the squared distance of every mixture is above the tolerance */
-    DOFITRANO_SPENT = 3   /* neither was shown by the sheet's last step */
+    DOFITRANO_SPENT = 3   /* neither was shown by the last step asked */
 };
 
 /* The answer of a call. Where the call is refused, every field but `refusal` is 0: there is no answer to give. */
@@ -80,7 +85,7 @@ typedef struct dofitrano_reply {
     uint32_t refusal;   /* the number that refuses the call, 0 for an answer */
     uint32_t verdict;   /* 1 Within, 2 Beyond, 3 Spent */
     uint32_t steps;     /* t, the steps used */
-    uint32_t weight;    /* W = t (t + 1) / 2, the total of the shares */
+    uint32_t weight;    /* W, the total of the shares: t (t + 1) / 2, or that of the first t entries of a lent table */
     uint64_t distance;  /* E: the squared distance, each column times the sheet's factor for it, is E / W^2 */
     uint64_t gap;       /* G: the gap is G / W^2 */
     int64_t floor;      /* of Beyond: E - 2 G, which may be below 0; else 0 */
@@ -116,6 +121,29 @@ dofitrano_reply dofitrano_check_card(const uint8_t *book, size_t book_length,
                                      const uint8_t *sheet, size_t sheet_length,
                                      const uint8_t *card, size_t card_length,
                                      uint16_t *shares, size_t slots);
+
+/* A table of shares may be lent to the search, the card writer and the card check: step k then takes entry k in place of k, and W is the
+ * table's running total. A table has 1 to 360 entries, each above 0 with a square of at most twice the running total that includes it,
+ * of a total of at most 64,980. With `lent` false no table is lent: it is not read, and the call does what its namesake without one does.
+ * With `lent` true the call refuses by 49, 50 or 51 first, then as its namesake does; a table of no entry is refused by 49. A sheet that
+ * asks for more steps than the table has entries counts as asking for their number, also in 34 and 38; 14 judges the sheet's own
+ * number. Nothing on a card says which table made it: keep the table beside the card. */
+dofitrano_reply dofitrano_search_with(const uint8_t *book, size_t book_length,
+                                      const uint8_t *sheet, size_t sheet_length,
+                                      bool lent, const uint16_t *table, size_t entries,
+                                      uint16_t *shares, size_t slots);
+
+dofitrano_card_reply dofitrano_write_card_with(const uint8_t *book, size_t book_length,
+                                               const uint8_t *sheet, size_t sheet_length,
+                                               bool lent, const uint16_t *table, size_t entries,
+                                               uint8_t *output, size_t output_length);
+
+/* An accepted card vouches for what it says with this table, whichever made it. */
+dofitrano_reply dofitrano_check_card_with(const uint8_t *book, size_t book_length,
+                                          const uint8_t *sheet, size_t sheet_length,
+                                          bool lent, const uint16_t *table, size_t entries,
+                                          const uint8_t *card, size_t card_length,
+                                          uint16_t *shares, size_t slots);
 
 /* A part of one of two cards: its body and trailer, without front text. Where the call is refused, an empty part of the first. */
 typedef struct dofitrano_choice {

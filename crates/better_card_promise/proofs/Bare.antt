@@ -10,7 +10,7 @@ use Rattle.files.specs.Bytes.{all-bytes}
 use Rattle.files.specs.Book.{boats}
 use Rattle.files.specs.Sheet.{files-refusal}
 use Rattle.files.specs.Front.{same-file, other-front}
-use Rattle.method.specs.Problem.{problem}
+use Rattle.method.specs.Problem.{problem, plain-terms, call-problem}
 use Rattle.method.proofs.Weights.{fixed-fits, weight-positive}
 use Rattle.card_format.specs.Format.{pairs, trailer-bytes, card-fields, card-shares, card-answer}
 use Rattle.card_format.specs.Checks.{card-refusal}
@@ -39,11 +39,11 @@ bare-behind w w′ (other-front f g x h i j) = bare-front g x h ∙ sym (bare-fr
 module _ (b s w : List ℕ) (ok : files-refusal b s ≡ 0) (all : all-bytes w ≡ true) (e : card-refusal b s w ≡ 0) where
   is-true : Card-true b s w
   unfolding Accepted-exactly
-  is-true = accepted-exactly b s w ok all .0 e
+  is-true = accepted-exactly plain-terms b s w ok all .0 e
 
   fields-are : card-fields w ≡ is-true .own
   unfolding Accepted-exactly
-  fields-are = accepted-exactly b s w ok all .1 is-true .1
+  fields-are = accepted-exactly plain-terms b s w ok all .1 is-true .1
 
   abbrev rest : List ℕ
   rest = pairs 0 (is-true .shares) ++ trailer-bytes (is-true .test) (is-true .own)
@@ -99,13 +99,13 @@ module _ (b s w : List ℕ) (ok : files-refusal b s ≡ 0) (all : all-bytes w �
   pub reads-back : Reads-back b s (bare w) (card-answer b s w) (card-shares (boats b) w)
   unfolding Accepted-exactly bare-true
   reads-back =
-      let t = accepted-exactly b s w ok all .1 is-true in
-      let u = accepted-exactly b s (bare w) ok bare-bytes .1 bare-true in
+      let t = accepted-exactly plain-terms b s w ok all .1 is-true in
+      let u = accepted-exactly plain-terms b s (bare w) ok bare-bytes .1 bare-true in
       record { accepted = u .0; answer = u .4 ∙ sym (t .4); shares = u .2 ∙ sym (t .2) }
 
   some-weight : 1 ≤ card-answer b s w .weight
-  unfolding Accepted-vouches problem
-  some-weight = let v = accepted-vouches b s w ok all e .answer in omega (arith, v .weight, weight-positive fixed-fits (v .some-step))
+  unfolding Accepted-vouches call-problem
+  some-weight = let v = accepted-vouches plain-terms b s w ok all e .answer in omega (arith, v .weight, weight-positive fixed-fits (v .some-step))
 
   pub own-distance : Is-distance (squared-distance (card-answer b s w)) (card-answer b s w)
   own-distance = distance-is (card-answer b s w) some-weight

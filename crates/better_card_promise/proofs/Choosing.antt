@@ -10,6 +10,7 @@ use borrow.Author.Tests.{ltb-true, ltb-false}
 use lib.Dec.{eqb, eqb·suc-zero}
 use lib.ListN.{length, length-append}
 use lib.Seq.{take-all}
+use Rattle.method.specs.Problem.{plain-terms}
 use Rattle.files.specs.Bytes.{all-bytes}
 use Rattle.files.specs.Sheet.{files-refusal}
 use Rattle.files.specs.Editions.{Editions}
@@ -24,7 +25,7 @@ use Rattle.method.specs.Fractions.{_≤ℚ_, _<ℚ_}
 use Rattle.method.proofs.Promise.{outcome-refused, outcome-answered}
 use Rattle.listing.proofs.Outcomes.{same-refusal}
 use Rattle.card_format.specs.Format.{card-fields, card-answer}
-use Rattle.card_format.specs.Checks.{card-refusal, check-refusal}
+use Rattle.card_format.specs.Checks.{card-refusal, check-refusal, check-refusal-with}
 use Rattle.card_format.specs.Truth.{Card-true, Accepted-exactly}
 use Rattle.card_format.specs.Front.{Same-card, Cards-alike, Card-front-unread}
 use Rattle.card_format.proofs.Editions.{same-card-refusal, same-card-answer}
@@ -47,7 +48,7 @@ in-turn (suc f) m n = simp (eqb·suc-zero f)
 module _ (b s x y : List ℕ) where
   -- as the check refuses, with a list of 256 slots, which serves any book
   pub as-checked : better-refusal b s x y ≡ cond (eqb (check-refusal b s x 256) 0) (check-refusal b s y 256) (check-refusal b s x 256)
-  unfolding better-refusal check-refusal
+  unfolding better-refusal check-refusal-with
   as-checked = simp (same-refusal b s) (in-turn (files-refusal b s) (card-refusal b s x) (card-refusal b s y))
 
   pub accepted : better-refusal b s x y ≡ 0 → (files-refusal b s ≡ 0) × ((card-refusal b s x ≡ 0) × (card-refusal b s y ≡ 0))
@@ -208,19 +209,19 @@ module _ (b s x y : List ℕ) (ax : all-bytes x ≡ true) (ay : all-bytes y ≡ 
   exactly : files-refusal b s ≡ 0 → (better-refusal b s x y ≡ 0) ↔ (Card-true b s x × Card-true b s y)
   unfolding Accepted-exactly
   exactly ok =
-      let p = accepted-exactly b s x ok ax in
-      let q = accepted-exactly b s y ok ay in (
+      let p = accepted-exactly plain-terms b s x ok ax in
+      let q = accepted-exactly plain-terms b s y ok ay in (
         λ e. let a = accepted b s x y e in (p .0 (a .1 .0), q .0 (a .1 .1)),
         λ t. refusal-after b s x y ok (p .1 (t .0) .0) ∙ q .1 (t .1) .0,
       )
 
   same-number : (s′ : List ℕ) → Editions s s′ → better-refusal b s′ x y ≡ better-refusal b s x y
   unfolding better-refusal
-  same-number s′ d = rw (same-files b s s′ d, same-card-refusal b s s′ d x, same-card-refusal b s s′ d y)
+  same-number s′ d = rw (same-files plain-terms b s s′ d, same-card-refusal plain-terms b s s′ d x, same-card-refusal plain-terms b s s′ d y)
 
   same-part : (s′ : List ℕ) → Editions s s′ → better-part b s′ x y ≡ better-part b s x y
   unfolding better-part better better-number
-  same-part s′ d = rw (same-number s′ d, same-card-answer b s s′ d x, same-card-answer b s s′ d y)
+  same-part s′ d = rw (same-number s′ d, same-card-answer plain-terms b s s′ d x, same-card-answer plain-terms b s s′ d y)
 
   -- of files and cards that differ in front text alone
   module _ {b′ s′ x′ y′ : List ℕ} (d : Files-alike b s b′ s′) (dx : Cards-alike b s x b′ s′ x′) (dy : Cards-alike b s y b′ s′ y′) where
@@ -246,8 +247,8 @@ module _ (b s x y : List ℕ) (ax : all-bytes x ≡ true) (ay : all-bytes y ≡ 
   unfolding Files-front-unread Card-front-unread
   fronts b′ s′ x′ y′ hb hs hx hy =
       let d = files-front-unread b s b′ s′ hb hs in
-      let dx = card-front-unread b s x b′ s′ x′ hb hs hx in
-      let dy = card-front-unread b s y b′ s′ y′ hb hs hy in
+      let dx = card-front-unread plain-terms b s x b′ s′ x′ hb hs hx in
+      let dy = card-front-unread plain-terms b s y b′ s′ y′ hb hs hy in
       (refusal-behind d dx dy, (number-behind d dx dy, part-behind d dx dy (bare-behind x x′ hx) (bare-behind y y′ hy)))
 
   pub better-right : {n : ℕ} {part : List ℕ} → n ≡ better-refusal b s x y → part ≡ better-part b s x y → Better-right b s x y n part

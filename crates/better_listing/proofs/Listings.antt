@@ -6,7 +6,7 @@ use borrow.Author.Tests.{eq-eqb, ne-eqb}
 use lib.Dec.{eqb·suc-zero}
 use Rattle.method.specs.declared.Searched.the-variants.{Refused}
 use Rattle.method.specs.Answers.{outcome}
-use Rattle.card_format.specs.Checks.{check-refusal}
+use Rattle.card_format.specs.Checks.{check-refusal, check-refusal-with}
 use Rattle.listing.specs.Lines.{outcome-listing}
 use Rattle.listing.proofs.Outcomes.{same-refusal}
 use Rattle.text.specs.Texts.{Holds}
@@ -30,7 +30,7 @@ module _ (b s w slots : List ℕ) {n : ℕ} {t : Text} where
 module _ (b s x y part : List ℕ) where
   -- the part is listed as the better card
   listed : (n : ℕ) → n ≡ better-refusal b s x y → Better-right b s x y n part → part-listing b s part n ≡ better-listing b s x y
-  unfolding part-listing better-listing card-listing check-refusal outcome outcome-listing
+  unfolding part-listing better-listing card-listing check-refusal-with outcome outcome-listing
   listed zero e h =
       let r = h .chosen refl .reads-back in
       rw (same-refusal b s, ← e, accepted b s x y (sym e) .0, r .accepted, r .answer, r .shares)

@@ -5,13 +5,14 @@ use mathlib.Core.List.{List}
 use Prim.Native.Nat.{ℕ, zero, suc}
 use native.Mathlib.Omega.{arith}
 use lib.ListN.{length, drop, set, replicate, length-set, length-replicate}
+use Rattle.method.specs.Problem.{plain-terms}
 use Rattle.files.specs.Bytes.{all-bytes, number}
 use Rattle.files.specs.Book.{boats}
 use Rattle.files.specs.Sheet.{files-refusal}
 use Rattle.method.specs.declared.Searched.{Searched}
 use Rattle.method.specs.Answers.{outcome, search-refusal, slots-after}
 use Rattle.card_format.specs.Format.{shares-into, card-shares, card-answer}
-use Rattle.card_format.specs.Checks.{card-refusal, check-refusal}
+use Rattle.card_format.specs.Checks.{card-refusal, check-refusal, check-refusal-with}
 use Rattle.listing.specs.Lines.{outcome-listing, Listable}
 use Rattle.text.specs.Texts.{Holds}
 use Rattle.text.specs.declared.Text.{Text}
@@ -32,16 +33,16 @@ shares-length n w = length-into _ _ (replicate n 0) ∙ length-replicate n 0
 
 -- a check that refuses nothing has files that are not refused
 files-pass : (b s w : List ℕ) → check-refusal b s w 256 ≡ 0 → files-refusal b s ≡ 0
-unfolding check-refusal
+unfolding check-refusal-with
 files-pass b s w h = sym (same-refusal b s) ∙ both-zero (search-refusal b s 256) (card-refusal b s w) h .0
 
 -- what the check promises holds of what is listed
 same-check : (b s w : List ℕ) → check-refusal b s w 256 ≡ check-refusal b s w (length (card-shares (boats b) w))
-unfolding check-refusal
+unfolding check-refusal-with
 same-check b s w = rw (same-refusal b s, long-enough b s (length (card-shares (boats b) w)) (λ ok. omega (arith, shares-length (boats b) w)))
 
 pub listed-right : (b s w : List ℕ) → all-bytes w ≡ true → Check-right b s w (card-outcome b s w) (card-shares (boats b) w)
-listed-right b s w all = check-right b s w (card-shares (boats b) w) all (same-check b s w) refl (sym (after-itself (check-refusal b s w 256) (card-shares (boats b) w)))
+listed-right b s w all = check-right plain-terms b s w (card-shares (boats b) w) all (same-check b s w) refl (sym (after-itself (check-refusal b s w 256) (card-shares (boats b) w)))
 
 module _ (b s w slots : List ℕ) {r : Searched} (e : r ≡ outcome (check-refusal b s w 256) (card-answer b s w)) where
   pub check-listable : Listable b s r

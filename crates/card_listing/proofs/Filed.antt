@@ -9,12 +9,12 @@ use lib.Dec.{ltb, eqb·suc-zero}
 use lib.ListN.{length, take, drop}
 use lib.Seq.{take-at}
 use Rattle.files.specs.Sheet.{files-refusal}
-use Rattle.method.specs.Problem.{problem}
+use Rattle.method.specs.Problem.{problem, plain-terms}
 use Rattle.method.specs.Answers.{outcome, slots-after, run-answer}
 use Rattle.card_format.specs.declared.Written.{Written}
 use Rattle.card_format.specs.Filing.{written-size, filing, Filing-right}
 use Rattle.card_format.specs.Format.{card-limit, run-card}
-use Rattle.card_format.specs.Checks.{write-refusal, check-refusal}
+use Rattle.card_format.specs.Checks.{write-refusal, check-refusal, check-refusal-with, write-refusal-with}
 use Rattle.card_format.specs.Truth.{Written-accepted, Written-short}
 use Rattle.card_format.proofs.RunCards.{written-accepted, written-short}
 use Rattle.listing.specs.Lines.{outcome-listing}
@@ -27,8 +27,8 @@ use Rattle.card_listing.specs.Cards.{card-listing, search-filing, search
 module _ (b s : List ℕ) where
   -- no card is longer than 1,060 bytes
   write-refusal-is : (n : ℕ) → n ≡ files-refusal b s → write-refusal b s card-limit ≡ n
-  unfolding write-refusal Written-short
-  write-refusal-is zero e = let q : ltb card-limit (length (run-card b s)) ≡ false = le-ltb card-limit (length (run-card b s)) (written-short b s (sym e)) in rw (← e, q)
+  unfolding write-refusal-with Written-short
+  write-refusal-is zero e = let q : ltb card-limit (length (run-card b s)) ≡ false = le-ltb card-limit (length (run-card b s)) (written-short plain-terms b s (sym e)) in rw (← e, q)
   write-refusal-is (suc n) e = rw (← e, eqb·suc-zero n)
 
   -- what stands in the buffer's first bytes, as many as were written
@@ -44,14 +44,14 @@ module _ (b s : List ℕ) where
 
   card-fits : (n : ℕ) → n ≡ files-refusal b s → length (search-card b s) ≤ card-limit
   unfolding search-card Written-short
-  card-fits zero e = rw (← e) (written-short b s (sym e))
+  card-fits zero e = rw (← e) (written-short plain-terms b s (sym e))
   card-fits (suc n) e = rw (← e, eqb·suc-zero n) (omega arith)
 
   -- the check of that card says what the search says
   listing-by-number : (n : ℕ) → n ≡ files-refusal b s → card-listing b s (search-card b s) ≡ search-listing b s
-  unfolding card-listing search-listing search-card check-refusal outcome outcome-listing Written-accepted Written-short
+  unfolding card-listing search-listing search-card check-refusal-with outcome outcome-listing Written-accepted Written-short
   listing-by-number zero e =
-      let w = written-accepted b s [] (sym e) (omega (arith, written-short b s (sym e))) in
+      let w = written-accepted plain-terms b s [] (sym e) (omega (arith, written-short plain-terms b s (sym e))) in
       rw (same-refusal b s, ← e, w .0, w .1, w .2)
   listing-by-number (suc n) e = rw (same-refusal b s, ← e, eqb·suc-zero n)
 

@@ -9,6 +9,7 @@ use borrow.Author.Tests.{eq-eqb, le-ltb}
 use lib.Dec.{eqb, ltb}
 use lib.ListN.{length, take, drop, length-append}
 use lib.Seq.{drop-append-add, take-at, length-take-le}
+use Rattle.method.specs.Problem.{plain-terms}
 use Rattle.frank_wolfe.specs.Vectors.{ones}
 use Rattle.files.specs.Bytes.{all-bytes, same, number, trailer}
 use Rattle.files.specs.Sheet.{Sheet, sheet, sheet-columns, WSH1, WSH2, sheet-lettered, factor-bytes, sheet-back, target-offset, sheet-refusal-in, sheet-refusal}
@@ -78,11 +79,11 @@ twice s o f l q = rw (f, l, q, not-not)
 module _ (b s o : List ℕ) (d : Editions s o) where
   same-number : (x y : List ℕ) → better-refusal b o x y ≡ better-refusal b s x y
   unfolding better-refusal
-  same-number x y = rw (same-files b s o d, same-card-refusal b s o d x, same-card-refusal b s o d y)
+  same-number x y = rw (same-files plain-terms b s o d, same-card-refusal plain-terms b s o d x, same-card-refusal plain-terms b s o d y)
 
   same-chosen : (x y : List ℕ) → better-number b o x y ≡ better-number b s x y
   unfolding better-number
-  same-chosen x y = rw (same-card-answer b s o d x, same-card-answer b s o d y)
+  same-chosen x y = rw (same-card-answer plain-terms b s o d x, same-card-answer plain-terms b s o d y)
 
   same-better : (x y : List ℕ) → (better-part b o x y ≡ better-part b s x y) × (choice b o x y ≡ choice b s x y)
   unfolding better-part choice better
@@ -91,14 +92,14 @@ module _ (b s o : List ℕ) (d : Editions s o) where
   same-outcomes : Same-outcomes b s o
   same-outcomes =
       record {
-        search = λ slots. (rw (same-search b s o (length slots) d, same-problem b s o d), rw (same-search b s o (length slots) d, same-problem b s o d));
+        search = λ slots. (rw (same-search plain-terms b s o (length slots) d, same-problem plain-terms b s o d), rw (same-search plain-terms b s o (length slots) d, same-problem plain-terms b s o d));
         writer = λ out. (
-          rw (same-writing b s o d (length out), same-problem b s o d, same-run-card b s o d),
-          rw (same-writing b s o d (length out), same-run-card b s o d),
+          rw (same-writing plain-terms b s o d (length out), same-problem plain-terms b s o d, same-run-card plain-terms b s o d),
+          rw (same-writing plain-terms b s o d (length out), same-run-card plain-terms b s o d),
         );
         check = λ w slots. (
-          rw (same-check b s o d w (length slots), same-card-answer b s o d w),
-          rw (same-check b s o d w (length slots)),
+          rw (same-check plain-terms b s o d w (length slots), same-card-answer plain-terms b s o d w),
+          rw (same-check plain-terms b s o d w (length slots)),
         );
         better = λ x y. (same-number x y, same-better x y);
       }

@@ -18,7 +18,7 @@ pub struct Reply {
     pub verdict: u32,
     // t, the steps used
     pub steps: u32,
-    // W = t (t + 1) / 2
+    // W, the total of the shares
     pub weight: u32,
     // E, the squared distance times W²
     pub distance: u64,

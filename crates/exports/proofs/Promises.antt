@@ -3,10 +3,11 @@ use mathlib.Core.Path.{_≡_, subst}
 use mathlib.Core.List.{List}
 use Prim.Native.Nat.{ℕ}
 use Rattle.method.specs.declared.Searched.{Searched}
-use Rattle.method.specs.Promise.{Outcome-right}
+use Rattle.method.specs.Problem.{Terms}
+use Rattle.method.specs.Promise.{Outcome-right-with}
 use Rattle.card_format.specs.declared.Written.{Written}
-use Rattle.card_format.specs.Checking.{Check-right}
-use Rattle.card_format.specs.Filing.{Filing-right}
+use Rattle.card_format.specs.Checking.{Check-right-with}
+use Rattle.card_format.specs.Filing.{Filing-right-with}
 use Rattle.editions.specs.declared.Rewritten.{Rewritten}
 use Rattle.editions.specs.Promise.{Edition-right}
 use Rattle.scale_cells.specs.declared.ScaleCell.{ScaleCell}
@@ -17,14 +18,14 @@ use Rattle.scale_sheet.specs.declared.ScaleSheet.{ScaleSheet}
 use Rattle.scale_sheet.specs.Sheets.{scale-sheet}
 use Rattle.scale_sheet.specs.Promise.{Sheet-right}
 
-pub searched-right : (b s : List ℕ) {r o : Searched} {slots after : List ℕ} → r ≡ o → slots ≡ after → Outcome-right b s r slots → Outcome-right b s o slots
-searched-right b s {slots = q} e f h = subst (λ x. Outcome-right b s x q) e h
+pub searched-right : (m : Terms) (b s : List ℕ) {r o : Searched} {slots after : List ℕ} → r ≡ o → slots ≡ after → Outcome-right-with m b s r slots → Outcome-right-with m b s o slots
+searched-right m b s {slots = q} e f h = subst (λ x. Outcome-right-with m b s x q) e h
 
-pub checked-right : (b s w : List ℕ) {r o : Searched} {slots after : List ℕ} → r ≡ o → slots ≡ after → Check-right b s w r slots → Check-right b s w o slots
-checked-right b s w {slots = q} e f h = subst (λ x. Check-right b s w x q) e h
+pub checked-right : (m : Terms) (b s w : List ℕ) {r o : Searched} {slots after : List ℕ} → r ≡ o → slots ≡ after → Check-right-with m b s w r slots → Check-right-with m b s w o slots
+checked-right m b s w {slots = q} e f h = subst (λ x. Check-right-with m b s w x q) e h
 
-pub filed-right : (b s : List ℕ) {r o : Written} {output after : List ℕ} → r ≡ o → output ≡ after → Filing-right b s r output → Filing-right b s o output
-filed-right b s {output = q} e f h = subst (λ x. Filing-right b s x q) e h
+pub filed-right : (m : Terms) (b s : List ℕ) {r o : Written} {output after : List ℕ} → r ≡ o → output ≡ after → Filing-right-with m b s r output → Filing-right-with m b s o output
+filed-right m b s {output = q} e f h = subst (λ x. Filing-right-with m b s x q) e h
 
 pub edition-right : (s : List ℕ) {r o : Rewritten} {output after : List ℕ} → r ≡ o → output ≡ after → Edition-right s r output → Edition-right s o output
 edition-right s {output = q} e f h = subst (λ x. Edition-right s x q) e h

@@ -1,21 +1,24 @@
 // The library for programs in other languages: thin exported functions over the entries of the other crates.
 //
-// Entries, which ask nothing of their caller: dofitrano_search, dofitrano_write_card, dofitrano_check_card, dofitrano_listing,
-// dofitrano_sheet_values, dofitrano_scale_sheet, dofitrano_better_card, dofitrano_other_edition, dofitrano_merge_books.
+// Entries, which ask nothing of their caller: dofitrano_search, dofitrano_write_card, dofitrano_check_card, each also with a lent table
+// (dofitrano_search_with, ..), dofitrano_listing, dofitrano_sheet_values, dofitrano_scale_sheet, dofitrano_better_card,
+// dofitrano_other_edition, dofitrano_merge_books.
 // A slice passes as a pointer and a length; include/dofitrano.h declares the functions for C and says what a caller in another
 // language must see to. The first clause of a contract gives the reply, the second every slot or byte that was lent, the third
 // what the entry behind it promises of both.
 ghost use mathlib.Core.Path.{_≡_};
+ghost use mathlib.Core.Bool.{false};
 ghost use Prim.Native.Nat.{_+_, _≤_};
 ghost use lib.ListN.{length};
-ghost use Rattle.method.specs.Problem.{problem};
-ghost use Rattle.method.specs.Answers.{outcome, search-refusal, slots-after, run-answer, run-iterate};
+ghost use Rattle.method.specs.Problem.{plain-terms, call-problem, problem};
+ghost use Rattle.method.specs.Calls.{terms};
+ghost use Rattle.method.specs.Answers.{outcome, search-refusal-with, search-refusal, slots-after, run-answer, run-iterate};
 ghost use Rattle.files.specs.Book.{boats};
-ghost use Rattle.card_format.specs.Format.{card-shares, card-answer, run-card};
-ghost use Rattle.card_format.specs.Checks.{write-refusal, check-refusal};
-ghost use Rattle.card_format.specs.Filing.{filing, Filing-right};
-ghost use Rattle.card_format.specs.Checking.{Check-right};
-ghost use Rattle.method.specs.Promise.{Outcome-right};
+ghost use Rattle.card_format.specs.Format.{card-shares, card-answer-with, card-answer, run-card-with, run-card};
+ghost use Rattle.card_format.specs.Checks.{write-refusal-with, write-refusal, check-refusal-with, check-refusal};
+ghost use Rattle.card_format.specs.Filing.{filing, Filing-right-with, Filing-right};
+ghost use Rattle.card_format.specs.Checking.{Check-right-with, Check-right};
+ghost use Rattle.method.specs.Promise.{Outcome-right-with, Outcome-right};
 ghost use Rattle.search_listing.specs.Searches.{search-outcome, search-shares, search-listing};
 ghost use Rattle.exported_types.specs.Replies.{reply-of, card-reply-of, edition-reply-of};
 ghost use Rattle.exports.specs.Buffers.{bytes-after, bytes-put};
@@ -74,6 +77,61 @@ pub extern "C" fn dofitrano_write_card(book: &[u8], sheet: &[u8], output: &mut [
     ensures { λ _. ⌜ Filing-right (now (book .entry)) (now (sheet .entry)) (filing (write-refusal (now (book .entry)) (now (sheet .entry)) (length (now (output .entry)))) (run-answer (problem (now (book .entry)) (now (sheet .entry)))) (length (run-card (now (book .entry)) (now (sheet .entry))))) (now (output .exit)) ⌝ }
 {
     let written = card::write_card(book, sheet, &mut *output);
+    exported_types::card_reply_of(written)
+}
+
+// ENTRY. The search with a lent table for other languages: the reply of `search_with`, and the share list's slots afterwards.
+#[no_mangle]
+pub extern "C" fn dofitrano_search_with(
+    book: &[u8],
+    sheet: &[u8],
+    lent: bool,
+    table: &[u16],
+    shares: &mut [u16],
+) -> Reply
+    ensures { λ r. ⌜ r ≡ reply-of (outcome (search-refusal-with (terms lent (now (table .entry))) (now (book .entry)) (now (sheet .entry)) (length (now (shares .entry)))) (run-answer (call-problem (terms lent (now (table .entry))) (now (book .entry)) (now (sheet .entry))))) ⌝ }
+    ensures { λ _. ⌜ now (shares .exit) ≡ slots-after (search-refusal-with (terms lent (now (table .entry))) (now (book .entry)) (now (sheet .entry)) (length (now (shares .entry)))) (run-iterate (call-problem (terms lent (now (table .entry))) (now (book .entry)) (now (sheet .entry))) .shares) (now (shares .entry)) ⌝ }
+    ensures { λ _. ⌜ Outcome-right-with (terms lent (now (table .entry))) (now (book .entry)) (now (sheet .entry)) (outcome (search-refusal-with (terms lent (now (table .entry))) (now (book .entry)) (now (sheet .entry)) (length (now (shares .entry)))) (run-answer (call-problem (terms lent (now (table .entry))) (now (book .entry)) (now (sheet .entry))))) (now (shares .exit)) ⌝ }
+    ensures { λ _. ⌜ (lent ≡ false → (terms lent (now (table .entry))) ≡ plain-terms) ⌝ }
+{
+    let found = search::search_with(book, sheet, lent, table, &mut *shares);
+    exported_types::reply_of(found)
+}
+
+// ENTRY. The card check with a lent table for other languages: the reply of `check_card_with`, and the share list's slots afterwards.
+#[no_mangle]
+pub extern "C" fn dofitrano_check_card_with(
+    book: &[u8],
+    sheet: &[u8],
+    lent: bool,
+    table: &[u16],
+    card: &[u8],
+    shares: &mut [u16],
+) -> Reply
+    ensures { λ r. ⌜ r ≡ reply-of (outcome (check-refusal-with (terms lent (now (table .entry))) (now (book .entry)) (now (sheet .entry)) (now (card .entry)) (length (now (shares .entry)))) (card-answer-with (terms lent (now (table .entry))) (now (book .entry)) (now (sheet .entry)) (now (card .entry)))) ⌝ }
+    ensures { λ _. ⌜ now (shares .exit) ≡ slots-after (check-refusal-with (terms lent (now (table .entry))) (now (book .entry)) (now (sheet .entry)) (now (card .entry)) (length (now (shares .entry)))) (card-shares (boats (now (book .entry))) (now (card .entry))) (now (shares .entry)) ⌝ }
+    ensures { λ _. ⌜ Check-right-with (terms lent (now (table .entry))) (now (book .entry)) (now (sheet .entry)) (now (card .entry)) (outcome (check-refusal-with (terms lent (now (table .entry))) (now (book .entry)) (now (sheet .entry)) (now (card .entry)) (length (now (shares .entry)))) (card-answer-with (terms lent (now (table .entry))) (now (book .entry)) (now (sheet .entry)) (now (card .entry)))) (now (shares .exit)) ⌝ }
+    ensures { λ _. ⌜ (lent ≡ false → (terms lent (now (table .entry))) ≡ plain-terms) ⌝ }
+{
+    let found = card::check_card_with(book, sheet, lent, table, card, &mut *shares);
+    exported_types::reply_of(found)
+}
+
+// ENTRY. The card writer with a lent table for other languages: the reply of `write_card_with`, and the buffer's bytes afterwards.
+#[no_mangle]
+pub extern "C" fn dofitrano_write_card_with(
+    book: &[u8],
+    sheet: &[u8],
+    lent: bool,
+    table: &[u16],
+    output: &mut [u8],
+) -> CardReply
+    ensures { λ r. ⌜ r ≡ card-reply-of (filing (write-refusal-with (terms lent (now (table .entry))) (now (book .entry)) (now (sheet .entry)) (length (now (output .entry)))) (run-answer (call-problem (terms lent (now (table .entry))) (now (book .entry)) (now (sheet .entry)))) (length (run-card-with (terms lent (now (table .entry))) (now (book .entry)) (now (sheet .entry))))) ⌝ }
+    ensures { λ _. ⌜ now (output .exit) ≡ slots-after (write-refusal-with (terms lent (now (table .entry))) (now (book .entry)) (now (sheet .entry)) (length (now (output .entry)))) (run-card-with (terms lent (now (table .entry))) (now (book .entry)) (now (sheet .entry))) (now (output .entry)) ⌝ }
+    ensures { λ _. ⌜ Filing-right-with (terms lent (now (table .entry))) (now (book .entry)) (now (sheet .entry)) (filing (write-refusal-with (terms lent (now (table .entry))) (now (book .entry)) (now (sheet .entry)) (length (now (output .entry)))) (run-answer (call-problem (terms lent (now (table .entry))) (now (book .entry)) (now (sheet .entry)))) (length (run-card-with (terms lent (now (table .entry))) (now (book .entry)) (now (sheet .entry))))) (now (output .exit)) ⌝ }
+    ensures { λ _. ⌜ (lent ≡ false → (terms lent (now (table .entry))) ≡ plain-terms) ⌝ }
+{
+    let written = card::write_card_with(book, sheet, lent, table, &mut *output);
     exported_types::card_reply_of(written)
 }
 

@@ -14,7 +14,7 @@ use Rattle.files.proofs.Accepted.{files-accepted}
 use Rattle.method.specs.declared.Answer.{Answer}
 use Rattle.method.specs.declared.Searched.{Searched}
 use Rattle.method.specs.declared.Searched.the-variants.{Refused, Answered}
-use Rattle.method.specs.Answers.{outcome, search-refusal, slots-after}
+use Rattle.method.specs.Answers.{outcome, search-refusal, slots-after, search-refusal-with}
 use Rattle.listing.specs.Lines.{refused-line, boat-lines, head-lines, listing-of, outcome-listing, Listable}
 use Rattle.text.specs.Texts.{Holds, Adds}
 use Rattle.text.specs.declared.Text.{Text}
@@ -64,7 +64,7 @@ same-listing b s slots qs a (suc n) h = refl
 -- ---- The refusal of a share list that is long enough
 
 refusal-is : (b s : List ℕ) (n slots : ℕ) → n ≡ files-refusal b s → (n ≡ 0 → boats b ≤ slots) → search-refusal b s slots ≡ n
-unfolding search-refusal
+unfolding search-refusal-with
 refusal-is b s zero slots e h = let k : ltb slots (boats b) ≡ false = le-ltb slots (boats b) (h refl) in rw (← e, k)
 refusal-is b s (suc n) slots e h = rw (← e, eqb·suc-zero n)
 

@@ -8,7 +8,7 @@ use lib.IntN.{ℤ}
 use Rattle.frank_wolfe.specs.Vectors.{sum}
 use Rattle.files.specs.Book.{columns, rows}
 use Rattle.method.specs.declared.Answer.{Answer}
-use Rattle.method.specs.Problem.{Problem, problem}
+use Rattle.method.specs.Problem.{Problem, problem, call-problem}
 use Rattle.method.specs.Bounds.{Run-bounds}
 use Rattle.merged_book.specs.Merging.{merged-rows, merged-book, merge-refusal}
 use Rattle.merged_book.specs.Mixtures.{both-rows, Mixtures-of, with-vertices}
@@ -32,14 +32,14 @@ bounded p answer shares vs m r =
 
 module _ (a b s : List ℕ) (room : ℕ) (answer : Answer) (shares : List ℕ) (ok : merge-refusal a b room ≡ 0) (r : Run-bounds (problem (merged-book a b) s) answer shares) where
   against : (vs : List (List ℤ)) → Mixtures-of (columns a) vs (merged-rows a b) → Bounded-against (problem (merged-book a b) s) answer (with-vertices vs (problem a s))
-  unfolding problem
+  unfolding call-problem
   against vs m =
       let p = passes a b room ok in
       let q = merged-of a b (p .first) (p .second) (p .same-columns) (p .few-boats) in
       rw (← q .columns-back) (bounded (problem (merged-book a b) s) answer shares vs (rw (q .columns-back, q .rows-back) m) r)
 
 pub both-yards-bounded : Both-yards-bounded
-unfolding Both-yards-bounded problem
+unfolding Both-yards-bounded call-problem
 both-yards-bounded a b s room answer shares ok r =
     let p = passes a b room ok in (
       against a b s room answer shares ok r (rows a) (from-first a b room p),

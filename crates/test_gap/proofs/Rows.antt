@@ -14,6 +14,8 @@ use Rattle.files.specs.Sheet.{files-refusal}
 use Rattle.files.specs.Limits.{entry-limit}
 use Rattle.frank_wolfe.specs.Vectors.{add, subtract, scale, squared-norm, weighted-norm, ones}
 use Rattle.frank_wolfe.proofs.Vectors.{length-subtract, scale-one, norm-ones}
+use Rattle.method.specs.Problem.{fixed}
+use Rattle.method.proofs.Schedules.{fixed-sized}
 use Rattle.method.specs.Plain.{plain-problem}
 use Rattle.method.specs.Iterates.{row, farthest, row-diameter, diameter}
 use Rattle.method.proofs.Argmin.{among-row}
@@ -68,7 +70,7 @@ module _ (b s : List ℕ) (ok : files-refusal b s ≡ 0) where
       entries : (n : ℕ) → natAbs (getD (between i j) n (pos 0)) ≤ 4000
       unfolding plain-problem
       entries =
-          let a : (i : ℕ) → i < boats b → _ = λ i h. in-range b s ok .rows-bounded (row (rows b) i) (among-row (rows b) i (omega (arith, book-fits b s ok .row-count))) in
+          let a : (i : ℕ) → i < boats b → _ = λ i h. in-range b s ok fixed-sized .rows-bounded (row (rows b) i) (among-row (rows b) i (omega (arith, book-fits b s ok .row-count))) in
           bounded-subtract (a i h) (a j k) .each
 
       pub norm-asks : length d ≡ 64 → (l .columns ≤ 64) × Bounded entry-limit (l .columns) d
@@ -114,7 +116,7 @@ module _ (b s : List ℕ) (ok : files-refusal b s ≡ 0) where
   diameter-more zero h k ex em e = absurd (omega arith)
   diameter-more (suc i) h k ex em e = e ∙ rw (ex, em, less-one i, add-one, row-first i (omega arith))
 
-  pub diameter-end : (i : ℕ) {most : ℕ} → i ≡ 0 → most ≡ row-diameter (ones (columns b)) (drop i (rows b)) → most ≡ diameter (plain-problem b s)
+  pub diameter-end : (i : ℕ) {most : ℕ} → i ≡ 0 → most ≡ row-diameter (ones (columns b)) (drop i (rows b)) → most ≡ diameter (plain-problem fixed b s)
   unfolding plain-problem
   diameter-end i e f = rw e at f
 

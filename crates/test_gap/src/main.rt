@@ -6,6 +6,7 @@ ghost use lib.ListN.{drop};
 ghost use Rattle.files.specs.Book.{boats, columns, rows};
 ghost use Rattle.files.specs.Sheet.{files-refusal};
 ghost use Rattle.frank_wolfe.specs.Vectors.{subtract, weighted-norm, ones};
+ghost use Rattle.method.specs.Problem.{fixed};
 ghost use Rattle.method.specs.Plain.{plain-problem};
 ghost use Rattle.method.specs.Iterates.{row, farthest, diameter};
 ghost use Rattle.iteration.specs.States.{file-layout, Holds};
@@ -71,7 +72,7 @@ fn farthest(i: usize, book: &[u8], sheet: &[u8], layout: Layout) -> u64
 fn diameter(book: &[u8], sheet: &[u8], layout: Layout) -> u64
     requires { ⌜ files-refusal (now book) (now sheet) ≡ 0 ⌝ }
     requires { ⌜ layout ≡ file-layout (now book) (now sheet) ⌝ }
-    ensures { λ r. ⌜ r ≡ diameter (plain-problem (now (book .entry)) (now (sheet .entry))) ⌝ }
+    ensures { λ r. ⌜ r ≡ diameter (plain-problem fixed (now (book .entry)) (now (sheet .entry))) ⌝ }
 {
     let mut most = 0;
     let mut i = layout.boats;
@@ -139,7 +140,7 @@ fn with_step(found: Found, a: Answer, steps: u32, diameter: u64) -> Found {
 fn follow(start: State, book: &[u8], sheet: &[u8], layout: Layout, diameter: u64) -> Found
     requires { ⌜ files-refusal (now book) (now sheet) ≡ 0 ⌝ }
     requires { ⌜ layout ≡ file-layout (now book) (now sheet) ⌝ }
-    requires { ⌜ Holds (now book) (now sheet) 0 start ⌝ }
+    requires { ⌜ Holds fixed (now book) (now sheet) 0 start ⌝ }
 {
     let steps = files::steps(sheet);
     let mut shares = [0u16; 256];
@@ -161,6 +162,8 @@ fn follow(start: State, book: &[u8], sheet: &[u8], layout: Layout, diameter: u64
             state,
             book,
             sheet,
+            false,
+            &[0u16; 0],
             layout,
             &mut shares,
             &mut scores,

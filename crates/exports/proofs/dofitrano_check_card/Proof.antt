@@ -1,6 +1,7 @@
 -- `exports::dofitrano_check_card` meets its contract.
 use mathlib.Core.Path.{ap, _∙_}
 use Rattle.exported_types.specs.Replies.{reply-of}
+use Rattle.method.specs.Problem.{plain-terms}
 use Rattle.exports.proofs.Promises.{checked-right}
 use borrow.Author.Needs.{needs}
 use Rattle.exports.proofs.dofitrano_check_card.Statement.{statement}
@@ -18,7 +19,7 @@ same-length c = search needs
 returns : tie.Need-returns
 returns c =
     let at-check-card = c .before .before .before in
-    (c .reply-of .ensures ∙ ap reply-of (at-check-card .check-card .ensures .0), (at-check-card .check-card .ensures .1 .0, checked-right _ _ _ (at-check-card .check-card .ensures .0) (at-check-card .check-card .ensures .1 .0) (at-check-card .check-card .ensures .1 .1)))
+    (c .reply-of .ensures ∙ ap reply-of (at-check-card .check-card .ensures .0), (at-check-card .check-card .ensures .1 .0, checked-right plain-terms _ _ _ (at-check-card .check-card .ensures .0) (at-check-card .check-card .ensures .1 .0) (at-check-card .check-card .ensures .1 .1)))
 
 pub dofitrano-check-card-spec : {M : Type 1} → statement M
 dofitrano-check-card-spec =

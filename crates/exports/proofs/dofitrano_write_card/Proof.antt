@@ -1,6 +1,7 @@
 -- `exports::dofitrano_write_card` meets its contract.
 use mathlib.Core.Path.{ap, _∙_}
 use Rattle.exported_types.specs.Replies.{card-reply-of}
+use Rattle.method.specs.Problem.{plain-terms}
 use Rattle.exports.proofs.Promises.{filed-right}
 use borrow.Author.Needs.{needs}
 use Rattle.exports.proofs.dofitrano_write_card.Statement.{statement}
@@ -18,7 +19,7 @@ same-length c = search needs
 returns : tie.Need-returns
 returns c =
     let at-write-card = c .before .before .before in
-    (c .card-reply-of .ensures ∙ ap card-reply-of (at-write-card .write-card .ensures .0), (at-write-card .write-card .ensures .1 .0, filed-right _ _ (at-write-card .write-card .ensures .0) (at-write-card .write-card .ensures .1 .0) (at-write-card .write-card .ensures .1 .1)))
+    (c .card-reply-of .ensures ∙ ap card-reply-of (at-write-card .write-card .ensures .0), (at-write-card .write-card .ensures .1 .0, filed-right plain-terms _ _ (at-write-card .write-card .ensures .0) (at-write-card .write-card .ensures .1 .0) (at-write-card .write-card .ensures .1 .1)))
 
 pub dofitrano-write-card-spec : {M : Type 1} → statement M
 dofitrano-write-card-spec =

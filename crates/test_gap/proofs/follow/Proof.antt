@@ -1,5 +1,5 @@
 -- `test_gap::follow` meets its contract; `Followed` is what its loop keeps.
-use mathlib.Core.Path.{sym}
+use mathlib.Core.Path.{refl, sym}
 use Prim.Native.Nat.{_-_}
 use native.Mathlib.Omega.{arith}
 use borrow.Author.Needs.{needs}
@@ -30,45 +30,48 @@ loop-holds : tie.Need-loop-holds Inv-loop μ-loop
 loop-holds c = follow-start _ _ (c .before .before .before .pre .0) (c .before .before .before .pre .1 .1)
 
 slice-aggregate-step : tie.Need-slice-aggregate-step Inv-loop μ-loop
-slice-aggregate-step c = sym (c .before .before .before .loop .inv .shares-long)
+slice-aggregate-step c = search needs
 
 slice-aggregate-step-2 : tie.Need-slice-aggregate-step-2 Inv-loop μ-loop
-slice-aggregate-step-2 c = sym (c .before .before .before .before .loop .inv .long)
+slice-aggregate-step-2 c = sym (c .before .before .before .before .before .loop .inv .shares-long)
 
 slice-aggregate-step-3 : tie.Need-slice-aggregate-step-3 Inv-loop μ-loop
-slice-aggregate-step-3 c = sym (c .before .before .before .before .before .loop .inv .remembers .tags-long)
+slice-aggregate-step-3 c = sym (c .before .before .before .before .before .before .loop .inv .long)
 
 slice-aggregate-step-4 : tie.Need-slice-aggregate-step-4 Inv-loop μ-loop
-slice-aggregate-step-4 c = sym (c .before .before .before .before .before .before .loop .inv .remembers .targets-long)
+slice-aggregate-step-4 c = sym (c .before .before .before .before .before .before .before .loop .inv .remembers .tags-long)
 
 slice-aggregate-step-5 : tie.Need-slice-aggregate-step-5 Inv-loop μ-loop
-slice-aggregate-step-5 c = sym (c .before .before .before .before .before .before .before .loop .inv .memory-long)
+slice-aggregate-step-5 c = sym (c .before .before .before .before .before .before .before .before .loop .inv .remembers .targets-long)
+
+slice-aggregate-step-6 : tie.Need-slice-aggregate-step-6 Inv-loop μ-loop
+slice-aggregate-step-6 c = sym (c .before .before .before .before .before .before .before .before .before .loop .inv .memory-long)
 
 step-requires : tie.Need-step-requires Inv-loop μ-loop
 step-requires c κs =
-    let at-loop = c .before .before .before .before .before .before .before in
+    let at-loop = c .before .before .before .before .before .before .before .before .before in
     let start = at-loop .before .before .before .before in
     let ok = start .pre .0 in
     let f = at-loop .loop .inv in
-    (ok, (start .pre .1 .0, (f .held, (few _ _ ok f (omega (arith, c .before .before .before .before .before .if1 .taken, at-loop .before .steps .ensures)), (f .shared, (f .scored, f .remembers))))))
+    (ok, (refl, (start .pre .1 .0, (f .held, (few _ _ ok f (omega (arith, c .before .before .before .before .before .before .before .if1 .taken, at-loop .before .steps .ensures)), (f .shared, (f .scored, f .remembers)))))))
 
 answer-requires : tie.Need-answer-requires Inv-loop μ-loop
 answer-requires c κs =
     let at-step = c .before .before .before .before .before in
-    let at-loop = at-step .before .before .before .before .before .before .before .before in
-    follow-answerable _ _ (at-loop .before .before .before .before .pre .0) (at-loop .loop .inv) (omega (arith, at-step .before .before .before .before .before .before .if1 .taken, at-loop .before .steps .ensures)) (at-step .step .ensures .0)
+    let at-loop = at-step .before .before .before .before .before .before .before .before .before .before in
+    follow-answerable _ _ (at-loop .before .before .before .before .pre .0) (at-loop .loop .inv) (omega (arith, at-step .before .before .before .before .before .before .before .before .if1 .taken, at-loop .before .steps .ensures)) (at-step .step .ensures .0)
 
 loop-less : tie.Need-loop-less Inv-loop μ-loop
 loop-less c =
     let at-step = c .before .before .before .before .before .before .before in
-    omega (arith, at-step .step .ensures .0 .steps-are, at-step .before .before .before .before .before .before .if1 .taken)
+    omega (arith, at-step .step .ensures .0 .steps-are, at-step .before .before .before .before .before .before .before .before .if1 .taken)
 
 loop-again : tie.Need-loop-again Inv-loop μ-loop
 loop-again c =
     let at-step = c .before .before .before .before .before .before .before in
-    let at-loop = at-step .before .before .before .before .before .before .before .before in
+    let at-loop = at-step .before .before .before .before .before .before .before .before .before .before in
     let h = at-step .step .ensures in
-    follow-more _ _ (at-loop .before .before .before .before .pre .0) (at-loop .loop .inv) (omega (arith, at-step .before .before .before .before .before .before .if1 .taken, at-loop .before .steps .ensures)) (h .0) (h .1 .0) (h .1 .1 .0) (h .1 .1 .1)
+    follow-more _ _ (at-loop .before .before .before .before .pre .0) (at-loop .loop .inv) (omega (arith, at-step .before .before .before .before .before .before .before .before .if1 .taken, at-loop .before .steps .ensures)) (h .0) (h .1 .0) (h .1 .1 .0) (h .1 .1 .1)
 
 pub follow-spec : {M : Type 1} → statement M
 follow-spec =
@@ -83,6 +86,7 @@ follow-spec =
     slice-aggregate-step-3
     slice-aggregate-step-4
     slice-aggregate-step-5
+    slice-aggregate-step-6
     step-requires
     answer-requires
     (λ c κs. search needs)

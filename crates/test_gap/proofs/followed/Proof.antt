@@ -20,7 +20,7 @@ follow-requires : tie.Need-follow-requires
 follow-requires c κs =
     let at-layout-of = c .before .before in
     let ok = sym (at-layout-of .before .before .files-refusal .ensures) ∙ at-layout-of .before .if1 .left in
-    (ok, (at-layout-of .layout-of .ensures, c .fresh .ensures))
+    (ok, (at-layout-of .layout-of .ensures, c .fresh .ensures _))
 
 steps-requires : tie.Need-steps-requires
 steps-requires c κs =
