@@ -51,6 +51,6 @@ unfolding same little-endian number value values between in-range all-in-range l
     call-problem weight start residual distance gaps maximum-from maximum signed-gap natural gap
     is-beyond verdict verdict-number stops answer-at search-refusal-with
     pair pairs letters trailer-bytes answer-fields card-bytes fields card-fields lettered card-test card-body pair-count shares-into card-shares
-    back-fits pairs-in-order counts-agree steps-fit form-refusal shares-total numbers-agree truth-refusal card-refusal-with check-refusal
+    back-fits pairs-in-order counts-agree steps-fit form-refusal shares-total numbers-agree truth-refusal card-refusal-with check-refusal-with
     number-bytes value-bytes body-bytes book-bytes sheet-bytes factored-bytes middle fleet-P card-c card-k
 judged-by-factors = record { c-without = refl; c-ones = refl; c-factors = refl; k-without = refl; k-factors = refl }

@@ -143,6 +143,7 @@ fn follow(start: State, book: &[u8], sheet: &[u8], layout: Layout, diameter: u64
     requires { ⌜ Holds fixed (now book) (now sheet) 0 start ⌝ }
 {
     let steps = files::steps(sheet);
+    let none = [0u16; 0];
     let mut shares = [0u16; 256];
     let mut scores = [0i64; 256];
     let mut tags = [0u8; 257];
@@ -163,7 +164,7 @@ fn follow(start: State, book: &[u8], sheet: &[u8], layout: Layout, diameter: u64
             book,
             sheet,
             false,
-            &[0u16; 0],
+            &none,
             layout,
             &mut shares,
             &mut scores,

@@ -16,11 +16,11 @@ use Rattle.test_gap.proofs.with_step.Reads as with-step-reads
 use Rattle.iteration.proofs.State.answer.Reads as answer-reads
 
 abbrev Inv-loop : tie.InvT-loop
-Inv-loop book sheet layout diameter steps shares₀ scores₀ tags₀ targets₀ memory₀ state₀ found₀ shares scores tags targets memory state found =
+Inv-loop book sheet layout diameter steps none shares₀ scores₀ tags₀ targets₀ memory₀ state₀ found₀ shares scores tags targets memory state found =
     Followed book sheet state shares scores (memory-of tags targets memory)
 
 abbrev μ-loop : tie.MeasureT-loop
-μ-loop book sheet layout diameter steps shares₀ scores₀ tags₀ targets₀ memory₀ state₀ found₀ shares scores tags targets memory state found =
+μ-loop book sheet layout diameter steps none shares₀ scores₀ tags₀ targets₀ memory₀ state₀ found₀ shares scores tags targets memory state found =
     steps - state .steps
 
 steps-requires : tie.Need-steps-requires Inv-loop μ-loop
@@ -33,45 +33,45 @@ slice-aggregate-step : tie.Need-slice-aggregate-step Inv-loop μ-loop
 slice-aggregate-step c = search needs
 
 slice-aggregate-step-2 : tie.Need-slice-aggregate-step-2 Inv-loop μ-loop
-slice-aggregate-step-2 c = sym (c .before .before .before .before .before .loop .inv .shares-long)
+slice-aggregate-step-2 c = sym (c .before .before .before .before .loop .inv .shares-long)
 
 slice-aggregate-step-3 : tie.Need-slice-aggregate-step-3 Inv-loop μ-loop
-slice-aggregate-step-3 c = sym (c .before .before .before .before .before .before .loop .inv .long)
+slice-aggregate-step-3 c = sym (c .before .before .before .before .before .loop .inv .long)
 
 slice-aggregate-step-4 : tie.Need-slice-aggregate-step-4 Inv-loop μ-loop
-slice-aggregate-step-4 c = sym (c .before .before .before .before .before .before .before .loop .inv .remembers .tags-long)
+slice-aggregate-step-4 c = sym (c .before .before .before .before .before .before .loop .inv .remembers .tags-long)
 
 slice-aggregate-step-5 : tie.Need-slice-aggregate-step-5 Inv-loop μ-loop
-slice-aggregate-step-5 c = sym (c .before .before .before .before .before .before .before .before .loop .inv .remembers .targets-long)
+slice-aggregate-step-5 c = sym (c .before .before .before .before .before .before .before .loop .inv .remembers .targets-long)
 
 slice-aggregate-step-6 : tie.Need-slice-aggregate-step-6 Inv-loop μ-loop
-slice-aggregate-step-6 c = sym (c .before .before .before .before .before .before .before .before .before .loop .inv .memory-long)
+slice-aggregate-step-6 c = sym (c .before .before .before .before .before .before .before .before .loop .inv .memory-long)
 
 step-requires : tie.Need-step-requires Inv-loop μ-loop
 step-requires c κs =
-    let at-loop = c .before .before .before .before .before .before .before .before .before in
+    let at-loop = c .before .before .before .before .before .before .before .before in
     let start = at-loop .before .before .before .before in
     let ok = start .pre .0 in
     let f = at-loop .loop .inv in
-    (ok, (refl, (start .pre .1 .0, (f .held, (few _ _ ok f (omega (arith, c .before .before .before .before .before .before .before .if1 .taken, at-loop .before .steps .ensures)), (f .shared, (f .scored, f .remembers)))))))
+    (ok, (refl, (start .pre .1 .0, (f .held, (few _ _ ok f (omega (arith, c .before .before .before .before .before .before .if1 .taken, at-loop .before .steps .ensures)), (f .shared, (f .scored, f .remembers)))))))
 
 answer-requires : tie.Need-answer-requires Inv-loop μ-loop
 answer-requires c κs =
     let at-step = c .before .before .before .before .before in
-    let at-loop = at-step .before .before .before .before .before .before .before .before .before .before in
-    follow-answerable _ _ (at-loop .before .before .before .before .pre .0) (at-loop .loop .inv) (omega (arith, at-step .before .before .before .before .before .before .before .before .if1 .taken, at-loop .before .steps .ensures)) (at-step .step .ensures .0)
+    let at-loop = at-step .before .before .before .before .before .before .before .before .before in
+    follow-answerable _ _ (at-loop .before .before .before .before .pre .0) (at-loop .loop .inv) (omega (arith, at-step .before .before .before .before .before .before .before .if1 .taken, at-loop .before .steps .ensures)) (at-step .step .ensures .0)
 
 loop-less : tie.Need-loop-less Inv-loop μ-loop
 loop-less c =
     let at-step = c .before .before .before .before .before .before .before in
-    omega (arith, at-step .step .ensures .0 .steps-are, at-step .before .before .before .before .before .before .before .before .if1 .taken)
+    omega (arith, at-step .step .ensures .0 .steps-are, at-step .before .before .before .before .before .before .before .if1 .taken)
 
 loop-again : tie.Need-loop-again Inv-loop μ-loop
 loop-again c =
     let at-step = c .before .before .before .before .before .before .before in
-    let at-loop = at-step .before .before .before .before .before .before .before .before .before .before in
+    let at-loop = at-step .before .before .before .before .before .before .before .before .before in
     let h = at-step .step .ensures in
-    follow-more _ _ (at-loop .before .before .before .before .pre .0) (at-loop .loop .inv) (omega (arith, at-step .before .before .before .before .before .before .before .before .if1 .taken, at-loop .before .steps .ensures)) (h .0) (h .1 .0) (h .1 .1 .0) (h .1 .1 .1)
+    follow-more _ _ (at-loop .before .before .before .before .pre .0) (at-loop .loop .inv) (omega (arith, at-step .before .before .before .before .before .before .before .if1 .taken, at-loop .before .steps .ensures)) (h .0) (h .1 .0) (h .1 .1 .0) (h .1 .1 .1)
 
 pub follow-spec : {M : Type 1} → statement M
 follow-spec =
