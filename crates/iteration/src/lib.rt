@@ -207,15 +207,9 @@ pub fn first_answer(
     let k = schedules::share(lent, table, 0);
     let z = k as i64;
     let e = distance_after(0, k, 0, 0, own, target);
-    answered(
-        Test::Sharper,
-        1,
-        k,
-        e,
-        z * target as i64,
-        z * pick.score,
-        sheet,
-    )
+    let target_score = z * target as i64;
+    let least = z * pick.score;
+    answered(Test::Sharper, 1, k, e, target_score, least, sheet)
 }
 
 impl State {

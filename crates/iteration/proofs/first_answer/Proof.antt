@@ -71,8 +71,8 @@ distance-after-requires c κs =
     let k = c .share .ensures in
     (share-most _ _ (p .0) S (p .1 .1 .1) k own (at-products-of .products-of .ensures .1), first-moves _ _ (p .0) S (p .1 .1 .1) k own (at-products-of .products-of .ensures .1))
 
-cast-answered : tie.Need-cast-answered
-cast-answered c =
+cast-target-score : tie.Need-cast-target-score
+cast-target-score c =
     let p = c .before .before .before .before .before .before .before .before .before .before .before .pre in
     let S = schedule-sized _ (p .1 .0) in
     let h = pick-below _ _ (p .0) S (p .1 .1 .1) in
@@ -81,8 +81,8 @@ cast-answered c =
     let k = c .before .share .ensures in
     target-cast _ _ (p .0) S (p .1 .1 .1) k own (at-products-of .products-of .ensures .1)
 
-mul-answered : tie.Need-mul-answered
-mul-answered c =
+mul-target-score : tie.Need-mul-target-score
+mul-target-score c =
     let p = c .before .before .before .before .before .before .before .before .before .before .before .pre in
     let S = schedule-sized _ (p .1 .0) in
     let h = pick-below _ _ (p .0) S (p .1 .1 .1) in
@@ -91,8 +91,8 @@ mul-answered c =
     let k = c .before .share .ensures in
     times-fits (share-most _ _ (p .0) S (p .1 .1 .1) k own (at-products-of .products-of .ensures .1)) (toZ w32 (ofZ w32 (at-products-of .products-of .result))) (first-moves _ _ (p .0) S (p .1 .1 .1) k own (at-products-of .products-of .ensures .1) .target-size)
 
-mul-answered-2 : tie.Need-mul-answered-2
-mul-answered-2 c =
+mul-least : tie.Need-mul-least
+mul-least c =
     let p = c .before .before .before .before .before .before .before .before .before .before .before .before .before .pre in
     let S = schedule-sized _ (p .1 .0) in
     let h = pick-below _ _ (p .0) S (p .1 .1 .1) in
@@ -143,8 +143,8 @@ first-answer-spec =
     share-requires
     cast-z
     distance-after-requires
-    cast-answered
-    mul-answered
-    mul-answered-2
+    cast-target-score
+    mul-target-score
+    mul-least
     answered-requires
     returns)
