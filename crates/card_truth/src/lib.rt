@@ -21,13 +21,7 @@ use method::Answer;
 use method::Searched;
 
 // Whether a card's boats that hold shares are no more than its steps used, and the shares total what so many steps give.
-fn shares_total(
-    lent: bool,
-    table: &[u16],
-    card: &[u8],
-    shares: [u16; 256],
-    boats: usize,
-) -> bool
+fn shares_total(lent: bool, table: &[u16], card: &[u8], shares: [u16; 256], boats: usize) -> bool
     requires { ⌜ (36 ≤ length (now card)) × (boats ≤ 256) ⌝ }
     requires { do ⌜ card-fields (now card) .steps ≤ allowed-steps (schedule-of lent (now table)) (← ⟦State::MOST_STEPS⟧) ⌝ }
     ensures { λ r. ⌜ r ≡ shares-total (schedule-of lent (now (table .entry))) (pair-count (now (card .entry))) (take boats shares) (card-fields (now (card .entry)) .steps) ⌝ }

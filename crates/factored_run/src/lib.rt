@@ -20,13 +20,7 @@ use method::Answer;
 use method::Test;
 
 // The run of a sheet of the edition WSH2, on derived files.
-fn derived_run(
-    book: &[u8],
-    sheet: &[u8],
-    lent: bool,
-    table: &[u16],
-    shares: &mut [u16],
-) -> Answer
+fn derived_run(book: &[u8], sheet: &[u8], lent: bool, table: &[u16], shares: &mut [u16]) -> Answer
     requires { ⌜ files-refusal (now book) (now sheet) ≡ 0 ⌝ }
     requires { ⌜ schedule-refusal (schedule-of lent (now table)) ≡ 0 ⌝ }
     requires { ⌜ sheet-lettered WSH2 (now sheet) ≡ true ⌝ }
@@ -43,13 +37,7 @@ fn derived_run(
 }
 
 // The run of files and shares that are not refused: steps until one stops it. It leaves the shares in the first slots, one a boat.
-pub fn run(
-    book: &[u8],
-    sheet: &[u8],
-    lent: bool,
-    table: &[u16],
-    shares: &mut [u16],
-) -> Answer
+pub fn run(book: &[u8], sheet: &[u8], lent: bool, table: &[u16], shares: &mut [u16]) -> Answer
     requires { ⌜ files-refusal (now book) (now sheet) ≡ 0 ⌝ }
     requires { ⌜ schedule-refusal (schedule-of lent (now table)) ≡ 0 ⌝ }
     requires { ⌜ boats (now book) ≤ length (now shares) ⌝ }
@@ -104,7 +92,15 @@ fn derived_answer(
     let n = derived_files::put_book(&mut own_book, book, factors);
     let mut own_sheet = [0u8; 144];
     let m = derived_files::put_sheet(&mut own_sheet, sheet, factors);
-    plain_answer(test, &own_book[..n], &own_sheet[..m], lent, table, shares, t)
+    plain_answer(
+        test,
+        &own_book[..n],
+        &own_sheet[..m],
+        lent,
+        table,
+        shares,
+        t,
+    )
 }
 
 // The answer of the first shares, one a boat, after t steps, judged by the test.

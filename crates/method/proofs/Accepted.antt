@@ -55,7 +55,7 @@ module _ (b s : List ℕ) (ok : files-refusal b s ≡ 0) where
     in-range-with = record { few-factors = few; rows-bounded = row-bounded; target-bounded = record { each = g .target-bound } }
 
     pub sized-with : Sized p
-    sized-with = 
+    sized-with =
         record {
           some-steps = S .some-steps (sheet s .steps) (g .some-steps);
           weights = λ t h. S .most-total t (le-trans h (le-trans (S .most-steps (sheet s .steps)) (g .most-steps)));

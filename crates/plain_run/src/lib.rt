@@ -27,13 +27,7 @@ fn clear(list: &mut [u16], count: usize)
 
 // The run of files and shares that are not refused, with every factor 1: steps until one stops it. It leaves the shares in the first slots, one a boat.
 // The first step is tried with no memory; how much the whole run is lent goes by the boats, so that a small run clears little.
-pub fn run(
-    book: &[u8],
-    sheet: &[u8],
-    lent: bool,
-    table: &[u16],
-    shares: &mut [u16],
-) -> Answer
+pub fn run(book: &[u8], sheet: &[u8], lent: bool, table: &[u16], shares: &mut [u16]) -> Answer
     requires { ⌜ files-refusal (now book) (now sheet) ≡ 0 ⌝ }
     requires { ⌜ schedule-refusal (schedule-of lent (now table)) ≡ 0 ⌝ }
     requires { ⌜ boats (now book) ≤ length (now shares) ⌝ }
