@@ -30,6 +30,12 @@ Within where d is at most the tolerance, else Beyond where d > g and
 (d - g)^2 > tolerance * d, else Spent at the last step.  Cards of the edition
 WCD1 were judged by the former test of Beyond, d - 2 g > tolerance.
 
+A caller of the search, of the card writer and of the card check may lend a
+table of shares, one a step.  With the shares a_1, a_2, ... and their running
+totals W_t = a_1 + ... + a_t, step t moves by gamma = a_t / W_t, and W_t is the
+W of the answer and of refusal 37.  The steps that may be taken are then the
+lesser of the sheet's and the number of shares: so for Spent, 34 and 38.
+
 The three files.  All numbers are little-endian; a value is a signed 16-bit
 number, every other field is unsigned.  Each file is front text (never read),
 then the body, then the trailer.  "back" is the size of the body in bytes.
@@ -61,8 +67,8 @@ the second that equals no row before it, and no front text.
 
 A refusal is a number; 0 stands for accepted.  The first that applies, in the
 call's own order, is the one given back: in number order, but a sheet made of
-cells has 41 to 43, cell by cell, right after 6 and before 14 and 15, and 46 is
-the last of a sheet's own, right after 17.
+cells has 41 to 43, cell by cell, right after 6 and before 14 and 15, 46 is
+the last of a sheet's own, right after 17, and 49 to 51 come before all others.
 
      1  book shorter than 12 or longer than 40,000 bytes
      2  letters not WBK1
@@ -83,10 +89,10 @@ the last of a sheet's own, right after 17.
     31  card shorter than 36 or longer than 40,000 bytes
     32  letters not WCD1 or WCD2
     33  boats or columns not those of the book
-    34  verdict outside 1 to 3, or steps used 0 or above the sheet's
+    34  verdict outside 1 to 3, or steps used 0 or above those that may be taken
     35  back 0, no multiple of 4, above 4 * boats, or before the first byte
     36  boats not strictly ascending, a boat not in the book, or a share of 0
-    37  more boats than steps used, or shares not totalling t (t + 1) / 2
+    37  more boats than steps used, or shares not totalling W
     38  E, G or the verdict not true of the shares, by the test of the letters
     39  tolerance not that of the sheet
     41  cell not weighed
@@ -96,6 +102,10 @@ the last of a sheet's own, right after 17.
     47  of a conversion into WSH1: a factor other than 1
     48  of a conversion: output shorter than the result, or a result longer
         than 40,000 bytes
+    49  of a lent table: no share or more than 360
+    50  of a lent table: a share that is 0, or whose square is above twice the
+        running total with it
+    51  of a lent table: a total above 64,980
     55  columns of two books that differ
     56  a merged book of more than 256 boats
     57  book buffer shorter than the merged book
@@ -109,7 +119,7 @@ import struct
 import sys
 from dataclasses import dataclass
 from fractions import Fraction
-from itertools import islice
+from itertools import accumulate, count, islice
 from math import gcd
 from operator import mul
 
@@ -120,6 +130,7 @@ MOST_VALUE = 2000
 MOST_STEPS = 360
 MOST_TOLERANCE = 1024000000
 MOST_FACTORS = 64
+MOST_TOTAL = 64980
 MOST_KILOGRAMS = 1048576
 MOST_UNIT = 10000
 
@@ -140,7 +151,7 @@ class Answer:
     """What a search or an accepted card gives back."""
 
     steps: int      # t, the steps taken
-    weight: int     # W = t (t + 1) / 2
+    weight: int     # W = t (t + 1) / 2, or the running total of a lent table
     distance: int   # E, the squared distance times W^2
     gap: int        # G, the duality gap times W^2
     verdict: int    # 1 Within, 2 Beyond, 3 Spent
@@ -224,9 +235,22 @@ def sheet_refusal_in(sheet: bytes, least: int, most: int) -> int:
     return 0
 
 
-def files_refusal(book: bytes, sheet: bytes) -> int:
-    """The refusal of a book and a sheet together, the book's checks first."""
-    refusal = book_refusal(book)
+def table_refusal(table) -> int:
+    """The refusal of a table of shares, 0 if it is accepted or none is lent."""
+    if table is None:
+        return 0
+    if len(table) < 1 or len(table) > MOST_STEPS:
+        return 49
+    if any(share == 0 or share ** 2 > 2 * total for share, total in zip(table, accumulate(table))):
+        return 50
+    if sum(table) > MOST_TOTAL:
+        return 51
+    return 0
+
+
+def files_refusal(book: bytes, sheet: bytes, table=None) -> int:
+    """The refusal of a table, a book and a sheet together, the table's checks first, then the book's."""
+    refusal = table_refusal(table) or book_refusal(book)
     if refusal:
         return refusal
     (_, _, columns, _), _ = split(book, BOOK_TRAILER)
@@ -329,7 +353,14 @@ def judge(squared_distance, duality_gap, tolerance, step, steps, test=sharper_te
     return 0
 
 
-def iterates(rows, target, factors=None, choose=next_vertex):
+def step_sizes(table=None):
+    """gamma of each step: 2 / (k + 2) for k = 0, 1, 2, ..., or the share of a lent table over its running total."""
+    if table is None:
+        return (Fraction(2, k + 2) for k in count())
+    return (Fraction(share, total) for share, total in zip(table, accumulate(table)))
+
+
+def iterates(rows, target, factors=None, choose=next_vertex, table=None):
     """The published iteration: the number of steps, weights, point, squared
     distance and duality gap after each; all but the first are fractions.
     """
@@ -337,26 +368,29 @@ def iterates(rows, target, factors=None, choose=next_vertex):
     weights = [Fraction(0)] * len(rows)
     weights[0] = Fraction(1)
     _, _, minimizers = measure(point, rows, target, factors)
-    k = 0
-    while True:
+    for k, gamma in enumerate(step_sizes(table), 1):
         vertex = choose(minimizers, weights)
-        gamma = Fraction(2, k + 2)
         rest = 1 - gamma
         point = [rest * x + gamma * s for x, s in zip(point, rows[vertex])]
         # Multiplying a weight of 0 is left out; it stays 0.
         weights = [rest * w if w else w for w in weights]
         weights[vertex] += gamma
-        k += 1
         squared_distance, duality_gap, minimizers = measure(point, rows, target, factors)
         yield k, weights, point, squared_distance, duality_gap
 
 
-def frank_wolfe(rows, target, steps, tolerance, factors=None, test=sharper_test, choose=next_vertex):
+def steps_allowed(steps, table=None):
+    """The steps that may be taken: those asked for, or the number of shares of a lent table if that is less."""
+    return steps if table is None else min(steps, len(table))
+
+
+def frank_wolfe(rows, target, steps, tolerance, factors=None, test=sharper_test, choose=next_vertex, table=None):
     """The published iteration, judged after each step, up to the first verdict,
     which is given back behind the rest.
     """
-    for k, weights, point, squared_distance, duality_gap in iterates(rows, target, factors, choose):
-        verdict = judge(squared_distance, duality_gap, tolerance, k, steps, test)
+    most = steps_allowed(steps, table)
+    for k, weights, point, squared_distance, duality_gap in iterates(rows, target, factors, choose, table):
+        verdict = judge(squared_distance, duality_gap, tolerance, k, most, test)
         if verdict:
             return k, weights, point, squared_distance, duality_gap, verdict
 
@@ -390,14 +424,21 @@ def whole(value):
     return value.numerator
 
 
-def total_of_steps(t):
+def total_of_steps(t, table=None):
     """W after t steps."""
-    return t * (t + 1) // 2
+    return t * (t + 1) // 2 if table is None else sum(table[:t])
 
 
-def answer_of(t, squared_distance, duality_gap, verdict, tolerance):
+def step_bound(t, diameter, table=None):
+    """By how much at most, after t steps, a mixture's squared distance is below the run's: 4 D^2 / (t + 2), or 2 D^2 t / W with a lent table."""
+    if table is None:
+        return Fraction(4 * diameter, t + 2)
+    return Fraction(2 * diameter * t, total_of_steps(t, table))
+
+
+def answer_of(t, squared_distance, duality_gap, verdict, tolerance, table=None):
     """The answer in whole numbers from the fractions after t steps."""
-    w = total_of_steps(t)
+    w = total_of_steps(t, table)
     distance = whole(squared_distance * w * w)
     gap = whole(duality_gap * w * w)
     carried = None
@@ -408,62 +449,63 @@ def answer_of(t, squared_distance, duality_gap, verdict, tolerance):
     return Answer(t, w, distance, gap, verdict, carried)
 
 
-def run(rows, target, steps, tolerance, factors=None, test=sharper_test, choose=next_vertex):
+def run(rows, target, steps, tolerance, factors=None, test=sharper_test, choose=next_vertex, table=None):
     """Answer and shares of one search."""
     t, weights, _, squared_distance, duality_gap, verdict = frank_wolfe(
-        rows, target, steps, tolerance, factors, test, choose)
-    answer = answer_of(t, squared_distance, duality_gap, verdict, tolerance)
+        rows, target, steps, tolerance, factors, test, choose, table)
+    answer = answer_of(t, squared_distance, duality_gap, verdict, tolerance, table)
     return answer, [whole(weight * answer.weight) for weight in weights]
 
 
 # ---------------------------------------------------------------- the calls
 
 
-def search(book: bytes, sheet: bytes, slots: list[int]):
+def search(book: bytes, sheet: bytes, slots: list[int], table=None):
     """Refusal, answer (None if refused) and the share list afterwards."""
-    refusal = files_refusal(book, sheet)
+    refusal = files_refusal(book, sheet, table)
     if refusal:
         return refusal, None, list(slots)
     rows = read_book(book)
     if len(slots) < len(rows):
         return 21, None, list(slots)
-    answer, shares = run(rows, *read_sheet(sheet))
+    answer, shares = run(rows, *read_sheet(sheet), table=table)
     return 0, answer, shares + list(slots[len(rows):])
 
 
-def write_card(book: bytes, sheet: bytes, buffer: bytes):
+def write_card(book: bytes, sheet: bytes, buffer: bytes, table=None):
     """Refusal, answer, number of bytes written and the buffer afterwards."""
-    refusal = files_refusal(book, sheet)
+    refusal = files_refusal(book, sheet, table)
     if refusal:
         return refusal, None, 0, bytes(buffer)
     rows = read_book(book)
     target, steps, tolerance, factors = read_sheet(sheet)
-    answer, shares = run(rows, target, steps, tolerance, factors)
+    answer, shares = run(rows, target, steps, tolerance, factors, table=table)
     card = card_bytes(answer, shares, tolerance, len(rows), len(target))
     if len(buffer) < len(card):
         return 22, None, 0, bytes(buffer)
     return 0, answer, len(card), card + bytes(buffer[len(card):])
 
 
-def check_card(book: bytes, sheet: bytes, card: bytes, slots: list[int]):
+def check_card(book: bytes, sheet: bytes, card: bytes, slots: list[int], table=None):
     """Refusal, the card's answer and the share list afterwards.
 
     The point is formed anew from the card's shares; no search is made.
     """
-    refusal = files_refusal(book, sheet)
+    refusal = files_refusal(book, sheet, table)
     if refusal:
         return refusal, None, list(slots)
     rows = read_book(book)
     if len(slots) < len(rows):
         return 21, None, list(slots)
-    refusal, answer, shares = judge_card(rows, *read_sheet(sheet), card)
+    refusal, answer, shares = judge_card(rows, *read_sheet(sheet), card, table)
     if refusal:
         return refusal, None, list(slots)
     return 0, answer, shares + list(slots[len(rows):])
 
 
-def judge_card(rows, target, steps, tolerance, factors, card):
+def judge_card(rows, target, steps, tolerance, factors, card, table=None):
     """Checks 31 to 39: refusal, answer and shares of a card."""
+    most = steps_allowed(steps, table)
     if len(card) < CARD_TRAILER.size or len(card) > MOST_BYTES:
         return 31, None, None
     fields, before = split(card, CARD_TRAILER)
@@ -472,7 +514,7 @@ def judge_card(rows, target, steps, tolerance, factors, card):
         return 32, None, None
     if boats != len(rows) or columns != len(target):
         return 33, None, None
-    if verdict not in VERDICT_NAMES or t < 1 or t > steps:
+    if verdict not in VERDICT_NAMES or t < 1 or t > most:
         return 34, None, None
     if back == 0 or back % 4 or back > 4 * boats or back > len(before):
         return 35, None, None
@@ -482,7 +524,7 @@ def judge_card(rows, target, steps, tolerance, factors, card):
         if boat <= last or boat >= boats or share == 0:
             return 36, None, None
         last = boat
-    w = total_of_steps(t)
+    w = total_of_steps(t, table)
     if len(entries) > t or sum(share for _, share in entries) != w:
         return 37, None, None
     # The point is the mean of the rows with the weights share / W.
@@ -492,7 +534,7 @@ def judge_card(rows, target, steps, tolerance, factors, card):
         point = [x + weight * value for x, value in zip(point, rows[boat])]
     squared_distance, duality_gap, _ = measure(point, rows, target, factors)
     # 0 where no verdict is due yet; it then differs from every card's verdict.
-    true_verdict = judge(squared_distance, duality_gap, tolerance, t, steps, TESTS[letters])
+    true_verdict = judge(squared_distance, duality_gap, tolerance, t, most, TESTS[letters])
     if (squared_distance * w * w != distance or duality_gap * w * w != gap
             or true_verdict != verdict):
         return 38, None, None
@@ -501,7 +543,7 @@ def judge_card(rows, target, steps, tolerance, factors, card):
     shares = [0] * boats
     for boat, share in entries:
         shares[boat] = share
-    return 0, answer_of(t, squared_distance, duality_gap, verdict, tolerance), shares
+    return 0, answer_of(t, squared_distance, duality_gap, verdict, tolerance, table), shares
 
 
 def card_bytes(answer: Answer, shares: list[int], tolerance: int,
@@ -774,15 +816,15 @@ def make_card(entries, verdict: int, steps: int, tolerance: int, distance: int,
 
 
 def true_card(book: bytes, sheet: bytes, shares, steps: int, front: bytes = b"",
-              letters: bytes = b"WCD2") -> bytes:
+              letters: bytes = b"WCD2", table=None) -> bytes:
     """The card of these shares with the E, G and verdict that are true of them by the test of the letters; Spent where none is due yet."""
     rows = read_book(book)
-    target, most, tolerance, factors = read_sheet(sheet)
-    w = total_of_steps(steps)
+    target, asked, tolerance, factors = read_sheet(sheet)
+    w, most = total_of_steps(steps, table), steps_allowed(asked, table)
     point = [Fraction(dot(shares, column), w) for column in zip(*rows)]
     squared_distance, duality_gap, _ = measure(point, rows, target, factors)
     verdict = judge(squared_distance, duality_gap, tolerance, steps, most, TESTS[letters]) or SPENT
-    answer = answer_of(steps, squared_distance, duality_gap, verdict, tolerance)
+    answer = answer_of(steps, squared_distance, duality_gap, verdict, tolerance, table)
     entries = [(boat, share) for boat, share in enumerate(shares) if share]
     return make_card(entries, verdict, steps, tolerance, answer.distance, answer.gap,
                      len(rows), len(target), front=front, letters=letters)

@@ -121,6 +121,42 @@ def factored_sheet(sheet, factors):
     return sheet[:-16] + bytes(factors) + back + sheet[-12:-8] + bytes(4) + b"WSH2"
 
 
+# Numbers of shares of drawn tables, at the limits.
+LENGTHS = [360, 359, 361, 0, 1]
+
+
+def border(past, total):
+    """The greatest share that may follow a running total, where `past` is that of the total before: one more where it may be."""
+    more = past + 1
+    return more if more * more <= 2 * (total + more) else past
+
+
+def share(kind, i, most, at_place, x):
+    """Share i of a drawn table, where `most` is the greatest that may stand there."""
+    if at_place and kind == 5:
+        return most + 1
+    if at_place and kind == 6:
+        return 0
+    plain = {0: 1, 1: i + 1, 2: i + 1 if i < 4 else max(7 - i, 1), 3: most, 7: 2 if i == 0 else i + 1}
+    return plain.get(kind, x % most + 1)
+
+
+def draw_table(draws, choices):
+    """Shares: 1 each, counted, rising and falling, the greatest that are accepted, drawn ones, one share too great or 0, or counted from 2.
+    The first of `choices` lengths are at the limits.
+    """
+    kind = draws.draw(8)
+    choice = draws.draw(choices)
+    short = draws.draw(14) + 1
+    place = draws.draw(short)
+    table, most, total = [], 2, 0
+    for i in range(LENGTHS[choice] if choice < 5 else short):
+        table.append(share(kind, i, most, i == place, draws.draw(360)))
+        total += table[-1]
+        most = border(most, total)
+    return table
+
+
 def draw_mirrored(draws):
     """A book of small values, about one in three of its rows a row before it with one value negated,
     a target whose first values are 0, and steps: equal scores of different rows are common.

@@ -14,6 +14,7 @@ import subprocess
 import sys
 import tempfile
 from fractions import Fraction
+from itertools import accumulate
 
 HERE = os.path.dirname(os.path.abspath(__file__))
 sys.path.insert(0, HERE)
@@ -766,6 +767,207 @@ def drawn_sheets_with_factors():
     agree("wrong factors change enough", [n >= 40 for n in differ], [True] * len(differ))
 
 
+# ---- our own share table
+
+# name, rows, target, factors, table, tolerance, steps, verdict, t, W, shares, E, G, carried; r is y - W u
+TABLED = [
+    # r = (-1, -1), scores 0, -4, -4: boat 1 gets 1. r = (3, -1), scores 0, 12, -4: boat 2 gets 1. y = (4, 4), r = (2, 2), scores 0, 8, 8:
+    # boat 0 gets 1. Then W = 3, y = (4, 4), r = (1, 1): E = 2, and G = 8 - 3 * 0. The table ends the run, 6 steps before the sheet would.
+    ("1 each", P, (1, 1), None, [1, 1, 1], 0, 9, 3, 3, 3, [1, 1, 1], 2, 8, 2),
+    # The greatest shares. Boat 1 gets 2: y = (8, 0), r = (6, -2), E = 40, scores 0, 24, -8, G = 48 + 16. Boat 2 gets 3: W = 5, y = (8, 12),
+    # r = (3, 7), E = 9 + 49, scores 0, 12, 28, G = 24 + 84. The limit is 25, and 58 - 25 are short.
+    ("greatest", P, (1, 1), None, [2, 3], 1, 9, 3, 2, 5, [0, 2, 3], 58, 108, 33),
+    # Falling shares: boat 1 gets 2 as before, boat 2 gets 1. W = 3, y = (8, 4), r = (5, 1), E = 26, scores 0, 20, 4, G = 40 + 4. 26 is within
+    # 3 * 9, and above 2 * 9.
+    ("falling", P, (1, 1), None, [2, 1, 1], 3, 9, 1, 2, 3, [0, 2, 1], 26, 44, None),
+    ("falling, spent", P, (1, 1), None, [2, 1, 1], 2, 2, 3, 2, 3, [0, 2, 1], 26, 44, 8),
+    # One share, of 2: r = (-5, -5), scores 0, -20, -20: boat 1. y = (8, 0), r = (-2, -10), E = 104, scores 0, -8, -40, G = -16 + 80. The limit is 4:
+    # 40 * 40 > 4 * 104, and the floor is 104 - 128.
+    ("one share", P, (5, 5), None, [2], 1, 9, 2, 1, 2, [0, 2, 0], 104, 64, -24),
+    # Factors 1 2. r' = (-1, -2), scores 0, -4, -8: boat 2 gets 2. r = (-2, 6), r' = (-2, 12), scores 0, -8, 48: boat 1 gets 1. W = 3, y = (4, 8),
+    # r = (1, 5), r' = (1, 10): E = 1 + 50, G = 4 + 80 - 0.
+    ("factored", P, (1, 1), (1, 2), [2, 1], 1, 9, 3, 2, 3, [0, 1, 2], 51, 84, 42),
+    # Counted shares are the fixed ones: sheets a and c, the second cut off by the table.
+    ("a", P, (1, 1), None, [1, 2, 3], 1, 9, 1, 3, 6, [3, 1, 2], 8, 56, None),
+    ("c", P, (1, 1), None, [1, 2], 1, 9, 3, 2, 3, [0, 1, 2], 26, 44, 17),
+]
+
+COUNTED = list(range(1, 361))
+
+# A table and the number that refuses it.
+TABLES = [
+    ([], 49), ([1] * 360, 0), ([1] * 361, 49), ([0] * 361, 49),
+    ([0], 50), ([1, 0], 50), ([1] * 359 + [0], 50), ([2], 0), ([3], 50), ([65535], 50),
+    # 4 is at most 6; 9 is above 8, and at most 10; 16 is above 12, and at most 18; 25 is above 20.
+    ([1, 2], 0), ([1, 3], 50), ([1, 1, 3], 0), ([2, 3], 0), ([2, 4], 50), ([2, 3, 4], 0), ([2, 3, 5], 50),
+    # The totals are 64,980 and 64,981; 65,340 and 64,979.
+    (COUNTED, 0), ([2] + COUNTED[1:], 51), ([k + 1 for k in COUNTED], 51), ([k + 1 for k in COUNTED[:359]], 0),
+    # A share that is too great in a total that is, too.
+    ([2] + COUNTED[1:359] + [361], 50), ([2] + COUNTED[1:359] + [0], 50),
+]
+
+
+def tabled_sheets():
+    """The runs worked out above through every call, the tables' refusals, and where they stand in the order."""
+    for name, rows, target, factors, table, tolerance, steps, verdict, t, w, shares, e, g, carried in TABLED:
+        book, sheet = make_book(rows), make_sheet(target, steps, tolerance, factors=factors)
+        wanted = exact.Answer(t, w, e, g, verdict, carried)
+        agree("table, %s, search" % name, exact.search(book, sheet, [7] * 5, table), (0, wanted, shares + [7, 7]))
+        card = make_card([(boat, s) for boat, s in enumerate(shares) if s], verdict, t, tolerance, e, g, len(rows), len(target))
+        agree("table, %s, writer" % name, exact.write_card(book, sheet, b"w" * 60, table), (0, wanted, len(card), card.ljust(60, b"w")))
+        agree("table, %s, check" % name, exact.check_card(book, sheet, b"front" + card, [7] * 4, table), (0, wanted, shares + [7]))
+        agree("table, %s, made anew" % name, exact.true_card(book, sheet, shares, t, table=table), card)
+    for table, refusal in TABLES:
+        label = "table of %d, first %s" % (len(table), table[:3])
+        agree(label, exact.table_refusal(table), refusal)
+        agree(label + ", search", exact.search(BOOK_A, SHEET_A, [7] * 3, table)[0], refusal)
+        agree(label + ", writer", exact.write_card(BOOK_A, SHEET_A, bytes(60), table)[0], refusal)
+        # Ahead of the book's numbers, and of the share list's.
+        agree(label + ", no book", exact.search(b"", b"", [], table), (refusal or 1, None, []))
+        agree(label + ", no card", exact.check_card(b"", b"", b"", [], table)[0], refusal or 1)
+        agree(label + ", no room", exact.write_card(BOOK_A, SHEET_A, b"", table), (refusal or 22, None, 0, b""))
+    for steps in (0, 361):
+        agree("%d steps with a table of 2" % steps, exact.search(BOOK_A, make_sheet((1, 1), steps, 1), [7] * 3, [1, 2])[0], 14)
+
+
+def tabled_cards():
+    """Cards under the table that made them, under others and under none."""
+    book, sheet = make_book(P), make_sheet((1, 1), 9, 0)
+
+    def numbers(card, tables):
+        return [exact.check_card(book, sheet, card, [7] * 3, table)[0] for table in tables]
+
+    # Spent after 3 steps with 3 shares: steps that the table does not have, another total, and steps that are left.
+    card = make_card([(0, 1), (1, 1), (2, 1)], 3, 3, 0, 2, 8, 3, 2)
+    tables = [[1, 1, 1], None, [1, 1], [1, 1, 2], [1, 1, 1, 1], [1, 2, 1], [0], []]
+    agree("card of 1 1 1", numbers(card, tables), [0, 37, 34, 37, 38, 37, 50, 49])
+    agree("by a sheet of 3 steps", exact.check_card(book, make_sheet((1, 1), 3, 0), card, [7] * 3, [1, 1, 1, 1])[0], 0)
+    agree("by a sheet of 2 steps", exact.check_card(book, make_sheet((1, 1), 2, 0), card, [7] * 3, [1, 1, 1])[0], 34)
+    agree("another E", exact.check_card(book, sheet, make_card([(0, 1), (1, 1), (2, 1)], 3, 3, 0, 3, 8, 3, 2), [7] * 3, [1, 1, 1])[0], 38)
+    agree("another tolerance", exact.check_card(book, sheet, make_card([(0, 1), (1, 1), (2, 1)], 3, 3, 1, 2, 8, 3, 2), [7] * 3, [1, 1, 1])[0], 39)
+    # Sheet a's card, Within after 3 steps with 6 shares, is as true under every table whose first three shares total 6.
+    sheet = SHEET_A
+    agree("card a", numbers(CARD_A, [None, [1, 2, 3], [2, 2, 2], [2, 3, 1, 1], [2, 2, 1], [1, 2]]), [0, 0, 0, 0, 37, 34])
+    # More boats than steps; a share that no step of the table gives is not asked about.
+    card = exact.true_card(book, make_sheet((1, 1), 9, 100), [1, 1, 1], 2, table=[2, 1])
+    agree("3 boats after 2 steps", exact.check_card(book, make_sheet((1, 1), 9, 100), card, [7] * 3, [2, 1])[0], 37)
+    # Cards WCD1 are judged by the former test under a table, too: E 104, G 64, 4 is not below 104 - 128.
+    for letters, verdict in ((b"WCD1", 3), (b"WCD2", 2)):
+        sheet = make_sheet((5, 5), 9, 1)
+        card = make_card([(1, 2)], verdict, 1, 1, 104, 64, 3, 2, letters=letters)
+        agree("the test of %s" % letters, numbers(card, [[2], [2, 1], None]), [0, 38 if verdict == 3 else 0, 37])
+
+
+def drawn_table(draw, most):
+    """A table of 1 to `most` shares that is accepted."""
+    table, total = [], 0
+    for _ in range(draw.randint(1, most)):
+        border = max(k for k in range(1, 100) if k * k <= 2 * (total + k))
+        table.append(draw.choice((1, border, draw.randint(1, border))))
+        total += table[-1]
+    return table
+
+
+def tabled_books():
+    """Drawn runs with tables: straight from the definitions, by the bounds, and with the fixed shares as a table."""
+    draw = random.Random(28)
+    verdicts, nearest = {1: 0, 2: 0, 3: 0}, 0
+    for number in range(300):
+        boats, columns, reach = draw.randint(1, 7), draw.randint(1, 4), draw.choice((2, 10, 2000))
+        rows = [[draw.randint(-reach, reach) for _ in range(columns)] for _ in range(boats)]
+        target = [sum(column) // boats for column in zip(*rows)] if draw.random() < 0.6 else [draw.randint(-reach, reach) for _ in range(columns)]
+        steps, tolerance, factors = draw.randint(1, 15), draw.choice((0, 0, 1, reach)), draw.choice((None, drawn_factors(draw, columns)))
+        table = drawn_table(draw, 15)
+        label = "tabled book %d" % number
+        agree(label + ", accepted", exact.table_refusal(table), 0)
+        answer, shares = exact.run(rows, target, steps, tolerance, factors, table=table)
+        verdicts[answer.verdict] += 1
+        t, w = answer.steps, answer.weight
+        agree(label + ", W", (w, sum(shares)), (sum(table[:t]), w))
+        agree(label + ", boats", sum(map(bool, shares)) <= t <= min(steps, len(table)), True)
+        distance, gap = plain_measure(rows, shares, target, factors)
+        agree(label + ", E and G", (answer.distance, answer.gap), (distance * w * w, gap * w * w))
+        # No mixture is nearer by more than 2 D^2 t / W, nor by more than twice the gap; a long run comes near the nearest.
+        bound = exact.step_bound(t, exact.squared_diameter(rows, factors), table)
+        agree(label + ", the bound", bound, Fraction(2 * exact.squared_diameter(rows, factors) * t, w))
+        others = [plain_measure(rows, [int(i == j) for i in range(boats)], target, factors)[0] for j in range(boats)]
+        long_run = exact.measures(rows, target, 40, factors)[-1][0]
+        best = min(others + [long_run])
+        nearest += best == long_run
+        agree(label + ", bounds", distance - best <= min(bound, 2 * gap), True)
+        if answer.verdict == 3:
+            agree(label + ", spent", (t, best >= tolerance - bound), (min(steps, len(table)), True))
+        # One share less, or one step less, ends as Spent; the last step gave its share to one boat.
+        if t > 1:
+            before, fewer = exact.run(rows, target, steps, tolerance, factors, table=table[:t - 1])
+            agree(label + ", one share less", (before.steps, before.verdict), (t - 1, 3))
+            agree(label + ", one step less", exact.run(rows, target, t - 1, tolerance, factors, table=table), (before, fewer))
+            agree(label + ", last step", sorted(a - b for a, b in zip(shares, fewer)), [0] * (boats - 1) + [table[t - 1]])
+        # Shares past the last step are not looked at, and counted shares that are enough are the fixed ones.
+        if len(table) > t:
+            agree(label + ", other shares behind", exact.run(rows, target, steps, tolerance, factors, table=table[:t] + [1] * (len(table) - t)), (answer, shares))
+        agree(label + ", counted", exact.run(rows, target, steps, tolerance, factors, table=COUNTED[:steps + number % 2]),
+              exact.run(rows, target, steps, tolerance, factors))
+        book, sheet = make_book(rows), make_sheet(target, steps, tolerance, factors=factors)
+        refusal, written, size, buffer = exact.write_card(book, sheet, bytes(80), table)
+        agree(label + ", card", exact.check_card(book, sheet, b"front" + buffer[:size], [0] * boats, table), (0, answer, shares))
+    agree("every verdict with tables", min(verdicts.values()) > 5, True)
+    agree("long runs come nearest often", nearest > 50, True)
+
+
+# Wrong ways to take a table, each of which changes many of the drawn searches: the share of step k (from 1), and the steps that may be taken.
+WRONG_TABLES = [
+    (lambda table, k: (table + [0])[k], min),                        # the next share
+    (lambda table, k: k, min),                                       # the fixed one
+    (lambda table, k: table[min(k, len(table)) - 1], lambda a, b: a),  # the last share again past the end
+    (lambda table, k: table[-k], min),                               # from the end
+    (lambda table, k: 1, min),                                       # 1 each
+    (lambda table, k: table[k - 1], lambda a, b: min(a, b - 1) or 1),  # one share left over
+]
+
+
+def by_shares(rows, target, factors, steps, tolerance, share):
+    """Steps, shares and E of a run in whole numbers that gives share(k) in step k, up to the first verdict."""
+    shares, slope, w = [0] * len(rows), [a - u for a, u in zip(rows[0], target)], 0
+    for k in range(1, steps + 1):
+        scores = [sum(f * a * b for f, a, b in zip(factors, slope, row)) for row in rows]
+        shares[first_that_holds([i for i, score in enumerate(scores) if score == min(scores)], shares, None)] += share(k)
+        w += share(k)
+        y = [sum(s * row[j] for s, row in zip(shares, rows)) for j in range(len(target))]
+        slope = [a - w * u for a, u in zip(y, target)]
+        e = sum(f * a * a for f, a in zip(factors, slope))
+        g = max(sum(f * a * (b - w * v) for f, a, b, v in zip(factors, slope, y, row)) for row in rows)
+        if e <= tolerance * w * w or e > g and (e - g) ** 2 > tolerance * w * w * e:
+            break
+    return k, shares, e, g
+
+
+def drawn_sheets_with_tables():
+    """Tables drawn as test_factor draws them tell a table from wrong ones; and what draw_table gives meets the limits."""
+    draws, draw = generator.Draws(25), random.Random(8)
+    met, differ = [], [0] * len(WRONG_TABLES)
+    for number in range(600):
+        table = generator.draw_table(draws, 20)
+        refusal = exact.table_refusal(table)
+        met.append((refusal, len(table)))
+        if refusal:
+            continue
+        at_border = [k * k <= 2 * w < (k + 1) ** 2 - 2 for k, w in zip(table, accumulate(table))]
+        met.append(("border", all(at_border) and len(table) > 1))
+        boats, columns = draw.randint(2, 6), draw.randint(1, 3)
+        rows = [[draw.randint(-20, 20) for _ in range(columns)] for _ in range(boats)]
+        target, factors, steps = [sum(column) // boats for column in zip(*rows)], [1] * columns, draw.randint(1, 12)
+        answer, shares = exact.run(rows, target, steps, 0, factors, table=table)
+        right = answer.steps, shares, answer.distance, answer.gap
+        agree("drawn table %d, in whole numbers" % number, right,
+              by_shares(rows, target, factors, min(steps, len(table)), 0, lambda k: table[k - 1]))
+        for i, (share, allowed) in enumerate(WRONG_TABLES):
+            differ[i] += right != by_shares(rows, target, factors, allowed(steps, len(table)), 0, lambda k: share(table, k))
+    for outcome in ((49, 0), (49, 361), (50, 360), (51, 360), (0, 360), (0, 359), (0, 1), ("border", True)):
+        agree("drawn tables meet %s" % (outcome,), met.count(outcome) >= 3, True)
+    agree("wrong tables change enough", [n >= 40 for n in differ], [True] * len(differ))
+
+
 def ties_and_start():
     """Equal scores take the lowest boat that holds shares; step 1 starts from boat 0's row."""
     # At (0, 0) with target (1, 1), boats 1 and 2 have equal scores.
@@ -1123,7 +1325,7 @@ def one_book_from_two():
 def main():
     for part in (marked_sheets, readers, book_and_sheet_refusals, lent_lists, card_refusals,
                  two_tests, editions, filed_before, two_faults, ties_and_start, drawn_ties, random_books, factored_sheets, factored_cards, factored_books,
-                 drawn_sheets_with_factors, full_size, damaged_files,
+                 drawn_sheets_with_factors, tabled_sheets, tabled_cards, tabled_books, drawn_sheets_with_tables, full_size, damaged_files,
                  from_a_shell, whole_numbers, scale_cells, subtractions, gap_bounds, better_of_two, other_editions, one_book_from_two):
         part()
     if differences:

@@ -1,12 +1,13 @@
 #!/usr/bin/env python3
-"""What test_factor prints: drawn books with three sheets each, one without factors and two with drawn ones, over fractions."""
+"""What test_factor prints: drawn books with three sheets each, one without factors and two with drawn ones, and two drawn tables of
+shares, over fractions."""
 import os
 import sys
 
 sys.path.insert(0, os.path.join(os.path.dirname(os.path.abspath(__file__)), ".."))
 import exact  # noqa: E402
 import generator  # noqa: E402
-from printing import answer_lines, checksum  # noqa: E402
+from printing import answer_lines, checksum, outcome_lines, slots_line  # noqa: E402
 
 ROOM = 1060
 
@@ -36,9 +37,9 @@ def found(book, sheet):
     return carried + exact.listing(book, sheet).decode()
 
 
-def written(book, sheet):
+def written(book, sheet, table=None):
     """The lines of a card's writing, the buffer afterwards, and the card."""
-    refusal, answer, length, buffer = exact.write_card(book, sheet, bytes([9] * ROOM))
+    refusal, answer, length, buffer = exact.write_card(book, sheet, bytes([9] * ROOM), table)
     text = "refused %d\n" % refusal if refusal else answer_lines(answer) + "bytes %d\n" % length
     return text, buffer, buffer[:length]
 
@@ -61,7 +62,28 @@ def cards(book, plain, sheet, other):
     yield chosen(book, sheet, first, second) + chosen(book, plain, second, first)
 
 
-def one(draws, number, plan):
+def unread(book, sheet):
+    """What the search gives where no table is lent, in short."""
+    refusal, answer, _ = exact.search(book, sheet, [7] * 256)
+    numbers = (answer.steps, answer.weight, answer.distance) if answer else (0, 0, 0)
+    return "unread %d %d %d %d\n" % (refusal, *numbers)
+
+
+def lent(book, sheet, boats, table, other):
+    """A search and a card under a table; the card checked under it, without its last share, under the other and under none, and
+    the card of the search without a table under the table.
+    """
+    refusal, answer, slots = exact.search(book, sheet, [7] * 256, table)
+    yield outcome_lines(refusal, answer) + slots_line(slots[:boats + 1]) + unread(book, sheet)
+    text, buffer, card = written(book, sheet, table)
+    yield text + "sum %d\n" % checksum(buffer)
+    plain = written(book, sheet)[2]
+    pairs = [(card, table), (card, table[:-1]), (card, other), (card, None), (plain, table)]
+    numbers = [exact.check_card(book, sheet, file, [7] * 256, shares)[0] for file, shares in pairs]
+    yield "under %d %d %d %d %d\n" % tuple(numbers)
+
+
+def one(draws, number, plan, choices=20):
     rows, book = generator.draw_book(draws, plan)
     plain = generator.draw_sheet(draws, plan, book, rows, 0)
     sheet, other = (generator.factored_sheet(plain, generator.draw_factors(draws, plan.columns)) for _ in range(2))
@@ -69,6 +91,8 @@ def one(draws, number, plan):
     plain, sheet, other = (with_tolerance(file, tolerance) for file in (plain, sheet, other))
     yield "case %d\n" % number + found(book, sheet)
     yield from cards(book, plain, sheet, other)
+    table, wrong = (generator.draw_table(draws, choices) for _ in range(2))
+    yield from lent(book, sheet, plan.boats, table, wrong)
     yield found(book, generator.damage(draws, sheet))
 
 
@@ -80,6 +104,8 @@ def main():
     for number in range(30):
         out += one(draws, number, generator.Plan(6, 64, 20, 8, 3))
     out += one(draws, 30, generator.Plan(256, 64, 2000, 12, 3))
+    for number in range(6):
+        out += one(draws, number, generator.Plan(7, 3, 200, 360, 1), 2)
     sys.stdout.write("".join(out))
 
 
