@@ -6,7 +6,7 @@ ghost use Rattle.test_card_printing.specs.Written.{written-length, writt
 use card_format::Written;
 
 // What the writer gives back; its length.
-fn print_written(written: Written) -> usize
+pub fn print_written(written: Written) -> usize
     ensures { λ r. ⌜ r ≡ written-size written ⌝ }
 {
     match written {

@@ -1,7 +1,10 @@
 // Drawn fleet books with three sheets each, one without factors and two with drawn ones: searched, their cards written and checked by
-// all three, the better of two chosen, and a sheet damaged. Small books, some of 64 columns, and one of full size.
+// all three, the better of two chosen, a sheet searched and checked with drawn tables of shares, and a sheet damaged. Small books, some of
+// 64 columns, one of full size, and some of 360 steps.
 // The expected output is made by tests/expected/test_factor.py.
 mod factored;
+mod lent;
+mod tables;
 
 use method::Answer;
 use method::Searched;
@@ -117,8 +120,25 @@ fn damaged(book: &[u8], sheet: &mut [u8], end: usize, seed: &mut u64) {
     found(book, between(sheet, part.start, part.end));
 }
 
+// A sheet with two drawn tables of shares.
+fn with_tables(book: &[u8], sheet: &[u8], seed: &mut u64, plan: Plan, choices: u64) {
+    let mut table = [0u16; 361];
+    let mut other = [0u16; 361];
+    let n = tables::put_table(&mut table, seed, choices);
+    let m = tables::put_table(&mut other, seed, choices);
+    let boats = (plan.boats % 65536) as usize;
+    lent::under(
+        book,
+        sheet,
+        tables::first(&table, n),
+        tables::first(&table, less(n, 1)),
+        tables::first(&other, m),
+        boats,
+    );
+}
+
 // A book, and its sheet without factors and of tolerance 0: two sheets with factors are made of it, and all three get a tolerance.
-fn sheets(book: &[u8], bare: &[u8], seed: &mut u64, plan: Plan) {
+fn sheets(book: &[u8], bare: &[u8], seed: &mut u64, plan: Plan, choices: u64) {
     let mut plain = [0u8; 256];
     let mut sheet = [0u8; 256];
     let mut other = [0u8; 256];
@@ -136,11 +156,12 @@ fn sheets(book: &[u8], bare: &[u8], seed: &mut u64, plan: Plan) {
         between(&sheet, 0, n),
         between(&other, 0, k),
     );
+    with_tables(book, between(&sheet, 0, n), seed, plan, choices);
     damaged(book, &mut sheet, n, seed);
 }
 
-// One drawn case.
-fn one(seed: &mut u64, number: u64, plan: Plan) {
+// One drawn case; the tables have as many shares as one of `choices` says.
+fn one(seed: &mut u64, number: u64, plan: Plan, choices: u64) {
     let mut book = [0u8; 40001];
     let mut plain = [0u8; 256];
     test_printing::line(b"case", number);
@@ -148,7 +169,13 @@ fn one(seed: &mut u64, number: u64, plan: Plan) {
     let rows = placed.rows;
     let end = placed.end;
     let m = test_samples::put_sheet(&mut plain, seed, plan, &book, rows, 0);
-    sheets(between(&book, 0, end), between(&plain, 0, m), seed, plan);
+    sheets(
+        between(&book, 0, end),
+        between(&plain, 0, m),
+        seed,
+        plan,
+        choices,
+    );
 }
 
 // A plan of 64 columns.
@@ -166,10 +193,26 @@ fn wide(boats: u64, scale: u64, steps: u64) -> Plan {
 fn wide_cases(seed: &mut u64) {
     let mut number = 0;
     while number < 30 {
-        one(seed, number, wide(6, 20, 8));
+        one(seed, number, wide(6, 20, 8), 20);
         number += 1;
     }
-    one(seed, number, wide(256, 2000, 12));
+    one(seed, number, wide(256, 2000, 12), 20);
+}
+
+// Sheets of 360 steps with long tables.
+fn long_cases(seed: &mut u64) {
+    let mut number = 0;
+    while number < 6 {
+        let plan = Plan {
+            boats: 7,
+            columns: 3,
+            scale: 200,
+            steps: 360,
+            front: 1,
+        };
+        one(seed, number, plan, 2);
+        number += 1;
+    }
 }
 
 fn main() {
@@ -177,8 +220,9 @@ fn main() {
     let mut number = 0;
     while number < 1000 {
         let plan = test_samples::draw_plan(&mut seed);
-        one(&mut seed, number, plan);
+        one(&mut seed, number, plan, 20);
         number += 1;
     }
     wide_cases(&mut seed);
+    long_cases(&mut seed);
 }
