@@ -231,7 +231,7 @@ pub fn compare_sheet(rng: &mut Random) -> Compared {
             expected.length = bytes.len();
             expected.bytes[..bytes.len()].copy_from_slice(bytes);
             // The sheet is one for this book.
-            assert!(reference::read_files(&book, bytes).is_ok());
+            assert!(reference::read_files(Default::default(), &book, bytes).is_ok());
         }
         Err(number) => expected.refusal = *number,
     }

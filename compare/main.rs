@@ -1,6 +1,7 @@
 //! The volume comparison: random and damaged files through the exported functions of the library and through the reference
 //! implementation in reference.rs. Replies, share lists, cards, listings and what must stay untouched are compared bit for bit;
-//! cells.rs does the same of scale cells, pairs.rs of two cards, editions.rs of a sheet's other edition, merges.rs of two books.
+//! terms.rs has the calls that also take a table of shares; cells.rs does the same of scale cells, pairs.rs of two cards, editions.rs of
+//! a sheet's other edition, merges.rs of two books.
 //!
 //! Use: compare [COUNT [SEED]]. The last line has the count; the exit status is 1 where a case differs, and the case is printed.
 
@@ -11,12 +12,14 @@ mod merges;
 mod pairs;
 mod random;
 mod reference;
+mod terms;
 
 use encode::{book_of, sheet_of};
 use random::Random;
-use reference::{Answer, Test, Verdict};
+use reference::{Answer, Handed, Test, Verdict};
 use std::collections::BTreeMap;
 use std::sync::atomic::Ordering;
+use terms::Terms;
 
 // ---------------------------------------------------------------- the library
 
@@ -238,7 +241,7 @@ fn factors(rng: &mut Random, columns: usize) -> Option<Vec<u8>> {
 }
 
 /// A tolerance, also next to where the verdict of the run changes.
-fn tolerance(rng: &mut Random, rows: &[Vec<i16>], target: &[i16], factors: Option<&[u8]>, steps: u16) -> u32 {
+fn tolerance(rng: &mut Random, handed: Handed, rows: &[Vec<i16>], target: &[i16], factors: Option<&[u8]>, steps: u16) -> u32 {
     const MOST: i128 = 1_024_000_000;
     match rng.below(8) {
         0 => 0,
@@ -246,12 +249,12 @@ fn tolerance(rng: &mut Random, rows: &[Vec<i16>], target: &[i16], factors: Optio
         2 => rng.below(MOST as usize + 1) as u32,
         3 => MOST as u32 - rng.below(2) as u32,
         _ => {
-            let short = 1 + rng.below(usize::from(steps).min(12));
-            let Ok(problem) = reference::read_files(&book_of(rows), &sheet_of(target, factors, short as u16, 0)) else {
+            let Ok(problem) = reference::read_files(handed, &book_of(rows), &sheet_of(target, factors, steps, 0)) else {
                 return 0;
             };
+            let short = 1 + rng.below(problem.steps().min(12));
             let (e, g) = problem.distance_and_gap(&problem.shares_after(short));
-            let weight = (short * (short + 1) / 2) as i128;
+            let weight = problem.weight(short);
             let bound = match rng.below(3) {
                 0 => e,
                 1 => e - 2 * g,
@@ -406,11 +409,16 @@ fn damage_card(rng: &mut Random, file: &mut Vec<u8>, boats: usize) {
 
 /// A fleet book and a sheet, one in three of them damaged.
 fn files(rng: &mut Random) -> (Vec<u8>, Vec<u8>) {
+    files_for(rng, Handed::default())
+}
+
+/// The same for a call that is handed something beside them.
+fn files_for(rng: &mut Random, handed: Handed) -> (Vec<u8>, Vec<u8>) {
     let (boats, columns, steps) = sizes(rng);
     let rows = rows(rng, boats, columns);
     let target = target(rng, &rows);
     let factors = factors(rng, columns);
-    let tolerance = tolerance(rng, &rows, &target, factors.as_deref(), steps);
+    let tolerance = tolerance(rng, handed, &rows, &target, factors.as_deref(), steps);
     let plain_book = book_of(&rows);
     let plain_sheet = sheet_of(&target, factors.as_deref(), steps, tolerance);
     let mut book = with_front(rng, plain_book);
@@ -498,51 +506,70 @@ fn compared<R: PartialEq + std::fmt::Debug, L: PartialEq + std::fmt::Debug>(
     Compared { call, outcome, same, shown }
 }
 
-fn compare_search(rng: &mut Random) -> Compared {
-    let (book, sheet) = files(rng);
+/// What the reference is given of what is handed in, nothing in a plain call.
+fn handed(terms: &Option<Terms>) -> Handed<'_> {
+    terms.as_ref().map_or(Handed::default(), Terms::handed)
+}
+
+/// The bytes of the table that is handed in.
+fn table_bytes(terms: &Option<Terms>) -> Vec<u8> {
+    terms.as_ref().map_or(Vec::new(), Terms::bytes)
+}
+
+fn compare_search(rng: &mut Random, terms: Option<Terms>) -> Compared {
+    let (book, sheet) = files_for(rng, handed(&terms));
     let boats = boats_of(rng, &book);
     let slots = length_near(rng, boats);
     let whole: Vec<u16> = (0..slots + 2 * GUARD).map(|_| rng.next() as u16).collect();
     let (mut wanted, mut given) = (whole.clone(), whole);
-    let before = (lent("book", &book), lent("sheet", &sheet));
-    let expected = reply_of(&reference::search(&book, &sheet, &mut wanted[GUARD..GUARD + slots]));
-    let reply = library_search(&book, &sheet, &mut given[GUARD..GUARD + slots]);
-    let files = [(before.0, &book[..]), (before.1, &sheet[..])];
-    compared("search", outcome_name(&expected), &files, (expected, wanted), (reply, given))
+    let before = (lent("book", &book), lent("sheet", &sheet), lent("table", &table_bytes(&terms)));
+    let expected = reply_of(&reference::search(handed(&terms), &book, &sheet, &mut wanted[GUARD..GUARD + slots]));
+    let list = &mut given[GUARD..GUARD + slots];
+    let (call, reply) = match &terms {
+        None => ("search", library_search(&book, &sheet, list)),
+        Some(terms) => ("search_with", terms.search(&book, &sheet, list)),
+    };
+    let files = [(before.0, &book[..]), (before.1, &sheet[..]), (before.2, &table_bytes(&terms)[..])];
+    compared(call, outcome_name(&expected), &files, (expected, wanted), (reply, given))
 }
 
-fn compare_write_card(rng: &mut Random) -> Compared {
-    let (book, sheet) = files(rng);
-    let needed = match reference::read_files(&book, &sheet) {
+fn compare_write_card(rng: &mut Random, terms: Option<Terms>) -> Compared {
+    let (book, sheet) = files_for(rng, handed(&terms));
+    let needed = match reference::read_files(handed(&terms), &book, &sheet) {
         Ok(problem) => 36 + 4 * problem.run().1.iter().filter(|q| **q != 0).count(),
         Err(_) => rng.below(60),
     };
     let length = length_near(rng, needed);
     let whole = rng.bytes(length + 2 * GUARD);
     let (mut wanted, mut given) = (whole.clone(), whole);
-    let before = (lent("book", &book), lent("sheet", &sheet));
-    let outcome = reference::write_card(&book, &sheet, &mut wanted[GUARD..GUARD + length]);
-    let reply = library_write_card(&book, &sheet, &mut given[GUARD..GUARD + length]);
+    let before = (lent("book", &book), lent("sheet", &sheet), lent("table", &table_bytes(&terms)));
+    let outcome = reference::write_card(handed(&terms), &book, &sheet, &mut wanted[GUARD..GUARD + length]);
+    let output = &mut given[GUARD..GUARD + length];
+    let (call, reply) = match &terms {
+        None => ("write_card", library_write_card(&book, &sheet, output)),
+        Some(terms) => ("write_card_with", terms.write_card(&book, &sheet, output)),
+    };
     let expected = CardReply {
         reply: reply_of(&outcome.map(|(answer, _)| answer)),
         bytes: outcome.map_or(0, |(_, bytes)| bytes),
     };
-    let files = [(before.0, &book[..]), (before.1, &sheet[..])];
-    compared("write_card", outcome_name(&expected.reply), &files, (expected, wanted), (reply, given))
+    let files = [(before.0, &book[..]), (before.1, &sheet[..]), (before.2, &table_bytes(&terms)[..])];
+    compared(call, outcome_name(&expected.reply), &files, (expected, wanted), (reply, given))
 }
 
 /// Shares of some mixture, not that of a search: the total of t steps, mostly on at most t boats.
-fn other_shares(rng: &mut Random, boats: usize, t: usize) -> Vec<u16> {
+fn other_shares(rng: &mut Random, problem: &reference::Problem, t: usize) -> Vec<u16> {
+    let boats = problem.rows.len();
+    let mut left = problem.weight(t) as usize;
     let mut shares = vec![0u16; boats];
     // One boat more than the steps allow.
-    if 2 <= t && t < boats && rng.one_in(4) {
+    if t < left && t < boats && rng.one_in(4) {
         shares[..=t].fill(1);
-        shares[rng.below(t + 1)] += (t * (t + 1) / 2 - (t + 1)) as u16;
+        shares[rng.below(t + 1)] += (left - (t + 1)) as u16;
         return shares;
     }
     let used = 1 + rng.below(boats.min(t).min(6));
     let held: Vec<usize> = (0..used).map(|_| rng.below(boats)).collect();
-    let mut left = t * (t + 1) / 2;
     for boat in &held {
         let part = rng.below(left + 1);
         shares[*boat] += part as u16;
@@ -569,8 +596,8 @@ fn card_for(rng: &mut Random, problem: &reference::Problem) -> Vec<u8> {
     let (run, mut shares) = problem.run();
     let mut t = run.steps;
     if rng.one_in(2) {
-        t = if rng.one_in(2) { problem.steps } else { 1 + rng.below(problem.steps) };
-        shares = other_shares(rng, problem.rows.len(), t);
+        t = if rng.one_in(2) { problem.steps() } else { 1 + rng.below(problem.steps()) };
+        shares = other_shares(rng, problem, t);
     }
     let mut card = true_card(rng, problem, t, &shares);
     if rng.one_in(2) {
@@ -582,9 +609,11 @@ fn card_for(rng: &mut Random, problem: &reference::Problem) -> Vec<u8> {
     card
 }
 
-fn compare_check_card(rng: &mut Random) -> Compared {
-    let (book, sheet) = files(rng);
-    let card = match reference::read_files(&book, &sheet) {
+/// A card of the files under what is handed in, or, one in six, under nothing.
+fn compare_check_card(rng: &mut Random, terms: Option<Terms>) -> Compared {
+    let (book, sheet) = files_for(rng, handed(&terms));
+    let made = if rng.one_in(6) { Handed::default() } else { handed(&terms) };
+    let card = match reference::read_files(made, &book, &sheet) {
         Ok(problem) => card_for(rng, &problem),
         Err(_) => rng.bytes(rng.0 as usize % 80),
     };
@@ -592,11 +621,16 @@ fn compare_check_card(rng: &mut Random) -> Compared {
     let slots = if rng.one_in(3) { length_near(rng, boats) } else { boats + rng.below(4) };
     let whole: Vec<u16> = (0..slots + 2 * GUARD).map(|_| rng.next() as u16).collect();
     let (mut wanted, mut given) = (whole.clone(), whole);
-    let before = (lent("book", &book), lent("sheet", &sheet), lent("card", &card));
-    let expected = reply_of(&reference::check_card(&book, &sheet, &card, &mut wanted[GUARD..GUARD + slots]));
-    let reply = library_check_card(&book, &sheet, &card, &mut given[GUARD..GUARD + slots]);
-    let files = [(before.0, &book[..]), (before.1, &sheet[..]), (before.2, &card[..])];
-    compared("check_card", outcome_name(&expected), &files, (expected, wanted), (reply, given))
+    let before = (lent("book", &book), lent("sheet", &sheet), lent("table", &table_bytes(&terms)), lent("card", &card));
+    let expected = reply_of(&reference::check_card(handed(&terms), &book, &sheet, &card, &mut wanted[GUARD..GUARD + slots]));
+    let list = &mut given[GUARD..GUARD + slots];
+    let (call, reply) = match &terms {
+        None => ("check_card", library_check_card(&book, &sheet, &card, list)),
+        Some(terms) => ("check_card_with", terms.check_card(&book, &sheet, &card, list)),
+    };
+    let table = table_bytes(&terms);
+    let files = [(before.0, &book[..]), (before.1, &sheet[..]), (before.2, &table[..]), (before.3, &card[..])];
+    compared(call, outcome_name(&expected), &files, (expected, wanted), (reply, given))
 }
 
 fn compare_listing(rng: &mut Random) -> Compared {
@@ -631,16 +665,32 @@ fn refusals(call: &str) -> Vec<u32> {
         "scale_sheet" => return (1..=6).chain(41..=43).chain(14..=15).collect(),
         "other_edition" => return (11..=17).chain(46..=48).collect(),
         "merge_books" => return (1..=6).chain(55..=57).collect(),
-        "search" => numbers.push(21),
-        "write_card" => numbers.push(22),
-        "check_card" => numbers.extend([21].into_iter().chain(31..=39)),
+        "search" | "search_with" => numbers.push(21),
+        "write_card" | "write_card_with" => numbers.push(22),
+        "check_card" | "check_card_with" => numbers.extend([21].into_iter().chain(31..=39)),
         "better_card" => numbers.extend(31..=39),
         _ => {}
+    }
+    if call.ends_with("_with") {
+        numbers.extend(49..=51);
     }
     numbers
 }
 
-const CALLS: [&str; 9] = ["search", "write_card", "check_card", "better_card", "listing", "sheet_values", "scale_sheet", "other_edition", "merge_books"];
+const CALLS: [&str; 12] = [
+    "search",
+    "write_card",
+    "check_card",
+    "search_with",
+    "write_card_with",
+    "check_card_with",
+    "better_card",
+    "listing",
+    "sheet_values",
+    "scale_sheet",
+    "other_edition",
+    "merge_books",
+];
 
 /// How a call goes that is not refused.
 fn answers(call: &str) -> &'static [&'static str] {
@@ -654,10 +704,22 @@ fn answers(call: &str) -> &'static [&'static str] {
 }
 
 fn one_case(rng: &mut Random) -> Compared {
-    match rng.below(17) {
-        0 | 1 => compare_search(rng),
-        2 | 3 => compare_write_card(rng),
-        4..=6 => compare_check_card(rng),
+    match rng.below(25) {
+        0 | 1 => compare_search(rng, None),
+        2 | 3 => compare_write_card(rng, None),
+        4..=6 => compare_check_card(rng, None),
+        17 | 18 => {
+            let terms = Terms::drawn(rng);
+            compare_search(rng, Some(terms))
+        }
+        19 | 20 => {
+            let terms = Terms::drawn(rng);
+            compare_write_card(rng, Some(terms))
+        }
+        21..=24 => {
+            let terms = Terms::drawn(rng);
+            compare_check_card(rng, Some(terms))
+        }
         7 => compare_listing(rng),
         8 => cells::compare_values(rng),
         9 => cells::compare_sheet(rng),

@@ -59,12 +59,12 @@ fn pair_for(rng: &mut Random, problem: &Problem) -> (Vec<u8>, Vec<u8>) {
     if rng.one_in(4) {
         return (card_for(rng, problem), card_for(rng, problem));
     }
-    let t = if rng.one_in(4) { 1 + rng.below(problem.steps) } else { problem.steps };
-    let one = other_shares(rng, problem.rows.len(), t);
+    let t = if rng.one_in(4) { 1 + rng.below(problem.steps()) } else { problem.steps() };
+    let one = other_shares(rng, problem, t);
     let other = match rng.below(3) {
         0 => one.clone(),
         1 => beside(rng, &one),
-        _ => other_shares(rng, problem.rows.len(), t),
+        _ => other_shares(rng, problem, t),
     };
     let (mut first, mut second) = (true_card(rng, problem, t, &one), true_card(rng, problem, t, &other));
     match rng.below(6) {
@@ -77,7 +77,7 @@ fn pair_for(rng: &mut Random, problem: &Problem) -> (Vec<u8>, Vec<u8>) {
 
 pub fn compare_better_card(rng: &mut Random) -> Compared {
     let (book, sheet) = files(rng);
-    let (first, second) = match reference::read_files(&book, &sheet) {
+    let (first, second) = match reference::read_files(Default::default(), &book, &sheet) {
         Ok(problem) => pair_for(rng, &problem),
         Err(_) => (rng.bytes(40), rng.bytes(40)),
     };

@@ -69,12 +69,19 @@ pub struct Answer {
     pub verdict: Verdict,
 }
 
-/// An accepted fleet book and sheet.
+/// What a caller may hand in beside the files: a table of shares.
+#[derive(Clone, Copy, Default)]
+pub struct Handed<'a> {
+    pub table: Option<&'a [u16]>,
+}
+
+/// What an accepted call is about.
 pub struct Problem {
     pub rows: Vec<Vec<i128>>,
     pub target: Vec<i128>,
     pub factors: Vec<i128>,
-    pub steps: usize,
+    /// The shares that the steps give, one a step that may be taken.
+    pub schedule: Vec<u16>,
     pub tolerance: i128,
 }
 
@@ -163,13 +170,47 @@ fn read_sheet(sheet: &[u8], columns: usize) -> Result<Sheet, u32> {
     Ok(Sheet { target, factors, steps, tolerance })
 }
 
-pub fn read_files(book: &[u8], sheet: &[u8]) -> Result<Problem, u32> {
+/// The shares of a lent table, or the number that refuses it.
+fn read_table(table: &[u16]) -> Result<Vec<u16>, u32> {
+    if table.is_empty() || table.len() > 360 {
+        return Err(49);
+    }
+    let mut total = 0u64;
+    for share in table.iter().map(|share| u64::from(*share)) {
+        total += share;
+        if share == 0 || share * share > 2 * total {
+            return Err(50);
+        }
+    }
+    if total > 64_980 {
+        return Err(51);
+    }
+    Ok(table.to_vec())
+}
+
+/// The problem of what is handed in and the two files, or the number that refuses them.
+pub fn read_files(handed: Handed, book: &[u8], sheet: &[u8]) -> Result<Problem, u32> {
+    let mut schedule = match handed.table {
+        Some(table) => read_table(table)?,
+        None => (1..=360).collect(),
+    };
     let rows = read_book(book)?;
     let Sheet { target, factors, steps, tolerance } = read_sheet(sheet, rows[0].len())?;
-    Ok(Problem { rows, target, factors, steps, tolerance })
+    schedule.truncate(steps);
+    Ok(Problem { rows, target, factors, schedule, tolerance })
 }
 
 impl Problem {
+    /// How many steps may be taken.
+    pub fn steps(&self) -> usize {
+        self.schedule.len()
+    }
+
+    /// W: the total of the shares that t steps give.
+    pub fn weight(&self, t: usize) -> i128 {
+        self.schedule[..t].iter().map(|share| i128::from(*share)).sum()
+    }
+
     /// The sum over the columns of factor times product.
     fn inner(&self, a: &[i128], b: &[i128]) -> i128 {
         self.factors.iter().zip(a.iter().zip(b)).map(|(f, (x, y))| f * x * y).sum()
@@ -220,7 +261,7 @@ impl Problem {
             Some(Verdict::Within)
         } else if test.holds(limit, e, g) {
             Some(Verdict::Beyond(e - 2 * g))
-        } else if t == self.steps {
+        } else if t == self.steps() {
             Some(Verdict::Spent(e - limit))
         } else {
             None
@@ -234,7 +275,7 @@ impl Problem {
             _ => self.point_and_residual(shares).1,
         };
         let boat = self.pick(&direction, shares);
-        shares[boat] += t as u16;
+        shares[boat] += self.schedule[t - 1];
     }
 
     /// The shares after t steps, whatever the verdicts are.
@@ -253,7 +294,7 @@ impl Problem {
         loop {
             t += 1;
             self.step(t, &mut shares);
-            let weight = (t * (t + 1) / 2) as i128;
+            let weight = self.weight(t);
             let (distance, gap) = self.distance_and_gap(&shares);
             if let Some(verdict) = self.judge(Test::Sharper, t, weight, distance, gap) {
                 return (Answer { steps: t, weight, distance, gap, verdict }, shares);
@@ -263,7 +304,7 @@ impl Problem {
 
     /// The answer that a card of the test's edition with these shares after t steps must carry, none where no verdict is due.
     pub fn answer_of(&self, test: Test, t: usize, shares: &[u16]) -> Option<Answer> {
-        let weight = (t * (t + 1) / 2) as i128;
+        let weight = self.weight(t);
         let (distance, gap) = self.distance_and_gap(shares);
         let verdict = self.judge(test, t, weight, distance, gap)?;
         Some(Answer { steps: t, weight, distance, gap, verdict })
@@ -318,7 +359,7 @@ impl Problem {
         }
         let verdict = unsigned(&trailer[4..6]) as u16;
         let t = unsigned(&trailer[6..8]) as usize;
-        if !(1..=3).contains(&verdict) || t == 0 || t > self.steps {
+        if !(1..=3).contains(&verdict) || t == 0 || t > self.steps() {
             return Err(34);
         }
         let back = unsigned(&trailer[..4]) as usize;
@@ -337,8 +378,8 @@ impl Problem {
             shares[boat] = share;
             lowest = boat + 1;
         }
-        let total: usize = shares.iter().map(|q| usize::from(*q)).sum();
-        if body.len() / 4 > t || total != t * (t + 1) / 2 {
+        let total: i128 = shares.iter().map(|q| i128::from(*q)).sum();
+        if body.len() / 4 > t || total != self.weight(t) {
             return Err(37);
         }
         let Some(answer) = self.answer_of(test, t, &shares) else {
@@ -358,8 +399,8 @@ impl Problem {
 }
 
 /// The search: its answer or refusal; the share list is filled only where it answers.
-pub fn search(book: &[u8], sheet: &[u8], slots: &mut [u16]) -> Result<Answer, u32> {
-    let problem = read_files(book, sheet)?;
+pub fn search(handed: Handed, book: &[u8], sheet: &[u8], slots: &mut [u16]) -> Result<Answer, u32> {
+    let problem = read_files(handed, book, sheet)?;
     if slots.len() < problem.rows.len() {
         return Err(21);
     }
@@ -369,8 +410,8 @@ pub fn search(book: &[u8], sheet: &[u8], slots: &mut [u16]) -> Result<Answer, u3
 }
 
 /// The writer: its answer and the bytes written, or its refusal; the buffer is written only where it answers.
-pub fn write_card(book: &[u8], sheet: &[u8], buffer: &mut [u8]) -> Result<(Answer, usize), u32> {
-    let problem = read_files(book, sheet)?;
+pub fn write_card(handed: Handed, book: &[u8], sheet: &[u8], buffer: &mut [u8]) -> Result<(Answer, usize), u32> {
+    let problem = read_files(handed, book, sheet)?;
     let (answer, shares) = problem.run();
     let card = problem.answer_card(Test::Sharper, &answer, &shares);
     if buffer.len() < card.len() {
@@ -381,8 +422,8 @@ pub fn write_card(book: &[u8], sheet: &[u8], buffer: &mut [u8]) -> Result<(Answe
 }
 
 /// The card check: the card's answer or its refusal; the share list is filled only where it accepts.
-pub fn check_card(book: &[u8], sheet: &[u8], card: &[u8], slots: &mut [u16]) -> Result<Answer, u32> {
-    let problem = read_files(book, sheet)?;
+pub fn check_card(handed: Handed, book: &[u8], sheet: &[u8], card: &[u8], slots: &mut [u16]) -> Result<Answer, u32> {
+    let problem = read_files(handed, book, sheet)?;
     if slots.len() < problem.rows.len() {
         return Err(21);
     }
@@ -415,8 +456,8 @@ pub fn other_edition(sheet: &[u8], buffer: &mut [u8]) -> Result<(u32, usize), u3
 
 /// The better of two cards, or the refusal: the number of the card, and offset and length of its body and trailer.
 pub fn better_card(book: &[u8], sheet: &[u8], first: &[u8], second: &[u8]) -> Result<(u32, usize, usize), u32> {
-    let a = check_card(book, sheet, first, &mut [0; 256])?;
-    let b = check_card(book, sheet, second, &mut [0; 256])?;
+    let a = check_card(Handed::default(), book, sheet, first, &mut [0; 256])?;
+    let b = check_card(Handed::default(), book, sheet, second, &mut [0; 256])?;
     // E is below 2^62 and W² below 2^32, so the products are exact.
     let nearer = b.distance * a.weight * a.weight < a.distance * b.weight * b.weight;
     let (number, card) = if nearer { (2, second) } else { (1, first) };
@@ -446,13 +487,13 @@ pub fn merged_book(first: &[u8], second: &[u8]) -> Result<Vec<u8>, u32> {
 
 /// The listing of a search, or the one line of its refusal.
 pub fn listing(book: &[u8], sheet: &[u8]) -> Vec<u8> {
-    let problem = match read_files(book, sheet) {
+    let problem = match read_files(Handed::default(), book, sheet) {
         Ok(problem) => problem,
         Err(number) => return format!("refused {number}\n").into_bytes(),
     };
     let (answer, shares) = problem.run();
     let mut text = format!("fleet {} {}\n", problem.rows.len(), problem.target.len());
-    text += &format!("sheet {} {}\n", problem.tolerance, problem.steps);
+    text += &format!("sheet {} {}\n", problem.tolerance, problem.steps());
     text += &format!("{} {} {}\n", answer.verdict.word(), answer.steps, answer.weight);
     text += &format!("distance {}\ngap {}\n", answer.distance, answer.gap);
     for (boat, share) in shares.iter().enumerate().filter(|(_, q)| **q != 0) {

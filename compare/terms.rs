@@ -1,0 +1,167 @@
+//! What a caller may hand in beside the files, drawn, and the calls of the library that take it: a table of shares, which is read only where it
+//! is lent.
+
+use crate::random::Random;
+use crate::reference::Handed;
+use crate::{CardReply, Reply};
+
+extern "C" {
+    fn dofitrano_search_with(
+        book: *const u8,
+        book_length: usize,
+        sheet: *const u8,
+        sheet_length: usize,
+        lent: bool,
+        table: *const u16,
+        entries: usize,
+        shares: *mut u16,
+        slots: usize,
+    ) -> Reply;
+    fn dofitrano_write_card_with(
+        book: *const u8,
+        book_length: usize,
+        sheet: *const u8,
+        sheet_length: usize,
+        lent: bool,
+        table: *const u16,
+        entries: usize,
+        output: *mut u8,
+        output_length: usize,
+    ) -> CardReply;
+    fn dofitrano_check_card_with(
+        book: *const u8,
+        book_length: usize,
+        sheet: *const u8,
+        sheet_length: usize,
+        lent: bool,
+        table: *const u16,
+        entries: usize,
+        card: *const u8,
+        card_length: usize,
+        shares: *mut u16,
+        slots: usize,
+    ) -> Reply;
+}
+
+/// A table, and whether it is lent.
+pub struct Terms {
+    lent: bool,
+    table: Vec<u16>,
+}
+
+/// The greatest share that may follow a running total.
+fn border(total: u64) -> u64 {
+    (1..).take_while(|k| k * k <= 2 * (total + k)).last().unwrap()
+}
+
+/// So many shares: 1 each, counted, counted from 2, the greatest that are accepted, drawn ones, falling ones.
+fn shares(rng: &mut Random, count: usize) -> Vec<u16> {
+    let kind = rng.below(8);
+    let mut total = 0;
+    let mut drawn = Vec::new();
+    for i in 0..count as u64 {
+        let most = border(total);
+        let share = match kind {
+            0 => 1,
+            1 => i + 1,
+            2 => [2, i + 1][usize::from(i > 0)],
+            3 => most,
+            4 => 1 + most.saturating_sub(i),
+            5 => most - rng.below(2) as u64 * (most - 1),
+            _ => 1 + rng.below(most as usize) as u64,
+        };
+        drawn.push(share.min(most) as u16);
+        total += share.min(most);
+    }
+    drawn
+}
+
+/// A table that may be refused: of none or too many shares, with one that is 0 or too great, or of too great a total.
+fn table(rng: &mut Random) -> Vec<u16> {
+    let count = match rng.below(40) {
+        0 => 0,
+        1 => 361,
+        2 => 362 + rng.below(100),
+        3..=5 => 360,
+        6 => 359,
+        7..=10 => 1,
+        11..=15 => 1 + rng.below(60),
+        _ => 1 + rng.below(14),
+    };
+    let mut drawn = if count == 360 && rng.one_in(2) { (2..=361).collect() } else { shares(rng, count) };
+    if count > 0 && rng.one_in(8) {
+        let place = rng.below(count);
+        let total: u64 = drawn[..place].iter().map(|share| u64::from(*share)).sum();
+        drawn[place] = rng.of(&[0, border(total) as u16, border(total) as u16 + 1, 65535]);
+    }
+    drawn
+}
+
+impl Terms {
+    /// A table, one in six of them not lent.
+    pub fn drawn(rng: &mut Random) -> Terms {
+        Terms { lent: !rng.one_in(6), table: table(rng) }
+    }
+
+    /// What the reference is given.
+    pub fn handed(&self) -> Handed<'_> {
+        Handed { table: self.lent.then_some(&self.table) }
+    }
+
+    /// The table's bytes, to see that no call changes them.
+    pub fn bytes(&self) -> Vec<u8> {
+        self.table.iter().flat_map(|share| share.to_le_bytes()).collect()
+    }
+
+    // The slices give true pointers and lengths, and what is written overlaps nothing.
+
+    pub fn search(&self, book: &[u8], sheet: &[u8], shares: &mut [u16]) -> Reply {
+        unsafe {
+            dofitrano_search_with(
+                book.as_ptr(),
+                book.len(),
+                sheet.as_ptr(),
+                sheet.len(),
+                self.lent,
+                self.table.as_ptr(),
+                self.table.len(),
+                shares.as_mut_ptr(),
+                shares.len(),
+            )
+        }
+    }
+
+    pub fn write_card(&self, book: &[u8], sheet: &[u8], output: &mut [u8]) -> CardReply {
+        unsafe {
+            dofitrano_write_card_with(
+                book.as_ptr(),
+                book.len(),
+                sheet.as_ptr(),
+                sheet.len(),
+                self.lent,
+                self.table.as_ptr(),
+                self.table.len(),
+                output.as_mut_ptr(),
+                output.len(),
+            )
+        }
+    }
+
+    pub fn check_card(&self, book: &[u8], sheet: &[u8], card: &[u8], shares: &mut [u16]) -> Reply {
+        unsafe {
+            dofitrano_check_card_with(
+                book.as_ptr(),
+                book.len(),
+                sheet.as_ptr(),
+                sheet.len(),
+                self.lent,
+                self.table.as_ptr(),
+                self.table.len(),
+                card.as_ptr(),
+                card.len(),
+                shares.as_mut_ptr(),
+                shares.len(),
+            )
+        }
+    }
+}
