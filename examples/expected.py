@@ -34,6 +34,19 @@ def bits(value):
     return struct.unpack("<Q", struct.pack("<d", value))[0]
 
 
+def print_tabled(book, sheet, table):
+    """A search with a table of shares, and its card with the table and without it; an empty table."""
+    refusal, answer, slots = exact.search(book, sheet, [7, 7, 7, 7], table)
+    print_reply(refusal, answer)
+    print("slots", *slots)
+    refusal, _, size, buffer = exact.write_card(book, sheet, bytes(1060), table)
+    print("refusal %d, bytes %d" % (refusal, size))
+    refusal, answer, _ = exact.check_card(book, sheet, buffer[:size], [7] * 4, table)
+    print("checked with its table, refusal %d, %s" % (refusal, NAMES[answer.verdict]))
+    print("checked without it, refusal %d" % exact.check_card(book, sheet, buffer[:size], [7] * 4)[0])
+    print_reply(*exact.search(book, sheet, [7] * 4, [])[:2])
+
+
 def main():
     book = exact.make_book([[0, 0], [4, 0], [0, 4]])
     for words, sheet in (("9 steps", exact.make_sheet([1, 1], 9, 1)), ("0 steps", exact.make_sheet([1, 1], 0, 1)),
@@ -43,6 +56,8 @@ def main():
         print_reply(refusal, answer)
         print("slots", *slots)
     sheet = exact.make_sheet([1, 1], 9, 1)
+    print("table 2 1 1")
+    print_tabled(book, sheet, [2, 1, 1])
     print("listing")
     print(exact.listing(book, sheet).decode("ascii"), end="")
     print("card")

@@ -1,6 +1,7 @@
-/* The library from C: a search and its refusal, a search with factors, a listing, a card written and checked, a sheet of scale cells, a
- * sheet in its other edition. Files are built in memory. */
+/* The library from C: a search and its refusal, a search with factors, one with a table of shares, a listing, a card written and checked,
+ * a sheet of scale cells, a sheet in its other edition. Files are built in memory. */
 #include <inttypes.h>
+#include <stdbool.h>
 #include <stdio.h>
 #include <string.h>
 
@@ -80,6 +81,27 @@ static void write_and_check(void)
     printf("checked with one share more, refusal %" PRIu32 "\n", checked.refusal);
 }
 
+/* Later steps count for less: the first gives 2 shares, the others 1 each. The card is checked with its table and without it. */
+static void lend_a_table(void)
+{
+    const uint16_t table[] = { 2, 1, 1 };
+    uint16_t shares[4] = { 7, 7, 7, 7 };
+    uint8_t card[DOFITRANO_CARD_MOST];
+    print_reply(dofitrano_search_with(book, sizeof book, sheet, sizeof sheet, true, table, 3, shares, 4));
+    printf("slots %u %u %u %u\n", shares[0], shares[1], shares[2], shares[3]);
+    dofitrano_card_reply written =
+        dofitrano_write_card_with(book, sizeof book, sheet, sizeof sheet, true, table, 3, card, sizeof card);
+    printf("refusal %" PRIu32 ", bytes %zu\n", written.reply.refusal, written.bytes);
+    dofitrano_reply checked = dofitrano_check_card_with(book, sizeof book, sheet, sizeof sheet, true, table, 3,
+                                                        card, written.bytes, shares, 4);
+    printf("checked with its table, refusal %" PRIu32 ", %s\n", checked.refusal, verdict_name(checked.verdict));
+    checked = dofitrano_check_card_with(book, sizeof book, sheet, sizeof sheet, false, table, 3,
+                                        card, written.bytes, shares, 4);
+    printf("checked without it, refusal %" PRIu32 "\n", checked.refusal);
+    /* An empty table is not the same as none. */
+    print_reply(dofitrano_search_with(book, sizeof book, sheet, sizeof sheet, true, table, 0, shares, 4));
+}
+
 /* A weighing in units of 10 kilograms and a net in units of 4: the cells of the two columns. */
 static void weigh(void)
 {
@@ -125,6 +147,9 @@ int main(void)
 
     printf("search, factors 1 2\n");
     search(factored, sizeof factored);
+
+    printf("table 2 1 1\n");
+    lend_a_table();
 
     printf("listing\n");
     list();

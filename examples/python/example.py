@@ -1,5 +1,5 @@
-"""The library from Python by ctypes: a search and its refusal, a search with factors, a listing, a card written
-and checked, a sheet of scale cells.
+"""The library from Python by ctypes: a search and its refusal, a search with factors, one with a table of shares,
+a listing, a card written and checked, a sheet of scale cells, a sheet in its other edition.
 
 Files are built in memory.
 
@@ -67,6 +67,13 @@ def load(path):
     library.dofitrano_write_card.argtypes = file + file + buffer
     library.dofitrano_check_card.restype = Reply
     library.dofitrano_check_card.argtypes = file + file + file + shares
+    table = [ctypes.c_bool, ctypes.POINTER(ctypes.c_uint16), ctypes.c_size_t]
+    library.dofitrano_search_with.restype = Reply
+    library.dofitrano_search_with.argtypes = file + file + table + shares
+    library.dofitrano_write_card_with.restype = CardReply
+    library.dofitrano_write_card_with.argtypes = file + file + table + buffer
+    library.dofitrano_check_card_with.restype = Reply
+    library.dofitrano_check_card_with.argtypes = file + file + table + file + shares
     library.dofitrano_listing.restype = ctypes.c_size_t
     library.dofitrano_listing.argtypes = file + file + buffer
     doubles = [ctypes.POINTER(ctypes.c_double), ctypes.c_size_t]
@@ -99,6 +106,26 @@ def check_card(library, book, sheet, card, slots):
     shares = (ctypes.c_uint16 * len(slots))(*slots)
     reply = library.dofitrano_check_card(book, len(book), sheet, len(sheet), card, len(card), shares, len(shares))
     return reply, list(shares)
+
+
+def numbers(values):
+    """A list of 16-bit numbers as a call takes it, with its length."""
+    return (ctypes.c_uint16 * len(values))(*values), len(values)
+
+
+def lend_a_table(library, book, sheet, table):
+    """A search with a table of shares, and its card with the table and without it. An empty table is not the same as none."""
+    shares, slots = numbers([7, 7, 7, 7])
+    print_reply(library.dofitrano_search_with(book, len(book), sheet, len(sheet), True, *numbers(table), shares, slots))
+    print("slots", *shares)
+    output = ctypes.create_string_buffer(CARD_MOST)
+    written = library.dofitrano_write_card_with(book, len(book), sheet, len(sheet), True, *numbers(table), output, CARD_MOST)
+    print("refusal %d, bytes %d" % (written.reply.refusal, written.bytes))
+    card = output.raw[:written.bytes]
+    for lent, words in ((True, "with its table, refusal %d, %s"), (False, "without it, refusal %d")):
+        reply = library.dofitrano_check_card_with(book, len(book), sheet, len(sheet), lent, *numbers(table), card, len(card), shares, slots)
+        print("checked", words % ((reply.refusal, VERDICT_NAMES[reply.verdict]) if lent else reply.refusal))
+    print_reply(library.dofitrano_search_with(book, len(book), sheet, len(sheet), True, *numbers([]), shares, slots))
 
 
 def listing(library, book, sheet):
@@ -149,6 +176,9 @@ def main(path):
     print_reply(reply)
     print("slots", *slots)
     sheet = sheet_of((1, 1), 9, 1)
+    # Later steps count for less: the first gives 2 shares, the others 1 each.
+    print("table 2 1 1")
+    lend_a_table(library, book, sheet, [2, 1, 1])
     print("listing")
     print(listing(library, book, sheet), end="")
     print("card")
