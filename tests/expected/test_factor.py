@@ -96,9 +96,27 @@ def one(draws, number, plan, choices=20):
     yield found(book, generator.damage(draws, sheet))
 
 
+# Name, table, the target's value in both columns, steps and tolerance.
+COUNTED = list(range(1, 361))
+MARKED = [
+    ("1 1 1", [1, 1, 1], 1, 9, 0), ("2 3", [2, 3], 1, 9, 1), ("2 1 1", [2, 1, 1], 1, 9, 3), ("2 1 1, 2 steps", [2, 1, 1], 1, 2, 2),
+    ("2", [2], 5, 9, 1), ("1 2 3", [1, 2, 3], 1, 9, 1), ("1 2", [1, 2], 1, 9, 1),
+    ("of no share", [], 1, 9, 1), ("1 0", [1, 0], 1, 9, 1), ("3", [3], 1, 9, 1), ("1 3", [1, 3], 1, 9, 1), ("1 1 3", [1, 1, 3], 1, 9, 1),
+    ("of 360 times 1", [1] * 360, 1, 9, 1), ("of 361 times 1", [1] * 361, 1, 9, 1), ("of 1 to 360", COUNTED, 1, 9, 1),
+    ("of 2 and 2 to 360", [2] + COUNTED[1:], 1, 9, 1), ("of 2 to 360", COUNTED[1:], 1, 9, 1), ("of 2 to 361", COUNTED[1:] + [361], 1, 9, 1),
+]
+
+
+def marked():
+    book = exact.make_book([(0, 0), (4, 0), (0, 4)])
+    for name, table, value, steps, tolerance in MARKED:
+        yield "table %s\n" % name
+        yield from lent(book, exact.make_sheet((value, value), steps, tolerance), 3, table, [1, 2, 3])
+
+
 def main():
     draws = generator.Draws(25)
-    out = []
+    out = list(marked())
     for number in range(1000):
         out += one(draws, number, generator.draw_plan(draws))
     for number in range(30):

@@ -1,9 +1,10 @@
 // Drawn fleet books with three sheets each, one without factors and two with drawn ones: searched, their cards written and checked by
 // all three, the better of two chosen, a sheet searched and checked with drawn tables of shares, and a sheet damaged. Small books, some of
-// 64 columns, one of full size, and some of 360 steps.
+// 64 columns, one of full size, and some of 360 steps. Before them, tables written by hand.
 // The expected output is made by tests/expected/test_factor.py.
 mod factored;
 mod lent;
+mod marked;
 mod tables;
 
 use method::Answer;
@@ -216,6 +217,7 @@ fn long_cases(seed: &mut u64) {
 }
 
 fn main() {
+    marked::marked();
     let mut seed = 25;
     let mut number = 0;
     while number < 1000 {

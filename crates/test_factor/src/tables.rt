@@ -74,7 +74,7 @@ fn share_at(kind: u64, i: usize, place: usize, most: u64, x: u64) -> u64 {
 }
 
 // Puts so many shares; the one at `place` may be faulty.
-fn put_shares(table: &mut [u16], seed: &mut u64, kind: u64, count: usize, place: usize) {
+pub fn put_shares(table: &mut [u16], seed: &mut u64, kind: u64, count: usize, place: usize) {
     let mut most = 2;
     let mut total = 0;
     let mut i = 0;
