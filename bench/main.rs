@@ -70,6 +70,30 @@ extern "C" {
         q: *mut u16,
         qn: usize,
     ) -> Reply;
+    fn dofitrano_search_with(
+        b: *const u8,
+        bn: usize,
+        s: *const u8,
+        sn: usize,
+        lent: bool,
+        t: *const u16,
+        tn: usize,
+        q: *mut u16,
+        qn: usize,
+    ) -> Reply;
+    fn dofitrano_check_card_with(
+        b: *const u8,
+        bn: usize,
+        s: *const u8,
+        sn: usize,
+        lent: bool,
+        t: *const u16,
+        tn: usize,
+        c: *const u8,
+        cn: usize,
+        q: *mut u16,
+        qn: usize,
+    ) -> Reply;
     fn dofitrano_listing(b: *const u8, bn: usize, s: *const u8, sn: usize, t: *mut u8, tn: usize) -> usize;
     fn dofitrano_merge_books(a: *const u8, an: usize, b: *const u8, bn: usize, c: *mut u8, cn: usize) -> Merged;
     fn plain_c_search(b: *const u8, bn: usize, s: *const u8, sn: usize, q: *mut u16, qn: usize) -> Reply;
@@ -89,6 +113,19 @@ fn library_write_card(book: &[u8], sheet: &[u8], card: &mut [u8]) -> CardReply {
 fn library_check_card(book: &[u8], sheet: &[u8], card: &[u8], shares: &mut [u16]) -> Reply {
     let (b, s, c) = (book.as_ptr(), sheet.as_ptr(), card.as_ptr());
     unsafe { dofitrano_check_card(b, book.len(), s, sheet.len(), c, card.len(), shares.as_mut_ptr(), shares.len()) }
+}
+
+/// The search with a table of shares, which is lent.
+fn library_search_with(book: &[u8], sheet: &[u8], table: &[u16], shares: &mut [u16]) -> Reply {
+    let (b, s, t) = (book.as_ptr(), sheet.as_ptr(), table.as_ptr());
+    unsafe { dofitrano_search_with(b, book.len(), s, sheet.len(), true, t, table.len(), shares.as_mut_ptr(), shares.len()) }
+}
+
+/// The card check with such a table.
+fn library_check_card_with(book: &[u8], sheet: &[u8], table: &[u16], card: &[u8], shares: &mut [u16]) -> Reply {
+    let (b, s, t, c) = (book.as_ptr(), sheet.as_ptr(), table.as_ptr(), card.as_ptr());
+    let (q, slots) = (shares.as_mut_ptr(), shares.len());
+    unsafe { dofitrano_check_card_with(b, book.len(), s, sheet.len(), true, t, table.len(), c, card.len(), q, slots) }
 }
 
 fn library_listing(book: &[u8], sheet: &[u8], text: &mut [u8]) -> usize {
@@ -452,6 +489,65 @@ fn print_factors(repeats: u32) {
     }
 }
 
+/// The shares 1 to 360, a table with which every run is the plain one.
+fn counted() -> Vec<u16> {
+    (1..=360).collect()
+}
+
+/// The search and the card check with the table 1 to 360, which makes the same run, beside those without a table, in turn.
+fn print_tables(inputs: &[(&str, Input)], repeats: u32) {
+    println!("| input | search | with a table | with / without | check_card | with a table | with / without |");
+    println!("|---|---|---|---|---|---|---|");
+    let table = counted();
+    for (name, x) in inputs {
+        let (book, sheet) = (&x.book[..], &x.sheet[..]);
+        let mut card = [0u8; 1060];
+        let written = library_write_card(book, sheet, &mut card);
+        let card = &card[..written.bytes];
+        let mut lists = [[0u16; 256]; 4];
+        let replies = [
+            library_search(book, sheet, &mut lists[0]),
+            library_search_with(book, sheet, &table, &mut lists[1]),
+            library_check_card(book, sheet, card, &mut lists[2]),
+            library_check_card_with(book, sheet, &table, card, &mut lists[3]),
+        ];
+        assert!(written.reply.refusal == 0 && replies.iter().all(|reply| *reply == written.reply), "the answers differ");
+        assert!(lists.iter().all(|list| *list == lists[0]), "the shares differ");
+        let shares = &mut lists[0];
+        let mut times = [const { Vec::new() }; 4];
+        let calls = batch(|| {
+            black_box(library_search(black_box(book), black_box(sheet), shares));
+        });
+        let checks = batch(|| {
+            black_box(library_check_card(black_box(book), black_box(sheet), black_box(card), shares));
+        });
+        for _ in 0..repeats {
+            times[0].push(time(calls, || {
+                black_box(library_search(black_box(book), black_box(sheet), shares));
+            }));
+            times[1].push(time(calls, || {
+                black_box(library_search_with(black_box(book), black_box(sheet), black_box(&table), shares));
+            }));
+            times[2].push(time(checks, || {
+                black_box(library_check_card(black_box(book), black_box(sheet), black_box(card), shares));
+            }));
+            times[3].push(time(checks, || {
+                black_box(library_check_card_with(black_box(book), black_box(sheet), black_box(&table), black_box(card), shares));
+            }));
+        }
+        let [plain, lent, checked, checked_lent] = &times;
+        println!(
+            "| {name} | {:.2} | {:.2} | {:.3} | {:.2} | {:.2} | {:.3} |",
+            microseconds(plain),
+            microseconds(lent),
+            ratio(lent, plain),
+            microseconds(checked),
+            microseconds(checked_lent),
+            ratio(checked_lent, checked)
+        );
+    }
+}
+
 /// One book from two at full size, 256 and 256 boats of 64 columns: rows that differ early, rows that agree in all but their last column, and
 /// books that are refused.
 fn print_merges(repeats: u32) {
@@ -529,6 +625,7 @@ fn once(name: &str, whose: &str) {
     let mut shares = [0u16; 256];
     black_box(match whose {
         "library" => library_search(&x.book, &x.sheet, &mut shares),
+        "table" => library_search_with(&x.book, &x.sheet, &counted(), &mut shares),
         "same" => remembered::search(&x.book, &x.sheet, &mut shares),
         _ => plain::search(&x.book, &x.sheet, &mut shares),
     });
@@ -567,6 +664,10 @@ fn main() {
     println!("The library's search with factors beside the one without:");
     println!();
     print_factors(repeats);
+    println!();
+    println!("The library's search and card check with the table of shares 1 to 360 beside those without a table:");
+    println!();
+    print_tables(&inputs, repeats);
     println!();
     println!("One book from two, 256 and 256 boats of 64 columns:");
     println!();
