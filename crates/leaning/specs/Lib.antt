@@ -1,0 +1,4 @@
+-- The definitions of this crate.
+pub mod Report
+pub mod Slots
+pub mod Promise
