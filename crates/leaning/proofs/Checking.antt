@@ -4,24 +4,22 @@ use mathlib.Core.Bool.{Bool, true, false, cond}
 use mathlib.Core.List.{List, [], _∷_, _++_}
 use Prim.Native.Nat.{ℕ, zero, suc, _+_, _*_, _-_, _≤_, _<_}
 use native.Mathlib.Omega.{arith}
-use borrow.Author.Tests.{eq-eqb, ne-eqb}
+use borrow.Author.Tests.{ne-eqb}
 use lib.Dec.{eqb, eqb·suc-zero}
 use lib.ListN.{length, take, drop, length-append}
 use lib.Seq.{length-take-le}
 use Rattle.files.specs.Bytes.{between}
-use Rattle.files.specs.Book.{boats, columns, book-refusal}
-use Rattle.files.specs.Sheet.{sheet-refusal, files-refusal}
+use Rattle.files.specs.Book.{boats, book-refusal}
 use Rattle.files.proofs.Refusal.{between-true}
 use Rattle.files.proofs.Accepted.{book-accepted}
-use Rattle.method.specs.Answers.{search-refusal, slots-after}
+use Rattle.method.specs.Answers.{slots-after}
 use Rattle.method.proofs.Promise.{length-after}
 use Rattle.card_format.specs.Format.{card-shares}
-use Rattle.card_format.specs.Checks.{card-refusal, check-refusal}
+use Rattle.card_format.specs.Checks.{check-refusal}
 use Rattle.card_format.proofs.Accepted.{both-zero}
-use Rattle.listing.proofs.Outcomes.{long-enough}
 use Rattle.leaning.specs.Report.{Pair, most-cards, pair-refusal, pairs-refusal, start-refusal, refusal-so-far, shares-of}
 use Rattle.leaning.specs.Slots.{card-slots, parts, Checked, Starts, Adds-pair}
-use Rattle.leaning.proofs.Counts.{shares-length}
+use Rattle.leaning.proofs.Counts.{shares-length, pair-checked}
 use Rattle.leaning.proofs.Parts.{parts-put}
 
 -- ---- Lists of pairs
@@ -71,7 +69,7 @@ start-passed b n e =
     (h .0, by (between 1 most-cards n) refl (h .1))
   where
     by : (t : Bool) → between 1 most-cards n ≡ t → _≡_ {A = ℕ} (cond t 0 58) 0 → (1 ≤ n) × (n ≤ 64)
-    by true t e = between-true 1 64 n t
+    by true t e = let h = between-true 1 most-cards n t in (h .0, omega (arith, h .1))
     by false t e = absurd (omega arith)
 
 pub so-far-passed : (b : List ℕ) (n : ℕ) (ps : List Pair) → refusal-so-far b n ps ≡ 0 → Passed b n ps
@@ -97,13 +95,6 @@ starts b n slots l =
     by (suc r) = rw (eqb·suc-zero r)
 
 -- ---- One card more
-
--- with slots for the book's boats the check refuses as the pair does
-pair-checked : (b : List ℕ) (p : Pair) (room : ℕ) → book-refusal b ≡ 0 → boats b ≤ room → check-refusal b (p .sheet) (p .card) room ≡ pair-refusal b p
-unfolding check-refusal pair-refusal files-refusal
-pair-checked b p room e h =
-    let f : search-refusal b (p .sheet) room ≡ sheet-refusal (columns b) (p .sheet) = long-enough b (p .sheet) room (λ z. h) ∙ rw (eq-eqb (book-refusal b) 0 e) in
-    rw f
 
 -- behind pairs that are not refused its refusal is the first
 one-refused : (b : List ℕ) (n : ℕ) (ps : List Pair) (p : Pair) → Passed b n ps → refusal-so-far b n (ps ++ (p ∷ [])) ≡ pair-refusal b p

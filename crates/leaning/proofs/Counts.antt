@@ -4,19 +4,21 @@ use mathlib.Core.Bool.{true, _&&_, cond}
 use mathlib.Core.List.{List, [], _∷_, _++_}
 use Prim.Native.Nat.{ℕ, zero, suc, _+_, _≤_, _<_}
 use native.Mathlib.Omega.{arith}
-use borrow.Author.Tests.{leb-true, ltb-true, eqb-true, ne-eqb}
+use borrow.Author.Tests.{leb-true, ltb-true, eq-eqb, ne-eqb}
 use lib.Dec.{eqb, ltb, leb}
 use lib.ListN.{length, drop, getD, set, replicate, length-set, length-replicate, drop-of-length-le}
 use lib.Seq.{drop-cons, getD-set-other}
 use Rattle.frank_wolfe.specs.Vectors.{sum}
 use Rattle.files.specs.Bytes.{number}
-use Rattle.files.specs.Book.{boats, columns}
-use Rattle.files.specs.Sheet.{sheet-refusal}
+use Rattle.files.specs.Book.{boats, columns, book-refusal}
+use Rattle.files.specs.Sheet.{sheet-refusal, files-refusal}
 use Rattle.files.proofs.Refusal.{and-true}
 use Rattle.method.specs.Iterates.{support}
+use Rattle.method.specs.Answers.{search-refusal}
 use Rattle.card_format.specs.Format.{shares-into, pair-count, card-body, card-shares}
-use Rattle.card_format.specs.Checks.{pairs-in-order, card-refusal}
+use Rattle.card_format.specs.Checks.{pairs-in-order, card-refusal, check-refusal}
 use Rattle.card_format.proofs.Accepted.{both-zero, all-passed}
+use Rattle.listing.proofs.Outcomes.{long-enough}
 use Rattle.leaning.specs.Report.{Pair, pair-refusal, pairs-refusal, shares-of, cards-on, counts-from, counts, entries}
 
 -- ---- The entries of one card
@@ -87,12 +89,24 @@ unfolding counts-from cards-on sum
 sum-none i zero = refl
 sum-none i (suc n) = omega (arith, sum-none (suc i) n)
 
-pub counts-total : (b : List ℕ) (ps : List Pair) → pairs-refusal b ps ≡ 0 → sum (counts (boats b) (shares-of b ps)) ≡ entries ps
-unfolding pairs-refusal pair-refusal shares-of entries
-counts-total b [] e = sum-none 0 (boats b)
-counts-total b (p ∷ ps) e =
+-- with slots for the book's boats the check of a card refuses as the pair does
+pub pair-checked : (b : List ℕ) (p : Pair) (room : ℕ) → book-refusal b ≡ 0 → boats b ≤ room → check-refusal b (p .sheet) (p .card) room ≡ pair-refusal b p
+unfolding check-refusal pair-refusal files-refusal
+pair-checked b p room e h =
+    let f : search-refusal b (p .sheet) room ≡ sheet-refusal (columns b) (p .sheet) = long-enough b (p .sheet) room (λ z. h) ∙ rw (eq-eqb (book-refusal b) 0 e) in
+    rw f
+
+pair-passed : (b : List ℕ) (p : Pair) → book-refusal b ≡ 0 → pair-refusal b p ≡ 0 → card-refusal b (p .sheet) (p .card) ≡ 0
+unfolding check-refusal
+pair-passed b p e h =
+    let k : check-refusal b (p .sheet) (p .card) (boats b) ≡ 0 = pair-checked b p (boats b) e (omega arith) ∙ h in
+    both-zero (search-refusal b (p .sheet) (boats b)) (card-refusal b (p .sheet) (p .card)) k .1
+
+pub counts-total : (b : List ℕ) (ps : List Pair) → book-refusal b ≡ 0 → pairs-refusal b ps ≡ 0 → sum (counts (boats b) (shares-of b ps)) ≡ entries ps
+unfolding pairs-refusal shares-of entries
+counts-total b [] e r = sum-none 0 (boats b)
+counts-total b (p ∷ ps) e r =
     let w = p .card in
-    let h = both-zero (pair-refusal b p) (pairs-refusal b ps) e in
-    let k = both-zero (sheet-refusal (columns b) (p .sheet)) (card-refusal b (p .sheet) w) (h .0) in
+    let h = both-zero (pair-refusal b p) (pairs-refusal b ps) r in
     let l = shares-length (boats b) w in
-    omega (arith, counts-more 0 (boats b) (card-shares (boats b) w) (shares-of b ps) (omega arith), card-entries b (p .sheet) w (k .1), counts-total b ps (h .1))
+    omega (arith, counts-more 0 (boats b) (card-shares (boats b) w) (shares-of b ps) (omega arith), card-entries b (p .sheet) w (pair-passed b p e (h .0)), counts-total b ps e (h .1))

@@ -5,3 +5,4 @@ pub mod Lengths
 pub mod Parts
 pub mod Checking
 pub mod Reporting
+pub mod Examples

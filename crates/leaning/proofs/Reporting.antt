@@ -6,13 +6,13 @@ use Prim.Native.Nat.{ℕ, zero, suc, _+_, _*_, _-_, _≤_, _<_}
 use native.Mathlib.Omega.{arith}
 use borrow.Author.Tests.{eq-eqb, le-ltb}
 use lib.Dec.{eqb, ltb, eqb·suc-zero}
-use lib.ListN.{length, take, drop}
+use lib.ListN.{length}
 use Rattle.frank_wolfe.specs.Vectors.{sum}
 use Rattle.files.specs.Book.{boats}
 use Rattle.files.proofs.Accepted.{book-accepted}
 use Rattle.text.specs.declared.Text.{Text}
 use Rattle.text.specs.Texts.{Holds}
-use Rattle.leaning.specs.Report.{Pair, start-refusal, refusal-so-far, lean-refusal, shares-of, counts, entries, lean-text, lean-listing}
+use Rattle.leaning.specs.Report.{Pair, start-refusal, refusal-so-far, lean-refusal, shares-of, counts, entries, stretch, lean-text, lean-listing}
 use Rattle.leaning.specs.Slots.{card-slots, parts, Checked, slots-refusal, slots-listing}
 use Rattle.leaning.specs.Promise.{Lean-right, Reports, Reports-checked}
 use Rattle.leaning.proofs.Counts.{counts-total}
@@ -25,12 +25,12 @@ unfolding lean-refusal lean-listing lean-text
 lean-right b ps e =
     let h : Passed b (length ps) ps = so-far-passed b (length ps) ps e in
     let fits = book-accepted b (h .book) in
-    let total = counts-total b ps (h .pairs) in
+    let total = counts-total b ps (h .book) (h .pairs) in
     record {
       total = total;
       some-card = h .some;
       few-cards = h .few;
-      stretches = λ i k. leads (boats b) (take 12 (drop i (shares-of b ps))) (fits .some-boats);
+      stretches = λ i k. leads (boats b) (stretch i (shares-of b ps)) (fits .some-boats);
       short = rw e (lines-length (boats b) (entries ps) (shares-of b ps) (fits .some-boats) (fits .most-boats) (omega (arith, shares-count b ps)) (sym total));
     }
 
@@ -60,7 +60,7 @@ module _ (b : List ℕ) (n : ℕ) (slots : List ℕ) where
       let h : Passed b n ps = so-far-passed b n ps (sym (c .refusal-is)) in
       let q : parts n (boats b) slots ≡ shares-of b ps = ap (λ (k : ℕ). parts k (boats b) slots) (sym m) ∙ c .shares-are refl in
       let w : lean-refusal b (ps ++ rest) ≡ 0 = whole-refusal 0 ps rest (c .refusal-is) l e in
-      rw (no-other 0 ps c, w, e refl, append-nil ps, q, counts-total b ps (h .pairs))
+      rw (no-other 0 ps c, w, e refl, append-nil ps, q, counts-total b ps (h .book) (h .pairs))
   same-listing (suc r) ps rest c l e = rw (no-other (suc r) ps c, whole-refusal (suc r) ps rest (c .refusal-is) l e)
 
   pub reports-checked : (r : ℕ) {t : Text} → Holds (slots-listing b r n slots) t → Reports-checked b r n slots t

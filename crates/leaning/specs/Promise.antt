@@ -2,12 +2,12 @@
 use mathlib.Core.Path.{_≡_}
 use mathlib.Core.List.{List, [], _++_}
 use Prim.Native.Nat.{ℕ, _+_, _≤_, _<_}
-use lib.ListN.{length, take, drop, getD}
+use lib.ListN.{length, take, drop}
 use Rattle.frank_wolfe.specs.Vectors.{sum}
 use Rattle.files.specs.Book.{boats}
 use Rattle.text.specs.declared.Text.{Text}
 use Rattle.text.specs.Texts.{Holds}
-use Rattle.leaning.specs.Report.{Pair, lean-refusal, shares-of, cards-on, counts, entries, most-used, lean-listing}
+use Rattle.leaning.specs.Report.{Pair, lean-refusal, shares-of, cards-on, counts, entries, most-used, stretch, lean-listing}
 use Rattle.leaning.specs.Slots.{Checked}
 
 -- the most bytes of a report
@@ -27,9 +27,8 @@ pub record Lean-right (b : List ℕ) (ps : List Pair) : Type 0 where
   -- 1 to 64 cards
   pub some-card : 1 ≤ length ps
   pub few-cards : length ps ≤ 64
-  -- in cards i + 1 to i + 12 the boat of their line leads
-  pub stretches : (i : ℕ) → i + 12 ≤ length ps →
-      Leads (boats b) (take 12 (drop i (shares-of b ps))) (most-used (boats b) (take 12 (drop i (shares-of b ps))))
+  -- the boat in the line of cards i + 1 to i + 12 leads them
+  pub stretches : (i : ℕ) → i + 12 ≤ length ps → Leads (boats b) (take 12 (drop i (shares-of b ps))) (most-used (boats b) (stretch i (shares-of b ps)))
   -- the lines are no longer than a text
   pub short : length (lean-listing b ps) ≤ report-limit
 
