@@ -110,7 +110,7 @@ length-one ps p = length-append ps (p ∷ []) ∙ (omega arith)
 
 module _ (b : List ℕ) (p : Pair) (k : ℕ) (slots : List ℕ) where
   pub adds-pair : {r : ℕ} {now : List ℕ} → r ≡ check-refusal b (p .sheet) (p .card) (length slots - card-slots * k) →
-      now ≡ slots-after (check-refusal b (p .sheet) (p .card) (length slots - card-slots * k)) (take (card-slots * k) slots ++ card-shares (boats b) (p .card)) slots →
+      now ≡ slots-after r (take (card-slots * k) slots ++ card-shares (boats b) (p .card)) slots →
       Adds-pair b p k slots r now
   unfolding slots-after shares-of
   adds-pair {r} {now} er ew n ps c count below =
@@ -121,12 +121,12 @@ module _ (b : List ℕ) (p : Pair) (k : ℕ) (slots : List ℕ) where
       let size : length (card-shares (boats b) (p .card)) ≡ boats b = shares-length (boats b) (p .card) in
       let whole : length (take (card-slots * k) slots ++ card-shares (boats b) (p .card)) ≡ card-slots * k + boats b =
       length-append (take (card-slots * k) slots) _ ∙ rw (length-take-le (card-slots * k) slots (omega arith), size) in
-      let same : length now ≡ length slots = ap length ew ∙ length-after (check-refusal b (p .sheet) (p .card) (length slots - card-slots * k)) (take (card-slots * k) slots ++ card-shares (boats b) (p .card)) slots (λ z. rw whole inside) in
+      let same : length now ≡ length slots = ap length ew ∙ length-after r (take (card-slots * k) slots ++ card-shares (boats b) (p .card)) slots (λ z. rw whole inside) in
       record {
         refusal-is = er ∙ pair-checked b p (length slots - card-slots * k) (h .book) (omega (arith, fits .most-boats)) ∙ sym (one-refused b n ps p h);
         room = λ z. rw same room;
         shares-are = λ z.
-            rw (length-one ps p, shares-append b ps (p ∷ []), count, ew, sym er ∙ z)
+            rw (length-one ps p, shares-append b ps (p ∷ []), count, ew, z)
             (parts-put k (boats b) (card-shares (boats b) (p .card)) slots (drop (length (take (card-slots * k) slots ++ card-shares (boats b) (p .card))) slots) (omega arith) size (fits .most-boats)
             ∙ rw (← count, c .shares-are refl));
       }

@@ -17,6 +17,9 @@ pub record Pair : Type 0 where
   pub sheet : List ℕ
   pub card : List ℕ
 
+abbrev pub pair-of : (sheet card : List ℕ) → Pair
+pair-of s w = record { sheet = s; card = w }
+
 -- the most cards of a report
 abbrev pub most-cards : ℕ
 most-cards = 64
