@@ -2,7 +2,9 @@
 //
 // Entry, which asks nothing of its caller: lean_text.
 ghost use mathlib.Core.Path.{_≡_};
+ghost use mathlib.Core.Bool.{cond};
 ghost use Prim.Native.Nat.{ℕ, _+_, _*_, _≤_, _<_};
+ghost use lib.Dec.{eqb};
 ghost use lib.ListN.{length, drop};
 ghost use Rattle.frank_wolfe.specs.Vectors.{sum};
 ghost use Rattle.files.specs.Book.{boats};
@@ -13,6 +15,17 @@ ghost use Rattle.leaning.specs.Slots.{card-slots, parts, slots-refusal, slots-l
 ghost use Rattle.leaning.specs.Promise.{Reports-checked};
 use text::Text;
 
+// 1 for shares above zero, else 0.
+fn holds(share: u16) -> usize
+    ensures { λ r. ⌜ r ≡ cond (eqb share 0) 0 1 ⌝ }
+    ensures { λ r. ⌜ r ≤ 1 ⌝ }
+{
+    if share == 0 {
+        return 0;
+    }
+    1
+}
+
 // How many of `cards` cards rest on a boat; the first card's slots start at `start`.
 fn cards_on(slots: &[u16], start: usize, cards: usize, boat: usize) -> usize
     requires { ⌜ (boat < card-slots) × (cards ≤ 64) × (start + card-slots * cards ≤ length (now slots)) ⌝ }
@@ -22,9 +35,7 @@ fn cards_on(slots: &[u16], start: usize, cards: usize, boat: usize) -> usize
     let mut count = 0;
     let mut k = 0;
     while k < cards {
-        if slots[start + 256 * k + boat] != 0 {
-            count += 1;
-        }
+        count += holds(slots[start + 256 * k + boat]);
         k += 1;
     }
     count

@@ -1,57 +1,51 @@
+-- `lean_listing::cards_on` meets its contract.
+use Prim.Native.Nat.{_-_}
+use Rattle.lean_listing.proofs.Counting.{Counted, counted-start, counted-more, counted-end}
+use borrow.Author.Needs.{needs}
 use Rattle.lean_listing.proofs.cards_on.Statement.{statement}
 use Rattle.lean_listing.proofs.cards_on.Tie as tie
-use Rattle.lean_listing.proofs.cards_on.Reads as reads
-use Rattle.lean_listing.proofs.cards_on.Lts as lts
 
 abbrev Inv-loop : tie.InvT-loop
-Inv-loop slots start cards boat count₀ k₀ count k = ?
+Inv-loop slots start cards boat count₀ k₀ count k = Counted slots start cards boat count k
 
 abbrev μ-loop : tie.MeasureT-loop
-μ-loop slots start cards boat count₀ k₀ count k = ?
+μ-loop slots start cards boat count₀ k₀ count k = cards - k
 
--- src/lib.rt:24:5
 loop-holds : tie.Need-loop-holds Inv-loop μ-loop
-loop-holds c = ?
+loop-holds c = counted-start (c .before .pre)
 
--- src/lib.rt:25:26
-mul-if1 : tie.Need-mul-if1 Inv-loop μ-loop
-mul-if1 c = ?
+mul-holds : tie.Need-mul-holds Inv-loop μ-loop
+mul-holds c = search needs
 
--- src/lib.rt:25:18
-add-if1 : tie.Need-add-if1 Inv-loop μ-loop
-add-if1 c = ?
+add-holds : tie.Need-add-holds Inv-loop μ-loop
+add-holds c = search needs
 
--- src/lib.rt:25:18
-add-if1-2 : tie.Need-add-if1-2 Inv-loop μ-loop
-add-if1-2 c = ?
+add-holds-2 : tie.Need-add-holds-2 Inv-loop μ-loop
+add-holds-2 c = search needs
 
--- src/lib.rt:25:12
-mul-if1-2 : tie.Need-mul-if1-2 Inv-loop μ-loop
-mul-if1-2 c = ?
+mul-holds-2 : tie.Need-mul-holds-2 Inv-loop μ-loop
+mul-holds-2 c = search needs
 
--- src/lib.rt:25:12
-shared-slice-read-if1 : tie.Need-shared-slice-read-if1 Inv-loop μ-loop
-shared-slice-read-if1 c = ?
+shared-slice-read-holds : tie.Need-shared-slice-read-holds Inv-loop μ-loop
+shared-slice-read-holds c = search needs
 
--- src/lib.rt:26:13
+holds-requires : tie.Need-holds-requires Inv-loop μ-loop
+holds-requires c κs = search needs
+
 add-count : tie.Need-add-count Inv-loop μ-loop
-add-count c = ?
+add-count c = search needs
 
--- src/lib.rt:28:9
 add-k : tie.Need-add-k Inv-loop μ-loop
-add-k c = ?
+add-k c = search needs
 
--- src/lib.rt:24:5
 loop-less : tie.Need-loop-less Inv-loop μ-loop
-loop-less c = ?
+loop-less c = search needs
 
--- src/lib.rt:24:5
 loop-again : tie.Need-loop-again Inv-loop μ-loop
-loop-again c = ?
+loop-again c = search (needs, counted-more)
 
--- src/lib.rt:17:1
 returns : tie.Need-returns Inv-loop μ-loop
-returns c = ?
+returns c = counted-end (c .before .loop .inv) (search needs)
 
 pub cards-on-spec : {M : Type 1} → statement M
 cards-on-spec =
@@ -60,11 +54,12 @@ cards-on-spec =
     Inv-loop
     μ-loop
     loop-holds
-    mul-if1
-    add-if1
-    add-if1-2
-    mul-if1-2
-    shared-slice-read-if1
+    mul-holds
+    add-holds
+    add-holds-2
+    mul-holds-2
+    shared-slice-read-holds
+    holds-requires
     add-count
     add-k
     loop-less

@@ -1,33 +1,27 @@
+-- `lean_listing::slots_refusal` meets its contract.
+use native.Mathlib.Omega.{arith}
+use Rattle.lean_listing.proofs.Refusing.{by-before, by-start, few-cards, by-room, by-none}
 use borrow.Author.Needs.{needs}
 use Rattle.lean_listing.proofs.slots_refusal.Statement.{statement}
 use Rattle.lean_listing.proofs.slots_refusal.Tie as tie
-use Rattle.lean_listing.proofs.slots_refusal.Reads as reads
-use Rattle.lean_listing.proofs.slots_refusal.Lts as lts
-use Rattle.lean_cards.proofs.lean_start.Reads as lean-start-reads
 
--- src/lib.rt:124:9
 returns : tie.Need-returns
-returns c = ?
+returns c = by-before _ _ _ _ (c .if1 .taken)
 
--- src/lib.rt:126:9
 lean-start-requires : tie.Need-lean-start-requires
 lean-start-requires c κs = search needs
 
--- src/lib.rt:128:9
 returns-2 : tie.Need-returns-2
-returns-2 c = ?
+returns-2 c = by-start _ _ _ _ (c .before .before .if1 .left) (c .before .lean-start .ensures .0) (c .if2 .taken)
 
--- src/lib.rt:130:16
 mul-if3 : tie.Need-mul-if3
-mul-if3 c = ?
+mul-if3 c = omega (arith, few-cards _ _ _ 0 (c .before .before .if1 .left) (c .before .lean-start .ensures .0) (c .if2 .left))
 
--- src/lib.rt:131:9
 returns-3 : tie.Need-returns-3
-returns-3 c = ?
+returns-3 c = by-room _ _ _ _ (c .before .before .before .if1 .left) (c .before .before .lean-start .ensures .0) (c .before .if2 .left) (c .if3 .taken)
 
--- src/lib.rt:120:1
 returns-4 : tie.Need-returns-4
-returns-4 c = ?
+returns-4 c = by-none _ _ _ _ (c .before .before .before .if1 .left) (c .before .before .lean-start .ensures .0) (c .before .if2 .left) (c .if3 .left)
 
 pub slots-refusal-spec : {M : Type 1} → statement M
 slots-refusal-spec =
