@@ -65,6 +65,11 @@ is its body and trailer, without front text.
 One book from two has the rows of the first, equal ones too, then each row of
 the second that equals no row before it, and no front text.
 
+A report of 1 to 64 cards, each with its sheet: for each boat that a card rests
+on, ascending, how many do; the entries in the bodies of all cards; and for
+each 12 cards in a row the boat that most of them rest on, of several the one
+with the lowest number.
+
 A refusal is a number; 0 stands for accepted.  The first that applies, in the
 call's own order, is the one given back: in number order, but a sheet made of
 cells has 41 to 43, cell by cell, right after 6 and before 14 and 15, 46 is
@@ -109,6 +114,8 @@ the last of a sheet's own, right after 17, and 49 to 51 come before all others.
     55  columns of two books that differ
     56  a merged book of more than 256 boats
     57  book buffer shorter than the merged book
+    58  cards of a report outside 1 to 64; right after 6, before any sheet or
+        card is read
 
 Use from a shell:  python3 tests/exact.py FLEET SHEET
 """
@@ -131,6 +138,8 @@ MOST_STEPS = 360
 MOST_TOLERANCE = 1024000000
 MOST_FACTORS = 64
 MOST_TOTAL = 64980
+MOST_CARDS = 64
+STRETCH = 12
 MOST_KILOGRAMS = 1048576
 MOST_UNIT = 10000
 
@@ -608,6 +617,48 @@ def merge_listing(first: bytes, second: bytes) -> bytes:
         return refused(refusal)
     rows = read_book(written[:length])
     return b"fleet %d %d\n" % (len(rows), len(rows[0]))
+
+
+# ------------------------------------------------- the boats cards rest on
+
+
+def lean_refusal(book: bytes, count: int, pairs) -> int:
+    """The refusal of a report of `count` cards: the book's, 58, then of each sheet and its card, in card order."""
+    refusal = book_refusal(book)
+    if refusal:
+        return refusal
+    if count < 1 or count > MOST_CARDS:
+        return 58
+    for sheet, card in pairs:
+        refusal, _, _ = check_card(book, sheet, card, [0] * MOST_BOATS)
+        if refusal:
+            return refusal
+    return 0
+
+
+def body_boats(card: bytes):
+    """The boats of the entries in a card's body."""
+    (back, *_), before = split(card, CARD_TRAILER)
+    return [boat for boat, _ in struct.iter_unpack("<HH", before[len(before) - back:])]
+
+
+def lean_listing(book: bytes, pairs) -> bytes:
+    """The report of the cards of some pairs of a sheet and a card, or the one line of its refusal."""
+    refusal = lean_refusal(book, len(pairs), pairs)
+    if refusal:
+        return refused(refusal)
+    bodies = [body_boats(card) for _, card in pairs]
+    boats = range(len(read_book(book)))
+    lines = []
+    for boat in boats:
+        cards = sum(boat in body for body in bodies)
+        if cards:
+            lines.append(b"boat %d %d\n" % (boat, cards))
+    lines.append(b"total %d\n" % sum(map(len, bodies)))
+    for first in range(len(bodies) - STRETCH + 1):
+        entries = sum(bodies[first:first + STRETCH], [])
+        lines.append(b"stretch %d %d\n" % (first + 1, max(boats, key=lambda boat: (entries.count(boat), -boat))))
+    return b"".join(lines)
 
 
 # ---------------------------------------------------------- the scale cells

@@ -1,0 +1,34 @@
+-- `lean_folder::numbered` meets its contract.
+use Rattle.lean_folder.proofs.Folding.{named}
+use borrow.Author.Needs.{needs}
+use Rattle.lean_folder.proofs.numbered.Statement.{statement}
+use Rattle.lean_folder.proofs.numbered.Tie as tie
+
+empty-requires : tie.Need-empty-requires
+empty-requires c κs = search needs
+
+with-bytes-requires : tie.Need-with-bytes-requires
+with-bytes-requires c κs = search needs
+
+add-with-number : tie.Need-add-with-number
+add-with-number c = search needs
+
+with-number-requires : tie.Need-with-number-requires
+with-number-requires c κs = search needs
+
+with-bytes-requires-2 : tie.Need-with-bytes-requires-2
+with-bytes-requires-2 c κs = search needs
+
+returns : tie.Need-returns
+returns c = named _ (c .before .before .before .empty .ensures) (c .before .before .with-bytes .ensures) (c .before .with-number .ensures) (c .with-bytes2 .ensures)
+
+pub numbered-spec : {M : Type 1} → statement M
+numbered-spec =
+    tie.close
+    (tie.spec
+    empty-requires
+    with-bytes-requires
+    add-with-number
+    with-number-requires
+    with-bytes-requires-2
+    returns)
