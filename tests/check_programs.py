@@ -19,6 +19,7 @@ PROGRAMS = {
     "mixbetter": ("better_folder::file_better", "test_program", "folder"),
     "mixbook": ("book_folder::file_book", "test_book", "name"),
     "mixmerge": ("merge_folder::file_merged", "test_merge", "name"),
+    "leanlist": ("lean_folder::list_boats", "test_lean", "name"),
     "mixsheet": ("sheet_folder::file_sheet", "test_sheet", "name"),
     "mixedition": ("edition_folder::file_other", "test_rewriting", "name"),
 }

@@ -26,8 +26,8 @@ MIXED = [pair([1, 0, 0], 1), pair([0, 1, 2], 2), pair([3, 1, 2], 3)]
 # cards and sheets of either edition, with front text and without
 EDITIONS = [pair([3, 1, 2], 3, sheet, front, letters) for sheet in (SHEET, FACTORED) for front in (b"", b"a longer front text") for letters in (b"WCD1", b"WCD2")]
 TIED = 6 * [ON_0] + 6 * [ON_1] + [TWICE_1]
-# boats 2 and 1 lead by turns, and boat 0 is in every third card
-TURNS = [pair(([1, 0, 2], [0, 3, 0], [0, 1, 2], [0, 0, 3])[k % 4], 2) for k in range(64)]
+# the boats lead by turns, 7 cards of a kind behind one another
+TURNS = [pair(([1, 0, 2], [0, 3, 0], [3, 0, 0], [0, 1, 2])[k // 7 % 4], 2) for k in range(64)]
 DAMAGED = SHEET, ON_1[1][:-1] + b"9"
 NO_STEPS = exact.make_sheet([1, 1], 0, 100)
 
@@ -132,7 +132,6 @@ FOLDERS = {
     "twelve": folder(TIED[:12]),
     "sixty_four": folder(TURNS),
     "sixty_five": folder(TURNS + [DAMAGED]),
-    "seventy": folder(TURNS + 6 * [ON_0]),
     "damaged_behind": folder(TIED[:12] + [DAMAGED]),
     "no_sheet": folder(MIXED, without=("sheet2.wsh",)),
     "no_card": folder(TIED, without=("card3.wcd",)),

@@ -13,6 +13,7 @@ from generator import Draws, draw_row  # noqa: E402
 import csv_books  # noqa: E402
 import csv_sheets  # noqa: E402
 import details  # noqa: E402
+import leanings  # noqa: E402
 import merges  # noqa: E402
 import pairs  # noqa: E402
 import sheet_editions  # noqa: E402
@@ -155,6 +156,7 @@ PROGRAMS = {
     "mixbetter": folder(BOOK, PAIR_SHEET, None, FARTHER, NEARER, b"an older card"),
     "mixbook": {"fleet.csv": csv_books.YARD, "fleet.wbk": b"an older book"},
     "mixmerge": merges.FOLDERS["older"],
+    "leanlist": leanings.FOLDERS[""],
     "mixsheet": {"fleet.csv": csv_books.YARD, "sheet.csv": csv_sheets.SHEET, "sheet.wsh": b"an older sheet"},
     "mixedition": {"sheet.wsh": b"hull 41\n" + make_sheet([1, 2, 3], steps=9, tolerance=1, factors=[1, 1, 1]), "other.wsh": b"an older sheet"},
 }
@@ -171,7 +173,7 @@ def main():
     data = {"test_search": FILES, "test_better": {"pairs.dat": pairs.file_of(pairs.cases())}, **PROGRAMS}
     data["test_edition"] = {name: content for card, (book, rows, sheet) in FILED_BEFORE.items()
                             for name, content in ((book, rows), (card + ".wsh", sheet))}
-    for crate, cases in (("test_book", csv_books), ("test_sheet", csv_sheets), ("test_rewriting", sheet_editions), ("test_merge", merges)):
+    for crate, cases in (("test_book", csv_books), ("test_sheet", csv_sheets), ("test_rewriting", sheet_editions), ("test_merge", merges), ("test_lean", leanings)):
         data[crate] = {os.path.join(name, file): content for name, files in cases.FOLDERS.items() for file, content in files.items()}
         data[crate]["cases.dat"] = cases.file_of(cases.cases())
     data["test_details"] = {"cases.dat": details.file_of(details.cases())}
