@@ -62,14 +62,14 @@ pub record Passed (b : List ℕ) (n : ℕ) (ps : List Pair) : Type 0 where
   pub few : n ≤ 64
   pub pairs : pairs-refusal b ps ≡ 0
 
-pub start-passed : (b : List ℕ) (n : ℕ) → start-refusal b n ≡ 0 → (book-refusal b ≡ 0) × ((1 ≤ n) × (n ≤ 64))
+pub start-passed : (b : List ℕ) (n : ℕ) → start-refusal b n ≡ 0 → (book-refusal b ≡ 0) × ((1 ≤ n) × (n ≤ most-cards))
 unfolding start-refusal
 start-passed b n e =
     let h = both-zero (book-refusal b) (cond (between 1 most-cards n) 0 58) e in
     (h .0, by (between 1 most-cards n) refl (h .1))
   where
-    by : (t : Bool) → between 1 most-cards n ≡ t → _≡_ {A = ℕ} (cond t 0 58) 0 → (1 ≤ n) × (n ≤ 64)
-    by true t e = let h = between-true 1 most-cards n t in (h .0, omega (arith, h .1))
+    by : (t : Bool) → between 1 most-cards n ≡ t → _≡_ {A = ℕ} (cond t 0 58) 0 → (1 ≤ n) × (n ≤ most-cards)
+    by true t e = between-true 1 most-cards n t
     by false t e = absurd (omega arith)
 
 pub so-far-passed : (b : List ℕ) (n : ℕ) (ps : List Pair) → refusal-so-far b n ps ≡ 0 → Passed b n ps
@@ -77,7 +77,7 @@ unfolding refusal-so-far
 so-far-passed b n ps e =
     let h = both-zero (start-refusal b n) (pairs-refusal b ps) e in
     let k = start-passed b n (h .0) in
-    record { start = h .0; book = k .0; some = k .1 .0; few = k .1 .1; pairs = h .1 }
+    record { start = h .0; book = k .0; some = k .1 .0; few = omega (arith, k .1 .1); pairs = h .1 }
 
 -- ---- Before the first card
 

@@ -1,4 +1,4 @@
--- The counts of the boats add up to the entries in the bodies of the cards: an accepted card has as many entries as boats that hold shares.
+-- The entries of one card, as many as boats that hold shares; one card more in the counts; the check of a card refuses as its pair does.
 use mathlib.Core.Path.{_≡_, refl, sym, ap, _∙_}
 use mathlib.Core.Bool.{true, _&&_, cond}
 use mathlib.Core.List.{List, [], _∷_, _++_}
@@ -17,9 +17,9 @@ use Rattle.method.specs.Iterates.{support}
 use Rattle.method.specs.Answers.{search-refusal}
 use Rattle.card_format.specs.Format.{shares-into, pair-count, card-body, card-shares}
 use Rattle.card_format.specs.Checks.{pairs-in-order, card-refusal, check-refusal}
-use Rattle.card_format.proofs.Accepted.{both-zero, all-passed}
+use Rattle.card_format.proofs.Accepted.{all-passed}
 use Rattle.listing.proofs.Outcomes.{long-enough}
-use Rattle.leaning.specs.Report.{Pair, pair-refusal, pairs-refusal, shares-of, cards-on, counts-from, counts, entries}
+use Rattle.leaning.specs.Report.{Pair, pair-refusal, cards-on, counts-from}
 
 -- ---- The entries of one card
 
@@ -78,13 +78,13 @@ shares-length n w = length-into _ _ (replicate n 0) ∙ length-replicate n 0
 -- ---- The counts of several cards
 
 -- one card more counts where it holds shares
-counts-more : (i n : ℕ) (q : List ℕ) (qs : List (List ℕ)) → i + n ≡ length q → sum (counts-from i n (q ∷ qs)) ≡ support (drop i q) + sum (counts-from i n qs)
+pub counts-more : (i n : ℕ) (q : List ℕ) (qs : List (List ℕ)) → i + n ≡ length q → sum (counts-from i n (q ∷ qs)) ≡ support (drop i q) + sum (counts-from i n qs)
 unfolding counts-from cards-on sum support
 counts-more i zero q qs e = rw (drop-of-length-le q {i = i} (omega arith)) (omega arith)
 counts-more i (suc n) q qs e =
     rw (drop-cons q i 0 (omega arith)) (omega (arith, counts-more (suc i) n q qs (omega arith)))
 
-sum-none : (i n : ℕ) → sum (counts-from i n []) ≡ 0
+pub sum-none : (i n : ℕ) → sum (counts-from i n []) ≡ 0
 unfolding counts-from cards-on sum
 sum-none i zero = refl
 sum-none i (suc n) = omega (arith, sum-none (suc i) n)
@@ -95,18 +95,3 @@ unfolding check-refusal pair-refusal files-refusal
 pair-checked b p room e h =
     let f : search-refusal b (p .sheet) room ≡ sheet-refusal (columns b) (p .sheet) = long-enough b (p .sheet) room (λ z. h) ∙ rw (eq-eqb (book-refusal b) 0 e) in
     rw f
-
-pair-passed : (b : List ℕ) (p : Pair) → book-refusal b ≡ 0 → pair-refusal b p ≡ 0 → card-refusal b (p .sheet) (p .card) ≡ 0
-unfolding check-refusal
-pair-passed b p e h =
-    let k : check-refusal b (p .sheet) (p .card) (boats b) ≡ 0 = pair-checked b p (boats b) e (omega arith) ∙ h in
-    both-zero (search-refusal b (p .sheet) (boats b)) (card-refusal b (p .sheet) (p .card)) k .1
-
-pub counts-total : (b : List ℕ) (ps : List Pair) → book-refusal b ≡ 0 → pairs-refusal b ps ≡ 0 → sum (counts (boats b) (shares-of b ps)) ≡ entries ps
-unfolding pairs-refusal shares-of entries
-counts-total b [] e r = sum-none 0 (boats b)
-counts-total b (p ∷ ps) e r =
-    let w = p .card in
-    let h = both-zero (pair-refusal b p) (pairs-refusal b ps) r in
-    let l = shares-length (boats b) w in
-    omega (arith, counts-more 0 (boats b) (card-shares (boats b) w) (shares-of b ps) (omega arith), card-entries b (p .sheet) w (pair-passed b p e (h .0)), counts-total b ps e (h .1))

@@ -1,24 +1,47 @@
 -- What is promised of a report holds, and the report of cards that were checked one by one is the report of all.
 use mathlib.Core.Path.{_≡_, refl, sym, ap, _∙_}
 use mathlib.Core.Bool.{cond}
-use mathlib.Core.List.{List, [], _++_, append-nil}
+use mathlib.Core.List.{List, [], _∷_, _++_, append-nil}
 use Prim.Native.Nat.{ℕ, zero, suc, _+_, _*_, _-_, _≤_, _<_}
 use native.Mathlib.Omega.{arith}
 use borrow.Author.Tests.{eq-eqb, le-ltb}
 use lib.Dec.{eqb, ltb, eqb·suc-zero}
 use lib.ListN.{length}
 use Rattle.frank_wolfe.specs.Vectors.{sum}
-use Rattle.files.specs.Book.{boats}
+use Rattle.files.specs.Book.{boats, book-refusal}
 use Rattle.files.proofs.Accepted.{book-accepted}
 use Rattle.text.specs.declared.Text.{Text}
 use Rattle.text.specs.Texts.{Holds}
-use Rattle.leaning.specs.Report.{Pair, start-refusal, refusal-so-far, lean-refusal, shares-of, counts, entries, stretch, lean-text, lean-listing}
+use Rattle.method.specs.Answers.{search-refusal}
+use Rattle.card_format.specs.Format.{card-shares}
+use Rattle.card_format.specs.Checks.{card-refusal, check-refusal}
+use Rattle.card_format.proofs.Accepted.{both-zero}
+use Rattle.leaning.specs.Report.{Pair, pair-refusal, pairs-refusal, start-refusal, refusal-so-far, lean-refusal, shares-of, counts, entries, stretch, lean-text, lean-listing}
 use Rattle.leaning.specs.Slots.{card-slots, parts, Checked, slots-refusal, slots-listing}
 use Rattle.leaning.specs.Promise.{Lean-right, Reports, Reports-checked}
-use Rattle.leaning.proofs.Counts.{counts-total}
+use Rattle.leaning.proofs.Counts.{card-entries, shares-length, counts-more, sum-none, pair-checked}
 use Rattle.leaning.proofs.Leading.{leads}
 use Rattle.leaning.proofs.Lengths.{lines-length}
 use Rattle.leaning.proofs.Checking.{Passed, so-far-passed, refusal-stays, shares-count}
+
+-- ---- The total
+
+pair-passed : (b : List ℕ) (p : Pair) → book-refusal b ≡ 0 → pair-refusal b p ≡ 0 → card-refusal b (p .sheet) (p .card) ≡ 0
+unfolding check-refusal
+pair-passed b p e h =
+    let k : check-refusal b (p .sheet) (p .card) (boats b) ≡ 0 = pair-checked b p (boats b) e (omega arith) ∙ h in
+    both-zero (search-refusal b (p .sheet) (boats b)) (card-refusal b (p .sheet) (p .card)) k .1
+
+counts-total : (b : List ℕ) (ps : List Pair) → book-refusal b ≡ 0 → pairs-refusal b ps ≡ 0 → sum (counts (boats b) (shares-of b ps)) ≡ entries ps
+unfolding pairs-refusal shares-of entries
+counts-total b [] e r = sum-none 0 (boats b)
+counts-total b (p ∷ ps) e r =
+    let w = p .card in
+    let h = both-zero (pair-refusal b p) (pairs-refusal b ps) r in
+    let l = shares-length (boats b) w in
+    omega (arith, counts-more 0 (boats b) (card-shares (boats b) w) (shares-of b ps) (omega arith), card-entries b (p .sheet) w (pair-passed b p e (h .0)), counts-total b ps e (h .1))
+
+-- ---- The promise
 
 pub lean-right : (b : List ℕ) (ps : List Pair) → lean-refusal b ps ≡ 0 → Lean-right b ps
 unfolding lean-refusal lean-listing lean-text
