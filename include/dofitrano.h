@@ -71,7 +71,9 @@ enum dofitrano_refusal {
     /* one book from two */
     DOFITRANO_MERGE_COLUMNS = 55, /* the books' columns differ */
     DOFITRANO_MERGE_BOATS = 56,   /* a merged book of more than 256 boats */
-    DOFITRANO_MERGE_BUFFER = 57   /* book buffer shorter than the merged book */
+    DOFITRANO_MERGE_BUFFER = 57,  /* book buffer shorter than the merged book */
+
+    DOFITRANO_REPORT_CARDS = 58 /* cards of a report outside 1 to 64; no function of this header gives it */
 };
 
 enum dofitrano_verdict {

@@ -19,6 +19,7 @@ import csv_books  # noqa: E402
 import csv_sheets  # noqa: E402
 import details  # noqa: E402
 import exact  # noqa: E402
+import leanings  # noqa: E402
 import merges  # noqa: E402
 import sheet_editions  # noqa: E402
 
@@ -144,12 +145,50 @@ READ = {
     "mixsheet": ("fleet.csv", "sheet.csv"),
     "mixedition": ("sheet.wsh",),
     "mixmerge": ("fleet.wbk", "bought.wbk"),
+    "leanlist": ("fleet.wbk",),
 }
 FILED = {"mixcard": "card.wcd", "mixbetter": "better.wcd", "mixedition": "other.wsh", "mixmerge": "merged.wbk"}
 
 
+def cards_in(files):
+    """How many cards can be opened before one that cannot, 65 where there are more."""
+    return next(count for count in range(66) if count == 65 or "card%d.wcd" % (count + 1) not in files)
+
+
+def lean_told(files, folder=""):
+    """What standard error says of the files of leanlist: those that it cannot read, and the one that is refused."""
+    lines = []
+
+    def say(name, fault):
+        lines.append((folder + name).encode() + b": " + fault + b"\n")
+
+    def read(name):
+        if name not in files:
+            say(name, b"not found in this folder")
+        elif files[name] is FOLDER:
+            say(name, b"could not be read whole")
+        return content(files, name)
+
+    book, count = read("fleet.wbk"), cards_in(files)
+    refusal = exact.lean_refusal(book, count, [])
+    if refusal == 58:
+        say(*(("card65.wcd", b"there are more than 64 cards") if count else ("card1.wcd", b"could not be opened")))
+    elif refusal:
+        say("fleet.wbk", b"this book is refused")
+    else:
+        for number in range(1, count + 1):
+            sheet, card = read("sheet%d.wsh" % number), read("card%d.wcd" % number)
+            refusal = exact.check_card(book, sheet, card, [0] * 256)[0]
+            if refusal:
+                say(*(("card%d.wcd" % number, b"this card is refused") if 31 <= refusal <= 39 else ("sheet%d.wsh" % number, b"this sheet is refused")))
+                break
+    return b"".join(lines)
+
+
 def told(program, files, refused=False, folder=""):
     """What standard error says of files that are not there or cannot be read, of a refusal, and of an older file that stays."""
+    if program == "leanlist":
+        return lean_told(files, folder)
     lines = []
     for name in READ[program]:
         if name not in files:
@@ -346,11 +385,27 @@ def check_mixmerge(program, runs):
         runs.expect("mixmerge, " + name, run(program, before, read_only) == (b"", b"merged.wbk: could not be written\n", before))
 
 
+def check_leanlist(program, runs):
+    """The folders of test_lean, then more than 65 cards, and files that are missing, empty or folders, among few cards and behind 12."""
+    folders = dict(leanings.FOLDERS, **{"70 cards": leanings.folder(leanings.TURNS + 6 * [leanings.ON_0]), "no file": {},
+                                        "65 cards, the first damaged": leanings.folder([leanings.DAMAGED] + leanings.TURNS)})
+    for count in (1, 3, 13):
+        files = leanings.folder(leanings.TIED[:count])
+        for name in files:
+            if name == "fleet.wbk" or name.startswith(("sheet1.", "card1.", "sheet3.", "card3.", "sheet13.", "card13.")):
+                for fault, data in (("empty", b""), ("a folder", FOLDER), ("cut", files[name][:-1]), ("a byte more", files[name] + b"x")):
+                    folders["%d cards, %s %s" % (count, name, fault)] = dict(files, **{name: data})
+                folders["%d cards, no %s" % (count, name)] = {other: data for other, data in files.items() if other != name}
+    for name, files in folders.items():
+        pairs = [(content(files, "sheet%d.wsh" % number), content(files, "card%d.wcd" % number)) for number in range(1, cards_in(files) + 1)]
+        runs.expect("leanlist, " + name, run(program, files) == (exact.lean_listing(content(files, "fleet.wbk"), pairs), lean_told(files), files))
+
+
 CARD = exact.write_card(BOOK, SHEET, bytes(1060))
 # files on which every program does its work
 ARGUMENT_FILES = {"fleet.csv": b"a,b,c\nd,0,0\ne,4,0\nf,0,4\n", "sheet.csv": b",c,b\nnew,1,1\nsteps,9\ntolerance,1\n",
                   "fleet.wbk": BOOK, "bought.wbk": BOOK, "sheet.wsh": SHEET, "card.wcd": CARD[3][:CARD[2]],
-                  "first.wcd": CARD[3][:CARD[2]], "second.wcd": CARD[3][:CARD[2]]}
+                  "first.wcd": CARD[3][:CARD[2]], "second.wcd": CARD[3][:CARD[2]], "sheet1.wsh": SHEET, "card1.wcd": CARD[3][:CARD[2]]}
 
 
 def check_arguments(name, program, files, runs):
@@ -370,7 +425,8 @@ def check_arguments(name, program, files, runs):
 
 # What is tried of each program.
 CHECKS = {"mixlist": (check_mixlist,), "mixcard": (check_mixcard,), "mixcheck": (check_mixcheck, check_report), "mixbetter": (check_mixbetter,),
-          "mixbook": (check_mixbook,), "mixsheet": (check_mixsheet,), "mixedition": (check_mixedition,), "mixmerge": (check_mixmerge,)}
+          "mixbook": (check_mixbook,), "mixsheet": (check_mixsheet,), "mixedition": (check_mixedition,), "mixmerge": (check_mixmerge,),
+          "leanlist": (check_leanlist,)}
 
 
 def check_programs(place, names, runs):
@@ -416,6 +472,9 @@ STATUSES = [
     ("mixmerge", {"fleet.wbk": BOOK, "bought.wbk": merges.BOUGHT}, 0, ["merged.wbk"]),
     ("mixmerge", {"fleet.wbk": BOOK}, 1, []),
     ("mixmerge", {"fleet.wbk": BOOK, "bought.wbk": merges.BOUGHT, "merged.wbk": FOLDER}, 2, []),
+    ("leanlist", leanings.FOLDERS[""], 0, []),
+    ("leanlist", {"fleet.wbk": BOOK}, 1, []),
+    ("leanlist >/dev/full", leanings.FOLDERS[""], 2, []),
     ("mixreport", {"fleet.wbk": BOOK, "sheet.wsh": SHEET}, 1, []),
     ("mixreport --other", {"fleet.wbk": BOOK, "sheet.wsh": SHEET}, 2, []),
     ("mixcard && mixreport --mixcheck missing", {"fleet.wbk": BOOK, "sheet.wsh": SHEET}, 2, ["card.wcd"]),

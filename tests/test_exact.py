@@ -1322,11 +1322,31 @@ def one_book_from_two():
     agree("the line of a refusal", exact.merge_listing(book, b""), b"refused 1\n")
 
 
+def boats_leaned_on():
+    """Reports of cards on fleet P at (1, 1), worked out by hand: ties, both sides of 12 and of 64 cards, the order of the refusals."""
+    book, sheet = make_book(P), make_sheet((1, 1), 9, 100)
+    on_0, on_1, twice_1, two, three = ((sheet, exact.true_card(book, sheet, shares, steps)) for shares, steps in
+                                       (((1, 0, 0), 1), ((0, 1, 0), 1), ((0, 3, 0), 2), ((0, 1, 2), 2), ((3, 1, 2), 3)))
+    agree("three cards", exact.lean_listing(book, [on_0, two, three]), b"boat 0 2\nboat 1 2\nboat 2 2\ntotal 6\n")
+    tied = 6 * [on_0] + 6 * [on_1] + [twice_1]
+    agree("13 cards", exact.lean_listing(book, tied), b"boat 0 6\nboat 1 7\ntotal 13\nstretch 1 0\nstretch 2 1\n")
+    agree("12 cards", exact.lean_listing(book, tied[:12]), b"boat 0 6\nboat 1 6\ntotal 12\nstretch 1 0\n")
+    agree("11 cards", exact.lean_listing(book, tied[:11]), b"boat 0 6\nboat 1 5\ntotal 11\n")
+    agree("64 cards", exact.lean_listing(book, 64 * [on_1]).count(b"stretch "), 53)
+    agree("no card", exact.lean_listing(book, []), b"refused 58\n")
+    agree("65 cards, one damaged", exact.lean_listing(book, [(sheet, b"")] + 64 * [on_0]), b"refused 58\n")
+    agree("the book before 58", exact.lean_listing(book[:-1], []), b"refused 2\n")
+    agree("a sheet before its card", exact.lean_listing(book, [on_0, (make_sheet((1, 1), 0, 100), b"")]), b"refused 14\n")
+    agree("card order", exact.lean_listing(book, [on_0, (sheet, b""), (b"", on_0[1])]), b"refused 31\n")
+
+
 def main():
     for part in (marked_sheets, readers, book_and_sheet_refusals, lent_lists, card_refusals,
                  two_tests, editions, filed_before, two_faults, ties_and_start, drawn_ties, random_books, factored_sheets, factored_cards, factored_books,
                  drawn_sheets_with_factors, tabled_sheets, tabled_cards, tabled_books, drawn_sheets_with_tables, full_size, damaged_files,
                  from_a_shell, whole_numbers, scale_cells, subtractions, gap_bounds, better_of_two, other_editions, one_book_from_two):
+                 drawn_sheets_with_factors, full_size, damaged_files,
+                 from_a_shell, whole_numbers, scale_cells, subtractions, gap_bounds, better_of_two, other_editions, one_book_from_two, boats_leaned_on):
         part()
     if differences:
         print("exact.py: %d of %d checks differ" % (differences, checks))

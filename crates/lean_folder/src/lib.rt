@@ -66,14 +66,26 @@ fn read_named(folder: &[u8], name: Text, buffer: &mut [u8]) -> usize
 fn tell_start(folder: &[u8], cards: usize, refusal: u32) {
     if refusal == 58 {
         if cards == 0 {
-            tell_of(folder, numbered(b"card", 0, b".wcd"), b": could not be opened\n");
+            tell_of(
+                folder,
+                numbered(b"card", 0, b".wcd"),
+                b": could not be opened\n",
+            );
         } else {
-            tell_of(folder, numbered(b"card", leaning::MOST_CARDS, b".wcd"), b": there are more than 64 cards\n");
+            tell_of(
+                folder,
+                numbered(b"card", leaning::MOST_CARDS, b".wcd"),
+                b": there are more than 64 cards\n",
+            );
         }
         return;
     }
     if refusal != 0 {
-        tell_of(folder, Text::empty().with_bytes(b"fleet.wbk"), b": this book is refused\n");
+        tell_of(
+            folder,
+            Text::empty().with_bytes(b"fleet.wbk"),
+            b": this book is refused\n",
+        );
     }
 }
 
@@ -82,14 +94,26 @@ fn tell_refused(folder: &[u8], before: usize, refusal: u32)
     requires { ⌜ before ≤ most-cards ⌝ }
 {
     if refusal < 31 {
-        tell_of(folder, numbered(b"sheet", before, b".wsh"), b": this sheet is refused\n");
+        tell_of(
+            folder,
+            numbered(b"sheet", before, b".wsh"),
+            b": this sheet is refused\n",
+        );
         return;
     }
     if refusal <= 39 {
-        tell_of(folder, numbered(b"card", before, b".wcd"), b": this card is refused\n");
+        tell_of(
+            folder,
+            numbered(b"card", before, b".wcd"),
+            b": this card is refused\n",
+        );
         return;
     }
-    tell_of(folder, numbered(b"sheet", before, b".wsh"), b": this sheet is refused\n");
+    tell_of(
+        folder,
+        numbered(b"sheet", before, b".wsh"),
+        b": this sheet is refused\n",
+    );
 }
 
 // Reads the sheet and the card behind `before` others, and checks the card. Of each file one byte more is read than it may have, so that a

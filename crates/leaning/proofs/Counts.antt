@@ -56,15 +56,19 @@ support-into (suc k) next n bs qs h l z =
     let from : next ≤ i = leb-true next i (b .0) in
     let below : i < n = ltb-true i n (d .0) in
     let e = support-into k (suc i) n (drop 4 bs) (set qs i q) (a .1) (length-set qs i q ∙ l)
-        (record { none = λ j m. getD-set-other qs i j q 0 (λ x. omega arith) ∙ z .none j (omega arith) }) in
+    (record { none = λ j m. getD-set-other qs i j q 0 (λ x. omega arith) ∙ z .none j (omega arith) }) in
     let f = support-new qs i q (omega arith) (z .none i from) (ltb-true 0 q (d .1)) in
     omega (arith, e, f)
 
 pub card-entries : (b s w : List ℕ) → card-refusal b s w ≡ 0 → support (card-shares (boats b) w) ≡ pair-count w
 unfolding card-shares
 card-entries b s w e =
-    omega (arith, support-into (pair-count w) 0 (boats b) (card-body w) (replicate (boats b) 0) (all-passed b s w e .ordered) (length-replicate (boats b) 0)
-        (record { none = λ j h. zero-at (boats b) j }), support-zero (boats b))
+    omega (
+      arith,
+      support-into (pair-count w) 0 (boats b) (card-body w) (replicate (boats b) 0) (all-passed b s w e .ordered) (length-replicate (boats b) 0)
+          (record { none = λ j h. zero-at (boats b) j }),
+      support-zero (boats b),
+    )
 
 length-into : (k : ℕ) (bs qs : List ℕ) → length (shares-into k bs qs) ≡ length qs
 unfolding shares-into
