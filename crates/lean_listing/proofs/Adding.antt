@@ -11,7 +11,7 @@ use Rattle.text.specs.declared.Text.{Text}
 use Rattle.text.specs.Lines.{number-line, pair-line}
 use Rattle.text.specs.Texts.{text-limit, Holds, Adds}
 use Rattle.text.proofs.Texts.{adds-both, adds-to-empty}
-use Rattle.listing.specs.Lines.{boat-word, boat-line, boat-lines}
+use Rattle.listing.specs.Lines.{boat-line, boat-lines}
 use Rattle.leaning.specs.Report.{stretch-cards, cards-on, counts-from, counts, most-used, total-word, stretch-word, stretch, stretches, stretch-lines, lean-lines}
 use Rattle.leaning.specs.Slots.{card-slots, parts}
 use Rattle.leaning.proofs.Lengths.{boat-length, stretch-length}
@@ -21,16 +21,6 @@ adds-nothing : {t : Text} → t .len ≤ text-limit → Adds t [] t
 adds-nothing {t} h = record { fits = h; length-is = sym (add-zero (t .len)); bytes-are = sym (append-nil _); rest = refl }
 
 -- ---- Boats
-
-pub no-boat : {t : Text} (boat cards : ℕ) → t .len + 47 ≤ text-limit → cards ≡ 0 → Adds t (boat-line boat cards) t × (t .len ≤ t .len + 12)
-unfolding boat-line
-no-boat {t} i q h e = (rw e (adds-nothing (omega arith)), omega arith)
-
-pub one-boat : {t u : Text} (boat cards : ℕ) → boat < 256 → cards ≤ 64 → (cards ≡ 0 → ⊥) → Adds t (pair-line boat-word boat cards) u → Adds t (boat-line boat cards) u × (u .len ≤ t .len + 12)
-one-boat {t} {u} i zero h k n p = absurd (n refl)
-one-boat {t} {u} i (suc q) h k n p =
-    let a : Adds t (boat-line i (suc q)) u = unfold boat-line in p in
-    (a, omega (arith, a .length-is, boat-length i (suc q) h k))
 
 -- of the cards qs, after the first i boats
 pub record Boats-added (t : Text) (qs : List (List ℕ)) (boats : ℕ) (u : Text) (i : ℕ) : Type 0 where
@@ -43,15 +33,15 @@ module _ {t : Text} {qs : List (List ℕ)} {boats : ℕ} where
   pub boats-start : boats ≤ 256 → t .len ≡ 0 → Boats-added t qs boats t 0
   boats-start f r = let e : boats - 0 ≡ boats = omega arith in record { reached = omega arith; few = f; room = omega arith; left = λ a. rw e at a }
 
-  pub boats-more : {u v : Text} {i x : ℕ} → Boats-added t qs boats u i → i < boats → x ≡ cards-on i qs → Adds u (boat-line i x) v × (v .len ≤ u .len + 12) → Boats-added t qs boats v (i + 1)
+  pub boats-more : {u v : Text} {i x : ℕ} → Boats-added t qs boats u i → i < boats → x ≡ cards-on i qs → x ≤ 64 → Adds u (boat-line i x) v → Boats-added t qs boats v (i + 1)
   unfolding boat-lines counts-from
-  boats-more {u} {v} {i} {x} b h e p =
+  boats-more {u} {v} {i} {x} b h e k p =
       let f : boats - i ≡ suc (boats - suc i) = omega arith in
       record {
         reached = omega arith;
         few = b .few;
-        room = omega (arith, b .room, p .1);
-        left = λ a. b .left (rw (f, ← e) (adds-both (p .0) (rw add-one at a)));
+        room = omega (arith, b .room, p .length-is, boat-length i x (omega (arith, b .few)) k);
+        left = λ a. b .left (rw (f, ← e) (adds-both p (rw add-one at a)));
       }
 
   pub boats-end : {u : Text} {i : ℕ} → Boats-added t qs boats u i → boats ≤ i → Adds t (boat-lines 0 (counts boats qs)) u × (u .len ≤ 3072)

@@ -8,8 +8,8 @@ ghost use lib.Dec.{eqb};
 ghost use lib.ListN.{length, drop};
 ghost use Rattle.frank_wolfe.specs.Vectors.{sum};
 ghost use Rattle.files.specs.Book.{boats};
-ghost use Rattle.text.specs.Texts.{text-limit, Holds, Adds};
-ghost use Rattle.listing.specs.Lines.{boat-line, boat-lines};
+ghost use Rattle.text.specs.Texts.{Holds, Adds};
+ghost use Rattle.listing.specs.Lines.{boat-lines};
 ghost use Rattle.leaning.specs.Report.{stretch-cards, stretches, cards-on, counts, most-used, stretch-lines, lean-lines};
 ghost use Rattle.leaning.specs.Slots.{card-slots, parts, slots-refusal, slots-listing};
 ghost use Rattle.leaning.specs.Promise.{Reports-checked};
@@ -75,18 +75,6 @@ fn total(slots: &[u16], cards: usize, boats: usize) -> usize
     sum
 }
 
-// The text followed by the line of a boat, if a card rests on it.
-fn with_boat(text: Text, boat: usize, cards: usize) -> Text
-    requires { ⌜ (boat < 256) × (cards ≤ 64) × (text .len + 47 ≤ text-limit) ⌝ }
-    ensures { λ r. ⌜ Adds text (boat-line boat cards) r ⌝ }
-    ensures { λ r. ⌜ r .len ≤ text .len + 12 ⌝ }
-{
-    if cards == 0 {
-        return text;
-    }
-    text.with_pair(b"boat ", boat as u64, cards as u64)
-}
-
 // The text followed by the lines of the boats that cards rest on.
 fn with_boats(text: Text, slots: &[u16], cards: usize, boats: usize) -> Text
     requires { ⌜ (cards ≤ 64) × (boats ≤ card-slots) × (card-slots * cards ≤ length (now slots)) × (text .len ≡ 0) ⌝ }
@@ -96,7 +84,7 @@ fn with_boats(text: Text, slots: &[u16], cards: usize, boats: usize) -> Text
     let mut longer = text;
     let mut i = 0;
     while i < boats {
-        longer = with_boat(longer, i, cards_on(slots, 0, cards, i));
+        longer = listing::with_boat(longer, i, cards_on(slots, 0, cards, i) as u16);
         i += 1;
     }
     longer

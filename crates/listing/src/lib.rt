@@ -1,6 +1,6 @@
 // The listing of an answer as text: lines of words and decimal numbers, given back by value with their length.
 //
-// Helper for other crates, whose callers prove what it requires: outcome_listing.
+// Helpers for other crates, whose callers prove what they require: with_boat, outcome_listing.
 ghost use mathlib.Core.Path.{_≡_};
 ghost use Prim.Native.Nat.{_+_, _≤_, _<_};
 ghost use lib.ListN.{take};
@@ -27,7 +27,7 @@ fn with_verdict(text: Text, v: Verdict, steps: u32, weight: u32) -> Text
 }
 
 // The text followed by the line of a boat, if it has shares.
-fn with_boat(text: Text, boat: usize, share: u16) -> Text
+pub fn with_boat(text: Text, boat: usize, share: u16) -> Text
     requires { ⌜ (boat < 256) × (text .len + 47 ≤ text-limit) ⌝ }
     ensures { λ r. ⌜ Adds text (boat-line boat share) r ⌝ }
     ensures { λ r. ⌜ r .len ≤ text .len + 15 ⌝ }

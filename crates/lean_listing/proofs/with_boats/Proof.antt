@@ -19,8 +19,11 @@ loop-holds c = boats-start (c .before .pre .1) (c .before .pre .3)
 cards-on-requires : tie.Need-cards-on-requires Inv-loop μ-loop
 cards-on-requires c κs = (omega arith, omega arith, omega arith)
 
+cast-with-boat : tie.Need-cast-with-boat Inv-loop μ-loop
+cast-with-boat c = search needs
+
 with-boat-requires : tie.Need-with-boat-requires Inv-loop μ-loop
-with-boat-requires c κs = (omega arith, omega arith, omega arith)
+with-boat-requires c κs = (omega arith, omega arith)
 
 add-i : tie.Need-add-i Inv-loop μ-loop
 add-i c = search needs
@@ -29,7 +32,7 @@ loop-less : tie.Need-loop-less Inv-loop μ-loop
 loop-less c = search needs
 
 loop-again : tie.Need-loop-again Inv-loop μ-loop
-loop-again c = boats-more (c .before .before .before .loop .inv) (c .before .before .loop-test .taken) (c .before .cards-on .ensures .0 _ (c .before .before .loop-test .taken)) (c .with-boat .ensures)
+loop-again c = boats-more (c .before .before .before .loop .inv) (c .before .before .loop-test .taken) (c .before .cards-on .ensures .0 _ (c .before .before .loop-test .taken)) (omega arith) (c .with-boat .ensures .0)
 
 returns : tie.Need-returns Inv-loop μ-loop
 returns c = boats-end (c .before .loop .inv) (c .loop-test .left)
@@ -42,6 +45,7 @@ with-boats-spec =
     μ-loop
     loop-holds
     cards-on-requires
+    cast-with-boat
     with-boat-requires
     add-i
     loop-less
