@@ -1,13 +1,12 @@
 -- A card checked into the slots behind those of others: what `lean_card` gives back and leaves.
-use mathlib.Core.Path.{_≡_, refl, sym, ap, _∙_}
+use mathlib.Core.Path.{_≡_, sym, _∙_}
 use mathlib.Core.List.{List, [], _++_, append-assoc, append-nil}
-use Prim.Native.Nat.{ℕ, zero, suc, _+_, _*_, _-_, _≤_, _<_}
+use Prim.Native.Nat.{ℕ, zero, suc, _+_, _*_, _-_, _≤_}
 use native.Mathlib.Omega.{arith}
 use borrow.Rule.Slice.PartMut.{putMid, postOf, post-is}
 use lib.ListN.{length, take, drop, length-append, length-drop, take-append-drop}
 use lib.Seq.{take-all, drop-length, drop-drop, length-take-le}
 use Rattle.files.specs.Book.{boats}
-use Rattle.files.specs.Sheet.{files-refusal}
 use Rattle.files.proofs.Accepted.{files-accepted}
 use Rattle.method.specs.declared.Answer.{Answer}
 use Rattle.method.specs.declared.Searched.{Searched}
@@ -19,7 +18,6 @@ use Rattle.card_format.specs.Checks.{card-refusal, check-refusal}
 use Rattle.card_format.proofs.Accepted.{both-zero}
 use Rattle.leaning.specs.Report.{pair-of}
 use Rattle.leaning.specs.Slots.{card-slots, Adds-pair}
-use Rattle.leaning.proofs.Counts.{shares-length}
 use Rattle.leaning.proofs.Checking.{adds-pair}
 
 -- where the slots of a card start, 256 a card, or at the end

@@ -1,10 +1,8 @@
 -- The tests of `lean_start`, one after the other.
-use mathlib.Core.Path.{_≡_, refl, sym}
+use mathlib.Core.Path.{_≡_, sym}
 use mathlib.Core.List.{List}
 use Prim.Native.Nat.{ℕ, _≤_, _<_}
-use native.Mathlib.Omega.{arith}
 use borrow.Author.Tests.{eq-eqb, ne-eqb, le-leb, lt-leb}
-use lib.Dec.{eqb, leb}
 use Rattle.files.specs.Bytes.{between}
 use Rattle.files.specs.Book.{book-refusal}
 use Rattle.leaning.specs.Report.{most-cards, start-refusal}

@@ -1,19 +1,19 @@
 -- The loops that add lines: the boats', the stretches'. Each invariant says that the lines that are left make the text of all lines.
 use mathlib.Core.Path.{_≡_, refl, sym, ap, _∙_}
-use mathlib.Core.List.{List, [], _∷_, _++_, append-nil}
-use Prim.Native.Nat.{ℕ, zero, suc, _+_, _*_, _-_, _≤_, _<_}
+use mathlib.Core.List.{List, [], append-nil}
+use Prim.Native.Nat.{ℕ, suc, _+_, _*_, _-_, _≤_, _<_}
 use native.Mathlib.Nat.{add-zero}
 use native.Mathlib.Numerals.{add-one}
 use native.Mathlib.Omega.{arith}
-use lib.ListN.{length, take, drop}
+use lib.ListN.{length, drop}
 use Rattle.frank_wolfe.specs.Vectors.{sum}
 use Rattle.text.specs.declared.Text.{Text}
 use Rattle.text.specs.Lines.{number-line, pair-line}
 use Rattle.text.specs.Texts.{text-limit, Holds, Adds}
 use Rattle.text.proofs.Texts.{adds-both, adds-to-empty}
 use Rattle.listing.specs.Lines.{boat-line, boat-lines}
-use Rattle.leaning.specs.Report.{stretch-cards, cards-on, counts-from, counts, most-used, total-word, stretch-word, stretch, stretches, stretch-lines, lean-lines}
-use Rattle.leaning.specs.Slots.{card-slots, parts}
+use Rattle.leaning.specs.Report.{cards-on, counts-from, counts, most-used, total-word, stretch-word, stretch, stretches, stretch-lines, lean-lines}
+use Rattle.leaning.specs.Slots.{parts}
 use Rattle.leaning.proofs.Lengths.{boat-length, stretch-length}
 use Rattle.leaning.proofs.Parts.{parts-length, parts-within}
 

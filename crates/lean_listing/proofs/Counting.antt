@@ -1,17 +1,17 @@
 -- The loops that count: the cards on a boat, the boat that most cards rest on, the total. Each invariant says that what is left decides as the whole.
-use mathlib.Core.Path.{_≡_, refl, sym, ap, _∙_}
+use mathlib.Core.Path.{_≡_, refl, sym, _∙_}
 use mathlib.Core.Bool.{cond}
-use mathlib.Core.List.{List, [], _∷_}
-use Prim.Native.Nat.{ℕ, zero, suc, _+_, _*_, _-_, _≤_, _<_}
+use mathlib.Core.List.{List}
+use Prim.Native.Nat.{ℕ, suc, _+_, _*_, _-_, _≤_, _<_}
 use native.Mathlib.Numerals.{add-one}
 use native.Mathlib.Omega.{arith}
 use borrow.Author.Tests.{lt-ltb, le-ltb}
-use lib.Dec.{eqb, ltb}
-use lib.ListN.{length, take, drop, getD}
+use lib.Dec.{eqb}
+use lib.ListN.{length, drop, getD}
 use lib.Seq.{drop-drop, getD-take, getD-drop}
 use Rattle.frank_wolfe.specs.Vectors.{sum}
-use Rattle.leaning.specs.Report.{stretch-cards, cards-on, counts-from, counts, argmax-from, argmax, most-used}
-use Rattle.leaning.specs.Slots.{card-slots, parts}
+use Rattle.leaning.specs.Report.{cards-on, counts-from, counts, argmax-from, argmax, most-used}
+use Rattle.leaning.specs.Slots.{parts}
 
 -- ---- The cards on a boat
 

@@ -9,7 +9,7 @@ use lib.Dec.{eqb, ltb}
 use lib.ListN.{length}
 use Rattle.frank_wolfe.specs.Vectors.{sum}
 use Rattle.files.specs.Fits.{Book-fits}
-use Rattle.files.specs.Book.{boats, book-refusal}
+use Rattle.files.specs.Book.{boats}
 use Rattle.files.proofs.Accepted.{book-accepted}
 use Rattle.text.specs.declared.Text.{Text}
 use Rattle.text.specs.Texts.{Holds, Adds}

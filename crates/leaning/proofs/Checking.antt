@@ -2,7 +2,7 @@
 use mathlib.Core.Path.{_≡_, refl, sym, ap, _∙_}
 use mathlib.Core.Bool.{Bool, true, false, cond}
 use mathlib.Core.List.{List, [], _∷_, _++_}
-use Prim.Native.Nat.{ℕ, zero, suc, _+_, _*_, _-_, _≤_, _<_}
+use Prim.Native.Nat.{ℕ, zero, suc, _+_, _*_, _-_, _≤_}
 use native.Mathlib.Omega.{arith}
 use borrow.Author.Tests.{ne-eqb}
 use lib.Dec.{eqb, eqb·suc-zero}
@@ -18,7 +18,7 @@ use Rattle.card_format.specs.Format.{card-shares}
 use Rattle.card_format.specs.Checks.{check-refusal}
 use Rattle.card_format.proofs.Accepted.{both-zero}
 use Rattle.leaning.specs.Report.{Pair, most-cards, pair-refusal, pairs-refusal, start-refusal, refusal-so-far, shares-of}
-use Rattle.leaning.specs.Slots.{card-slots, parts, Checked, Starts, Adds-pair}
+use Rattle.leaning.specs.Slots.{card-slots, parts, Starts, Adds-pair}
 use Rattle.leaning.proofs.Counts.{shares-length, pair-checked}
 use Rattle.leaning.proofs.Parts.{parts-put}
 

@@ -1,16 +1,15 @@
 -- How long the lines of a report are: a boat's at most 12 bytes, a stretch's 15, the total's 12; 3,879 in all.
-use mathlib.Core.Path.{_≡_, ap}
+use mathlib.Core.Path.{_≡_}
 use mathlib.Core.Bool.{Bool, true, false, cond}
-use mathlib.Core.List.{List, [], _∷_, _++_}
-use Prim.Native.Nat.{ℕ, zero, suc, _+_, _*_, _-_, _^_, _≤_, _<_}
+use mathlib.Core.List.{List, [], _∷_}
+use Prim.Native.Nat.{ℕ, zero, suc, _+_, _*_, _≤_, _<_}
 use native.Mathlib.Omega.{arith}
 use lib.Dec.{eqb}
 use lib.ListN.{length, getD, length-append}
 use Rattle.frank_wolfe.specs.Vectors.{sum}
-use Rattle.text.specs.Decimal.{decimal}
 use Rattle.text.specs.Lines.{number-line, pair-line}
 use Rattle.text.proofs.Decimals.{figures-at-most}
-use Rattle.listing.specs.Lines.{boat-word, boat-line, boat-lines}
+use Rattle.listing.specs.Lines.{boat-line, boat-lines}
 use Rattle.leaning.specs.Report.{cards-on, counts-from, counts, most-used, total-word, stretch-word, stretch, stretches, stretch-lines, lean-lines}
 use Rattle.leaning.proofs.Leading.{leads}
 

@@ -1,11 +1,10 @@
 -- Laws of the shares in a list of slots, 256 a card: one card more behind others, and a card within them.
 use mathlib.Core.Path.{_≡_, refl, sym, ap, _∙_}
 use mathlib.Core.List.{List, [], _∷_, _++_, append-assoc}
-use Prim.Native.Nat.{ℕ, zero, suc, _+_, _*_, _-_, _≤_, _<_}
+use Prim.Native.Nat.{ℕ, zero, suc, _+_, _*_, _-_, _≤_}
 use native.Mathlib.Omega.{arith}
-use lib.ListN.{length, take, drop, getD, length-append}
-use lib.Seq.{take-take, drop-drop, take-at, drop-at, length-take-le, getD-take}
-use Rattle.leaning.specs.Report.{cards-on, counts-from}
+use lib.ListN.{length, take, drop}
+use lib.Seq.{take-take, drop-drop, take-at, drop-at, length-take-le}
 use Rattle.leaning.specs.Slots.{parts, card-slots}
 
 pub parts-length : (k n : ℕ) (slots : List ℕ) → length (parts k n slots) ≡ k

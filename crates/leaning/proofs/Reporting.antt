@@ -1,11 +1,10 @@
 -- What is promised of a report holds, and the report of cards that were checked one by one is the report of all.
 use mathlib.Core.Path.{_≡_, refl, sym, ap, _∙_}
-use mathlib.Core.Bool.{cond}
 use mathlib.Core.List.{List, [], _∷_, _++_, append-nil}
-use Prim.Native.Nat.{ℕ, zero, suc, _+_, _*_, _-_, _≤_, _<_}
+use Prim.Native.Nat.{ℕ, zero, suc, _*_}
 use native.Mathlib.Omega.{arith}
-use borrow.Author.Tests.{eq-eqb, le-ltb}
-use lib.Dec.{eqb, ltb, eqb·suc-zero}
+use borrow.Author.Tests.{le-ltb}
+use lib.Dec.{eqb·suc-zero}
 use lib.ListN.{length}
 use Rattle.frank_wolfe.specs.Vectors.{sum}
 use Rattle.files.specs.Book.{boats, book-refusal}
@@ -16,9 +15,9 @@ use Rattle.method.specs.Answers.{search-refusal}
 use Rattle.card_format.specs.Format.{card-shares}
 use Rattle.card_format.specs.Checks.{card-refusal, check-refusal}
 use Rattle.card_format.proofs.Accepted.{both-zero}
-use Rattle.leaning.specs.Report.{Pair, pair-refusal, pairs-refusal, start-refusal, refusal-so-far, lean-refusal, shares-of, counts, entries, stretch, lean-text, lean-listing}
+use Rattle.leaning.specs.Report.{Pair, pair-refusal, pairs-refusal, refusal-so-far, lean-refusal, shares-of, counts, entries, stretch, lean-text, lean-listing}
 use Rattle.leaning.specs.Slots.{card-slots, parts, Checked, slots-refusal, slots-listing}
-use Rattle.leaning.specs.Promise.{Lean-right, Reports, Reports-checked}
+use Rattle.leaning.specs.Promise.{Lean-right, Reports-checked}
 use Rattle.leaning.proofs.Counts.{card-entries, shares-length, counts-more, sum-none, pair-checked}
 use Rattle.leaning.proofs.Leading.{leads}
 use Rattle.leaning.proofs.Lengths.{lines-length}

@@ -17,6 +17,7 @@ pub record Pair : Type 0 where
   pub sheet : List ℕ
   pub card : List ℕ
 
+-- a sheet and a card, as a pair
 abbrev pub pair-of : (sheet card : List ℕ) → Pair
 pair-of s w = record { sheet = s; card = w }
 

@@ -2,14 +2,12 @@
 use mathlib.Core.Path.{_≡_}
 use mathlib.Core.Bool.{cond}
 use mathlib.Core.List.{List, [], _∷_, _++_}
-use Prim.Native.Nat.{ℕ, zero, suc, _+_, _*_, _-_, _≤_, _<_}
+use Prim.Native.Nat.{ℕ, zero, suc, _*_, _≤_, _<_}
 use lib.Dec.{eqb, ltb}
 use lib.ListN.{length, take, drop}
 use Rattle.frank_wolfe.specs.Vectors.{sum}
 use Rattle.files.specs.Book.{boats}
-use Rattle.text.specs.declared.Text.{Text}
-use Rattle.text.specs.Texts.{Holds}
-use Rattle.leaning.specs.Report.{Pair, most-cards, start-refusal, refusal-so-far, lean-refusal, shares-of, counts, entries, lean-text, lean-listing}
+use Rattle.leaning.specs.Report.{Pair, most-cards, start-refusal, refusal-so-far, shares-of, counts, lean-text}
 
 -- the slots of a card
 abbrev pub card-slots : ℕ

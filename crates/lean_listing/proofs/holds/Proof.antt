@@ -1,7 +1,6 @@
 -- `lean_listing::holds` meets its contract.
 use native.Mathlib.Omega.{arith}
 use borrow.Author.Tests.{eq-eqb, ne-eqb}
-use borrow.Author.Needs.{needs}
 use Rattle.lean_listing.proofs.holds.Statement.{statement}
 use Rattle.lean_listing.proofs.holds.Tie as tie
 

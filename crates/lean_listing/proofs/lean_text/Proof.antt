@@ -1,6 +1,6 @@
 -- `lean_listing::lean_text` meets its contract.
 use native.Mathlib.Omega.{arith}
-use Rattle.lean_listing.proofs.Refusing.{Listable, listable, given-refused, given-lines}
+use Rattle.lean_listing.proofs.Refusing.{listable, given-refused, given-lines}
 use borrow.Author.Needs.{needs}
 use Rattle.lean_listing.proofs.lean_text.Statement.{statement}
 use Rattle.lean_listing.proofs.lean_text.Tie as tie
