@@ -11,10 +11,11 @@ use Rattle.files.proofs.Accepted.{files-accepted}
 use Rattle.method.specs.declared.Answer.{Answer}
 use Rattle.method.specs.declared.Searched.{Searched}
 use Rattle.method.specs.declared.Searched.the-variants.{Refused, Answered}
+use Rattle.method.specs.Problem.{plain-terms}
 use Rattle.method.specs.Answers.{outcome, search-refusal, slots-after}
 use Rattle.method.proofs.Promise.{search-accepted, outcome-refused, outcome-answered}
 use Rattle.card_format.specs.Format.{card-shares, card-answer}
-use Rattle.card_format.specs.Checks.{card-refusal, check-refusal}
+use Rattle.card_format.specs.Checks.{card-refusal, check-refusal, check-refusal-with}
 use Rattle.card_format.proofs.Accepted.{both-zero}
 use Rattle.leaning.specs.Report.{pair-of}
 use Rattle.leaning.specs.Slots.{card-slots, Adds-pair}
@@ -48,10 +49,10 @@ module _ (b s w slots : List ℕ) (k at : ℕ) (start : Starts-at (length slots)
 
   -- a card is accepted only where there are slots for its boats
   room : check-refusal b s w (length slots - card-slots * k) ≡ 0 → card-slots * k ≤ length slots
-  unfolding check-refusal
+  unfolding check-refusal-with
   room e =
       let h = both-zero (search-refusal b s (length slots - card-slots * k)) (card-refusal b s w) e in
-      let f = search-accepted b s (length slots - card-slots * k) (h .0) in
+      let f = search-accepted plain-terms b s (length slots - card-slots * k) (h .0) in
       omega (arith, f .1, files-accepted b s (f .0) .0 .some-boats)
 
   left : (n : ℕ) {p : List ℕ} → check-refusal b s w (length slots - card-slots * k) ≡ n → p ≡ slots-after n (card-shares (boats b) w) (drop at slots) →

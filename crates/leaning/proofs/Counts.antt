@@ -13,10 +13,11 @@ use Rattle.files.specs.Bytes.{number}
 use Rattle.files.specs.Book.{boats, columns, book-refusal}
 use Rattle.files.specs.Sheet.{sheet-refusal, files-refusal}
 use Rattle.files.proofs.Refusal.{and-true}
+use Rattle.method.specs.Problem.{plain-terms}
 use Rattle.method.specs.Iterates.{support}
 use Rattle.method.specs.Answers.{search-refusal}
 use Rattle.card_format.specs.Format.{shares-into, pair-count, card-body, card-shares}
-use Rattle.card_format.specs.Checks.{pairs-in-order, card-refusal, check-refusal}
+use Rattle.card_format.specs.Checks.{pairs-in-order, card-refusal, check-refusal, check-refusal-with}
 use Rattle.card_format.proofs.Accepted.{all-passed}
 use Rattle.listing.proofs.Outcomes.{long-enough}
 use Rattle.leaning.specs.Report.{Pair, pair-refusal, cards-on, counts-from}
@@ -65,7 +66,7 @@ unfolding card-shares
 card-entries b s w e =
     omega (
       arith,
-      support-into (pair-count w) 0 (boats b) (card-body w) (replicate (boats b) 0) (all-passed b s w e .ordered) (length-replicate (boats b) 0)
+      support-into (pair-count w) 0 (boats b) (card-body w) (replicate (boats b) 0) (all-passed plain-terms b s w e .ordered) (length-replicate (boats b) 0)
           (record { none = λ j h. zero-at (boats b) j }),
       support-zero (boats b),
     )
@@ -95,7 +96,7 @@ sum-none i (suc n) = omega (arith, sum-none (suc i) n)
 
 -- with slots for the book's boats the check of a card refuses as the pair does
 pub pair-checked : (b : List ℕ) (p : Pair) (room : ℕ) → book-refusal b ≡ 0 → boats b ≤ room → check-refusal b (p .sheet) (p .card) room ≡ pair-refusal b p
-unfolding check-refusal pair-refusal files-refusal
+unfolding check-refusal-with pair-refusal files-refusal
 pair-checked b p room e h =
     let f : search-refusal b (p .sheet) room ≡ sheet-refusal (columns b) (p .sheet) = long-enough b (p .sheet) room (λ z. h) ∙ rw (eq-eqb (book-refusal b) 0 e) in
     rw f

@@ -13,7 +13,7 @@ use Rattle.text.specs.declared.Text.{Text}
 use Rattle.text.specs.Texts.{Holds}
 use Rattle.method.specs.Answers.{search-refusal}
 use Rattle.card_format.specs.Format.{card-shares}
-use Rattle.card_format.specs.Checks.{card-refusal, check-refusal}
+use Rattle.card_format.specs.Checks.{card-refusal, check-refusal, check-refusal-with}
 use Rattle.card_format.proofs.Accepted.{both-zero}
 use Rattle.leaning.specs.Report.{Pair, pair-refusal, pairs-refusal, refusal-so-far, lean-refusal, shares-of, counts, entries, stretch, lean-text, lean-listing}
 use Rattle.leaning.specs.Slots.{card-slots, parts, Checked, slots-refusal, slots-listing}
@@ -26,7 +26,7 @@ use Rattle.leaning.proofs.Checking.{Passed, so-far-passed, refusal-stay
 -- ---- The total
 
 pair-passed : (b : List ℕ) (p : Pair) → book-refusal b ≡ 0 → pair-refusal b p ≡ 0 → card-refusal b (p .sheet) (p .card) ≡ 0
-unfolding check-refusal
+unfolding check-refusal-with
 pair-passed b p e h =
     let k : check-refusal b (p .sheet) (p .card) (boats b) ≡ 0 = pair-checked b p (boats b) e (omega arith) ∙ h in
     both-zero (search-refusal b (p .sheet) (boats b)) (card-refusal b (p .sheet) (p .card)) k .1
