@@ -18,4 +18,4 @@ pub mod Numerators
 pub mod Published
 pub mod SmallGap
 pub mod Promise
-pub mod Released
+pub mod ReleasedBoats

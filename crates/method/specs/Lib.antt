@@ -11,4 +11,4 @@ pub mod Published
 pub mod PublishedRun
 pub mod SmallGap
 pub mod Promise
-pub mod Released
+pub mod ReleasedBoats

@@ -29,3 +29,11 @@ pub enum Searched {
     Refused(u32),
     Answered(Answer),
 }
+
+// The boats that a call may use, by the numbers of the book. Where `limited`, those that the bits of `boats` name: bit b of byte k,
+// b = 0 the lowest, is for boat 8 k + b. Else all of them, and `boats` is not read.
+#[repr(C)]
+pub struct Released {
+    pub limited: bool,
+    pub boats: [u8; 32],
+}
