@@ -124,4 +124,4 @@ unfolding Files-front-unread files-refusal
 files-front-unread b s b′ s′ d e =
     let p = same-book b b′ d in
     let q = same-sheet s s′ (columns b) (columns b) e in
-    record { boats = p .0; columns = p .1; rows = p .2; sheet = q .0; refusal = rw (p .3, p .1, q .1) }
+    record { boats = p .0; columns = p .1; rows = p .2; sheet = q .0; book-refusal = p .3; refusal = rw (p .3, p .1, q .1) }

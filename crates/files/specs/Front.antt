@@ -41,6 +41,7 @@ pub record Files-alike (b s b′ s′ : List ℕ) : Type 0 where
   pub columns : columns b′ ≡ columns b
   pub rows : rows b′ ≡ rows b
   pub sheet : sheet s′ ≡ sheet s
+  pub book-refusal : book-refusal b′ ≡ book-refusal b
   pub refusal : files-refusal b′ s′ ≡ files-refusal b s
 
 unfoldable pub Files-front-unread : Type 0

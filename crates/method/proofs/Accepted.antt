@@ -1,23 +1,25 @@
 -- An accepted fleet book and sheet are a well-formed problem, in range and sized, with any shares that serve, with their own factors and with others.
-use mathlib.Core.Path.{_≡_, refl, _∙_}
+use mathlib.Core.Path.{_≡_, refl, ap, _∙_}
 use mathlib.Core.List.{List, [], _∷_}
 use Prim.Native.Nat.{ℕ, zero, suc, _≤_, _<_}
 use native.Mathlib.Nat.{le-trans}
 use native.Mathlib.Omega.{arith}
 use lib.IntN.{ℤ}
 use lib.ListN.{length, getD}
-use Rattle.files.specs.Book.{boats, columns, rows}
+use Rattle.files.specs.Book.{boats, columns, rows, book-refusal}
 use Rattle.files.specs.Sheet.{sheet, files-refusal}
 use Rattle.files.specs.Fits.{Book-fits, Sheet-fits}
 use Rattle.files.proofs.Accepted.{files-accepted}
 use Rattle.frank_wolfe.specs.Vectors.{sum, Among, here, there}
-use Rattle.method.specs.Problem.{Schedule, Problem, Terms, problem-with, call-problem}
-use Rattle.method.specs.Calls.{before, schedule-refusal, call-refusal}
+use Rattle.method.specs.ReleasedBoats.{Usable, every, only, used-from, set-refusal}
+use Rattle.method.specs.Problem.{Schedule, Problem, Terms, problem-with, fleet-problem, call-problem}
+use Rattle.method.specs.Calls.{before, schedule-refusal, released-refusal, call-refusal}
 use Rattle.method.specs.Iterates.{iterate}
 use Rattle.method.proofs.Schedules.{Schedule-sized, schedule-sized}
 use Rattle.method.proofs.Entries.{Bounded}
 use Rattle.method.proofs.Shares.{Mixed, iterate-mixed}
 use Rattle.method.proofs.Mixtures.{Well-formed, In-range, Sized}
+use Rattle.method.proofs.ReleasedBoats.{some-released, length-gather, well-formed-released, in-range-released, sized-released}
 
 -- what holds of each row by its index holds of the rows
 among-by : (P : List ℤ → Type 0) (vs : List (List ℤ)) → ((i : ℕ) → i < length vs → P (getD vs i [])) → {v : List ℤ} → Among vs v → P v
@@ -69,16 +71,29 @@ module _ (b s : List ℕ) (ok : files-refusal b s ≡ 0) where
     share-count-with t = mixed-with t .count ∙ f .row-count
 
 -- ---- The problem of a call
+
+-- neither of two numbers refuses
+pub both : (n k : ℕ) → before n k ≡ 0 → (n ≡ 0) × (k ≡ 0)
+both zero k e = (refl, e)
+both (suc n) k e = absurd (omega arith)
+
+pub released-accepted : (u : Usable) (b s : List ℕ) → released-refusal u b s ≡ 0 → (files-refusal b s ≡ 0) × (set-refusal (boats b) u ≡ 0)
+unfolding set-refusal
+released-accepted every b s e = (e, refl)
+released-accepted (only set) b s e =
+    let p = both (book-refusal b) (before (set-refusal (boats b) (only set)) (files-refusal b s)) e in
+    let q = both (set-refusal (boats b) (only set)) (files-refusal b s) (p .1) in
+    (q .1, q .0)
+
 module _ (m : Terms) (b s : List ℕ) (ok : call-refusal m b s ≡ 0) where
-  both : (n k : ℕ) → before n k ≡ 0 → (n ≡ 0) × (k ≡ 0)
-  both zero k e = (refl, e)
-  both (suc n) k e = absurd (omega arith)
+  passed : (schedule-refusal (m .schedule) ≡ 0) × (released-refusal (m .released) b s ≡ 0)
+  passed = both (schedule-refusal (m .schedule)) (released-refusal (m .released) b s) ok
 
   pub files-ok : files-refusal b s ≡ 0
-  files-ok = both (schedule-refusal (m .schedule)) (files-refusal b s) ok .1
+  files-ok = released-accepted (m .released) b s (passed .1) .0
 
   pub schedule-ok : schedule-refusal (m .schedule) ≡ 0
-  schedule-ok = both (schedule-refusal (m .schedule)) (files-refusal b s) ok .0
+  schedule-ok = passed .0
 
   pub call-schedule : Schedule-sized (m .schedule)
   call-schedule = schedule-sized (m .schedule) schedule-ok
@@ -86,18 +101,34 @@ module _ (m : Terms) (b s : List ℕ) (ok : call-refusal m b s ≡ 0) where
   few : sum (sheet s .factors) ≤ 64
   few = files-accepted b s files-ok .1 .few-factors
 
+  -- one of the book's boats may be used
+  pub some-used : 1 ≤ length (used-from (m .released) 0 (boats b))
+  some-used = some-released (boats b) (m .released) (files-accepted b s files-ok .0 .some-boats) (released-accepted (m .released) b s (passed .1) .1)
+
+  some-vertex : 1 ≤ length (used-from (m .released) 0 (length (fleet-problem m b s .vertices)))
+  some-vertex = rw (files-accepted b s files-ok .0 .row-count) some-used
+
+  -- of all boats of the book
+  pub fleet-formed : Well-formed (fleet-problem m b s)
+  fleet-formed = well-formed-with b s files-ok call-schedule (sheet s .factors) few
+
+  -- of those that may be used
   pub well-formed : Well-formed (call-problem m b s)
   unfolding call-problem
-  well-formed = well-formed-with b s files-ok call-schedule (sheet s .factors) few
+  well-formed = well-formed-released (m .released) some-vertex fleet-formed
 
   pub in-range : In-range (call-problem m b s)
   unfolding call-problem
-  in-range = in-range-with b s files-ok call-schedule (sheet s .factors) few
+  in-range = in-range-released (m .released) some-vertex (in-range-with b s files-ok call-schedule (sheet s .factors) few)
 
   pub sized : Sized (call-problem m b s)
   unfolding call-problem
-  sized = sized-with b s files-ok call-schedule (sheet s .factors) few
+  sized = sized-released (m .released) some-vertex (sized-with b s files-ok call-schedule (sheet s .factors) few)
 
-  pub share-count : (t : ℕ) → length (iterate (call-problem m b s) t .shares) ≡ boats b
+  -- as many as the boats that may be used
+  pub vertex-count : length (call-problem m b s .vertices) ≡ length (used-from (m .released) 0 (boats b))
   unfolding call-problem
-  share-count = share-count-with b s files-ok call-schedule (sheet s .factors) few
+  vertex-count = length-gather (m .released) (rows b) ∙ ap (λ n. length (used-from (m .released) 0 n)) (files-accepted b s files-ok .0 .row-count)
+
+  pub share-count : (t : ℕ) → length (iterate (call-problem m b s) t .shares) ≡ length (used-from (m .released) 0 (boats b))
+  share-count t = iterate-mixed (call-problem m b s) (well-formed .some-row) (well-formed .wide) t .count ∙ vertex-count

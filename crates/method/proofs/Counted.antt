@@ -6,10 +6,10 @@ use native.Mathlib.Omega.{arith}
 use Rattle.files.specs.Sheet.{sheet}
 use Rattle.method.specs.declared.Test.{Test}
 use Rattle.method.specs.declared.Test.the-variants.{Sharper}
-use Rattle.method.specs.Problem.{Schedule, fixed, lent, Problem, Terms, call-steps, call-problem, problem, share, weight}
+use Rattle.method.specs.Problem.{Schedule, fixed, lent, Problem, Terms, call-steps, call-problem, share, weight}
 use Rattle.method.specs.Iterates.{Iterate, start, residual, direction, pick, with-shares, step, iterate, distance, signed-gap, gap}
 use Rattle.method.specs.Answers.{answer-at, steps-from, steps-used, run-iterate, run-answer}
-use Rattle.method.specs.Promise.{Counts}
+use Rattle.method.specs.Promise.{Counts, without-table}
 use Rattle.method.proofs.Weights.{weight-zero, weight-suc}
 use Rattle.method.proofs.Running.{stopped}
 
@@ -69,16 +69,16 @@ module _ (m : Terms) (b s : List ℕ) (c : Counts m s) where
   -- so far its totals are those of the fixed shares, and so are the answers of any point
   pub counted-weight : (t : ℕ) → t ≤ sheet s .steps → weight (m .schedule) t ≡ weight fixed t
   unfolding share
-  counted-weight t h = rw (c .is-lent) (weight-same (problem b s) (lent (c .table)) fixed (sheet s .steps) (c .counts) t h)
+  counted-weight t h = rw (c .is-lent) (weight-same (call-problem (without-table m) b s) (lent (c .table)) fixed (sheet s .steps) (c .counts) t h)
 
-  pub counted-answer : (test : Test) (t : ℕ) → t ≤ sheet s .steps → (x : Iterate) → answer-at test (call-problem m b s) t x ≡ answer-at test (problem b s) t x
+  pub counted-answer : (test : Test) (t : ℕ) → t ≤ sheet s .steps → (x : Iterate) → answer-at test (call-problem m b s) t x ≡ answer-at test (call-problem (without-table m) b s) t x
   unfolding share call-problem
-  counted-answer test t h x = rw (counted-steps, c .is-lent) (answer-same (problem b s) (lent (c .table)) fixed (sheet s .steps) (c .counts) test t h x)
+  counted-answer test t h x = rw (counted-steps, c .is-lent) (answer-same (call-problem (without-table m) b s) (lent (c .table)) fixed (sheet s .steps) (c .counts) test t h x)
 
   -- and the run
   pub counted-same : 1 ≤ sheet s .steps →
-      (run-answer (call-problem m b s) ≡ run-answer (problem b s)) × (run-iterate (call-problem m b s) ≡ run-iterate (problem b s))
+      (run-answer (call-problem m b s) ≡ run-answer (call-problem (without-table m) b s)) × (run-iterate (call-problem m b s) ≡ run-iterate (call-problem (without-table m) b s))
   unfolding share call-problem
   counted-same some =
       rw (counted-steps, c .is-lent)
-      (run-answer-same (problem b s) (lent (c .table)) fixed (sheet s .steps) (c .counts) some, run-iterate-same (problem b s) (lent (c .table)) fixed (sheet s .steps) (c .counts) some)
+      (run-answer-same (call-problem (without-table m) b s) (lent (c .table)) fixed (sheet s .steps) (c .counts) some, run-iterate-same (call-problem (without-table m) b s) (lent (c .table)) fixed (sheet s .steps) (c .counts) some)

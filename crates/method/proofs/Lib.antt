@@ -5,6 +5,7 @@ pub mod Picks
 pub mod Entries
 pub mod Shares
 pub mod Mixtures
+pub mod ReleasedBoats
 pub mod Iterates
 pub mod Verdicts
 pub mod Running
@@ -17,5 +18,6 @@ pub mod Fractions
 pub mod Numerators
 pub mod Published
 pub mod SmallGap
+pub mod BookNumbers
 pub mod Promise
-pub mod ReleasedBoats
+pub mod ReleasedExamples

@@ -13,7 +13,8 @@ use Rattle.method.specs.declared.Test.the-variants.{Former, Sharper}
 use Rattle.method.specs.declared.Answer.{Answer}
 use Rattle.method.specs.declared.Searched.{Searched}
 use Rattle.method.specs.declared.Searched.the-variants.{Refused, Answered}
-use Rattle.method.specs.Problem.{Problem, Terms, plain-terms, weight}
+use Rattle.method.specs.ReleasedBoats.{scatter}
+use Rattle.method.specs.Problem.{Problem, Terms, plain-terms, weight, call-problem}
 use Rattle.method.specs.Calls.{call-refusal}
 use Rattle.method.specs.Iterates.{Iterate, start, direction, step, iterate, distance, gap}
 
@@ -95,6 +96,10 @@ search-refusal-with m b s slots = cond (eqb (call-refusal m b s) 0) (cond (ltb s
 -- of files alone: 1 to 17 and 46, then 21
 abbrev pub search-refusal : (book sheet : List ℕ) → (slots : ℕ) → ℕ
 search-refusal b s slots = search-refusal-with plain-terms b s slots
+
+-- the shares of a call's run in the slots of the book's boats: 0 for a boat that may not be used
+abbrev pub run-slots : Terms → (book sheet : List ℕ) → List ℕ
+run-slots m b s = scatter (m .released) (boats b) (run-iterate (call-problem m b s) .shares)
 
 -- a lent share list afterwards: as it was where refused; else the shares in its first slots, later ones as they were
 unfoldable pub slots-after : (refusal : ℕ) → (shares slots : List ℕ) → List ℕ

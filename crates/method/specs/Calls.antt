@@ -1,5 +1,5 @@
 -- The terms of a call, from what its caller hands in, and what refuses it ahead of its share list, buffer or card: 49 to 51 of a table of
--- shares that is lent, then what refuses the files. Definitions only. Assumes nothing.
+-- shares that is lent, then what refuses the files, with 52 of a set of boats between book and sheet. Definitions only. Assumes nothing.
 use mathlib.Core.Bool.{Bool, true, false, not, _&&_, cond}
 use mathlib.Core.List.{List, [], _∷_}
 use Prim.Native.Nat.{ℕ, zero, suc, _+_, _*_}
@@ -8,7 +8,10 @@ use lib.ListN.{length}
 use Rattle.frank_wolfe.specs.Vectors.{sum}
 use Rattle.files.specs.Bytes.{between}
 use Rattle.files.specs.Limits.{step-limit, total-limit}
+use Rattle.files.specs.Book.{boats, book-refusal}
 use Rattle.files.specs.Sheet.{files-refusal}
+use Rattle.method.specs.declared.Released.{Released}
+use Rattle.method.specs.ReleasedBoats.{Usable, every, only, usable, set-refusal}
 use Rattle.method.specs.Problem.{Schedule, fixed, lent, Terms}
 
 -- ---- A table that is lent
@@ -37,14 +40,24 @@ abbrev pub schedule-of : (lent : Bool) → (table : List ℕ) → Schedule
 schedule-of true table = lent table
 schedule-of false table = fixed
 
+-- with all boats of the book
 abbrev pub terms : (lent : Bool) → (table : List ℕ) → Terms
-terms l table = record { schedule = schedule-of l table }
+terms l table = record { schedule = schedule-of l table; released = every }
+
+-- with a set as well, which counts only where the call is limited to it
+abbrev pub call-terms : Released → (lent : Bool) → (table : List ℕ) → Terms
+call-terms r l table = record { schedule = schedule-of l table; released = usable r }
 
 -- the first number, unless it is 0: else the later one
 abbrev pub before : (first later : ℕ) → ℕ
 before zero later = later
 before (suc n) later = suc n
 
--- 49 to 51 of a lent table, then 1 to 17 and 46 of the files
+-- 1 to 17 and 46 of the files; where there is a set, its 52 after 1 to 6 of the book and ahead of the sheet
+abbrev pub released-refusal : Usable → (book sheet : List ℕ) → ℕ
+released-refusal every b s = files-refusal b s
+released-refusal (only set) b s = before (book-refusal b) (before (set-refusal (boats b) (only set)) (files-refusal b s))
+
+-- 49 to 51 of a lent table, then those
 abbrev pub call-refusal : Terms → (book sheet : List ℕ) → ℕ
-call-refusal m b s = before (schedule-refusal (m .schedule)) (files-refusal b s)
+call-refusal m b s = before (schedule-refusal (m .schedule)) (released-refusal (m .released) b s)

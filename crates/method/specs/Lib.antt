@@ -1,4 +1,5 @@
 -- The definitions of this crate: the method in whole numbers, the published one over fractions, and what is promised of a run.
+pub mod ReleasedBoats
 pub mod Problem
 pub mod Calls
 pub mod Plain
@@ -10,5 +11,5 @@ pub mod Fractions
 pub mod Published
 pub mod PublishedRun
 pub mod SmallGap
+pub mod BookNumbers
 pub mod Promise
-pub mod ReleasedBoats

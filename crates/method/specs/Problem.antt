@@ -8,6 +8,7 @@ use lib.IntN.{ℤ}
 use Rattle.frank_wolfe.specs.Vectors.{sum}
 use Rattle.files.specs.Book.{rows, columns}
 use Rattle.files.specs.Sheet.{sheet}
+use Rattle.method.specs.ReleasedBoats.{Usable, every, gather}
 
 -- how many shares each step gives
 pub data Schedule : Type 0 where
@@ -50,10 +51,12 @@ pub record Problem : Type 0 where
 pub record Terms : Type 0 where
   -- a table of shares where one is lent, else the fixed shares
   pub schedule : Schedule
+  -- the boats that a set names where the call is limited to one, else all
+  pub released : Usable
 
 -- those of a call that is given its files alone
 abbrev pub plain-terms : Terms
-plain-terms = record { schedule = fixed }
+plain-terms = record { schedule = fixed; released = every }
 
 -- the steps that a call asks for: the sheet's number, or a lent table's where that is less
 abbrev pub call-steps : Terms → (sheet : List ℕ) → ℕ
@@ -72,9 +75,26 @@ problem-with a fs b s =
       steps = allowed-steps a (sheet s .steps);
     }
 
--- the problem that a call sets: the factors are the sheet's
+-- a problem whose vertices are the boats that may be used, the lowest-numbered first
+abbrev pub on-released : Usable → Problem → Problem
+on-released u p =
+    record {
+      columns = p .columns;
+      vertices = gather u (p .vertices);
+      target = p .target;
+      factors = p .factors;
+      schedule = p .schedule;
+      tolerance = p .tolerance;
+      steps = p .steps;
+    }
+
+-- the problem of all boats of the book, with the sheet's factors and a call's shares
+abbrev pub fleet-problem : Terms → (book sheet : List ℕ) → Problem
+fleet-problem m b s = problem-with (m .schedule) (sheet s .factors) b s
+
+-- the problem that a call sets: of the boats that may be used
 unfoldable pub call-problem : Terms → (book sheet : List ℕ) → Problem
-call-problem m b s = problem-with (m .schedule) (sheet s .factors) b s
+call-problem m b s = on-released (m .released) (fleet-problem m b s)
 
 -- the problem of a fleet book and a sheet alone: step k gives k shares
 abbrev pub problem : (book sheet : List ℕ) → Problem

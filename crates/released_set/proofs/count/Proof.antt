@@ -38,7 +38,7 @@ loop-again c =
     let inv = at-may-use .before .before .loop .inv .1 in (
       search needs,
       ⊎-elim (λ w. rw (w .1) (counted-used inv (sym (w .0 .taken) ∙ at-may-use .may-use .ensures)))
-      (λ w. rw (w .1) (counted-other inv (sym (w .0 .left) ∙ at-may-use .may-use .ensures))) (c .if1 .came),
+          (λ w. rw (w .1) (counted-other inv (sym (w .0 .left) ∙ at-may-use .may-use .ensures))) (c .if1 .came),
     )
 
 returns : tie.Need-returns Inv-loop μ-loop

@@ -55,7 +55,7 @@ loop-again c =
     let inv = at-loop .loop .inv .1 in (
       search needs,
       ⊎-elim (λ w. rw (w .1, w .2) (gathering-used _ _ _ (start .pre) l inv (in-loop .loop-test .taken) (sym (w .0 .taken) ∙ at-may-use .may-use .ensures)))
-      (λ w. rw (w .1, w .2) (gathering-other _ _ _ (start .pre) l inv (sym (w .0 .left) ∙ at-may-use .may-use .ensures))) (c .if1 .came),
+          (λ w. rw (w .1, w .2) (gathering-other _ _ _ (start .pre) l inv (sym (w .0 .left) ∙ at-may-use .may-use .ensures))) (c .if1 .came),
     )
 
 returns : tie.Need-returns Inv-loop μ-loop

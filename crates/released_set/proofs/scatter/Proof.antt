@@ -58,7 +58,7 @@ loop-again c =
     let more = scattering-more inv (start .pre .1 .1) (in-loop .loop-test .taken) (at-may-use .may-use .ensures) (at-share-of .share-of .ensures) in (
       search needs,
       more (⊎-elim (λ w. rw (w .1) (counted-used (inv .counted) (sym (w .0 .taken) ∙ at-may-use .may-use .ensures)))
-      (λ w. rw (w .1) (counted-other (inv .counted) (sym (w .0 .left) ∙ at-may-use .may-use .ensures))) (c .if1 .came)),
+          (λ w. rw (w .1) (counted-other (inv .counted) (sym (w .0 .left) ∙ at-may-use .may-use .ensures))) (c .if1 .came)),
     )
 
 same-length : tie.Need-same-length Inv-loop μ-loop
