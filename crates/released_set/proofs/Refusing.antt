@@ -3,39 +3,50 @@ use mathlib.Core.Path.{_≡_, refl, sym, _∙_}
 use mathlib.Core.Bool.{Bool, true, false, _&&_, cond}
 use Prim.Native.Nat.{ℕ, zero, suc, _-_, _≤_, _<_}
 use native.Mathlib.Omega.{arith}
-use borrow.Author.Tests.{lt-ltb, ne-eqb, eq-eqb}
+use borrow.Author.Tests.{lt-ltb, ne-eqb}
 use lib.Dec.{eqb, ltb}
 use lib.ListN.{length}
 use Rattle.method.specs.declared.Released.{Released}
-use Rattle.method.specs.ReleasedBoats.{released-from, released, set-refusal}
-use Rattle.method.proofs.ReleasedBoats.{limited-refusal, unlimited-refusal}
+use Rattle.method.specs.ReleasedBoats.{Usable, only, usable, used-from, set-refusal}
 
 module _ (set : Released) (boats : ℕ) where
-  -- none of the book's boats
-  pub none-refused : set .limited ≡ true → {n : ℕ} → n ≡ length (released-from set 0 (boats - 0)) → n ≡ 0 → 52 ≡ set-refusal boats set
-  none-refused t e z =
-      let f : boats - 0 ≡ boats = omega arith in
-      let g : length (released set boats) ≡ 0 = sym (rw f at e) ∙ z in
-      rw (limited-refusal boats set t, g)
+  abbrev u : Usable
+  u = usable set
 
-  -- a boat past them
-  pub past-refused : set .limited ≡ true → {m : ℕ} → m ≡ length (released-from set boats (256 - boats)) → (m ≡ 0 → ⊥) → 52 ≡ set-refusal boats set
-  past-refused t {m} e z =
-      let g : eqb (length (released-from set boats (256 - boats))) 0 ≡ false = ne-eqb _ 0 (λ q. z (e ∙ q)) in
-      rw (limited-refusal boats set t, g) (by (ltb 0 (length (released set boats))))
-    where
-      by : (x : Bool) → _≡_ {A = ℕ} 52 (cond (x && false) 0 52)
-      by true = refl
-      by false = refl
+  pub unlimited-refusal : set .limited ≡ false → set-refusal boats u ≡ 0
+  unfolding set-refusal
+  unlimited-refusal e = rw e
 
-  -- neither
-  pub set-serves : set .limited ≡ true → {n m : ℕ} → n ≡ length (released-from set 0 (boats - 0)) → (n ≡ 0 → ⊥) → m ≡ length (released-from set boats (256 - boats)) → m ≡ 0 → 0 ≡ set-refusal boats set
-  set-serves t {n} {m} e z f y =
-      let k : boats - 0 ≡ boats = omega arith in
-      let g : length (released-from set boats (256 - boats)) ≡ 0 = sym f ∙ y in
-      let h : 0 < length (released set boats) = some (length (released set boats)) (rw k at e) z in
-      rw (limited-refusal boats set t, lt-ltb 0 (length (released set boats)) h, g)
-    where
-      some : (l : ℕ) {n : ℕ} → n ≡ l → (n ≡ 0 → ⊥) → 0 < l
-      some zero e z = absurd (z e)
-      some (suc l) e z = omega arith
+  module _ (limited : set .limited ≡ true) where
+    limited-refusal : set-refusal boats u ≡ cond (ltb 0 (length (used-from u 0 boats)) && eqb (length (used-from u boats (256 - boats))) 0) 0 52
+    unfolding set-refusal
+    limited-refusal = rw limited
+
+    -- none of the book's boats
+    pub none-refused : {n : ℕ} → n ≡ length (used-from u 0 (boats - 0)) → n ≡ 0 → 52 ≡ set-refusal boats u
+    none-refused e z =
+        let f : boats - 0 ≡ boats = omega arith in
+        let g : length (used-from u 0 boats) ≡ 0 = sym (rw f at e) ∙ z in
+        rw (limited-refusal, g)
+
+    -- a boat past them
+    pub past-refused : {n : ℕ} → n ≡ length (used-from u boats (256 - boats)) → (n ≡ 0 → ⊥) → 52 ≡ set-refusal boats u
+    past-refused e z =
+        let g : eqb (length (used-from u boats (256 - boats))) 0 ≡ false = ne-eqb _ 0 (λ q. z (e ∙ q)) in
+        rw (limited-refusal, g) (by (ltb 0 (length (used-from u 0 boats))))
+      where
+        by : (x : Bool) → _≡_ {A = ℕ} 52 (cond (x && false) 0 52)
+        by true = refl
+        by false = refl
+
+    -- neither
+    pub set-serves : {n m : ℕ} → n ≡ length (used-from u 0 (boats - 0)) → (n ≡ 0 → ⊥) → m ≡ length (used-from u boats (256 - boats)) → m ≡ 0 → 0 ≡ set-refusal boats u
+    set-serves e z f y =
+        let k : boats - 0 ≡ boats = omega arith in
+        let g : length (used-from u boats (256 - boats)) ≡ 0 = sym f ∙ y in
+        let h : 0 < length (used-from u 0 boats) = some (length (used-from u 0 boats)) (rw k at e) z in
+        rw (limited-refusal, lt-ltb 0 (length (used-from u 0 boats)) h, g)
+      where
+        some : (l : ℕ) {n : ℕ} → n ≡ l → (n ≡ 0 → ⊥) → 0 < l
+        some zero e z = absurd (z e)
+        some (suc l) e z = omega arith

@@ -2,11 +2,11 @@
 //
 // Helpers for other crates, whose callers prove what they require: may_use, count, set_refusal, scatter, gather.
 ghost use mathlib.Core.Path.{_≡_};
-ghost use mathlib.Core.Bool.{cond};
 ghost use mathlib.Core.List.{_++_};
 ghost use Prim.Native.Nat.{_-_, _≤_, _<_};
 ghost use lib.ListN.{length, getD, take, drop, replicate};
-ghost use Rattle.method.specs.ReleasedBoats.{may-use, released-from, released, set-refusal, gather, scatter};
+ghost use mathlib.Core.Bool.{true, cond};
+ghost use Rattle.method.specs.ReleasedBoats.{only, usable, may-use, used-from, set-refusal, kept, scatter-from};
 use method::Released;
 
 // The most boats of a book, and the bits of a set.
@@ -15,7 +15,7 @@ const MOST_BOATS: usize = 256;
 // Whether a boat may be used.
 pub fn may_use(set: Released, boat: usize) -> bool
     requires { ⌜ boat < 256 ⌝ }
-    ensures { λ r. ⌜ r ≡ may-use set boat ⌝ }
+    ensures { λ r. ⌜ r ≡ may-use (usable set) boat ⌝ }
 {
     if !set.limited {
         return true;
@@ -27,7 +27,7 @@ pub fn may_use(set: Released, boat: usize) -> bool
 // How many boats from `first` on, below `end`, may be used.
 pub fn count(set: Released, first: usize, end: usize) -> usize
     requires { ⌜ (first ≤ end) × (end ≤ 256) ⌝ }
-    ensures { λ r. ⌜ r ≡ length (released-from set first (end - first)) ⌝ }
+    ensures { λ r. ⌜ r ≡ length (used-from (usable set) first (end - first)) ⌝ }
 {
     let mut n: usize = 0;
     let mut i = first;
@@ -43,7 +43,7 @@ pub fn count(set: Released, first: usize, end: usize) -> usize
 // 52 where a set that is handed in has none of a book's boats, or a boat that the book does not have; else 0.
 pub fn set_refusal(set: Released, boats: usize) -> u32
     requires { ⌜ boats ≤ 256 ⌝ }
-    ensures { λ r. ⌜ r ≡ set-refusal boats set ⌝ }
+    ensures { λ r. ⌜ r ≡ set-refusal boats (usable set) ⌝ }
 {
     if !set.limited {
         return 0;
@@ -72,7 +72,7 @@ fn share_of(own: &[u16], next: usize, used: bool) -> u16
 pub fn scatter(own: &[u16], set: Released, boats: usize, slots: &mut [u16])
     requires { ⌜ boats ≤ 256 ⌝ }
     requires { ⌜ (boats ≤ length (now own)) × (boats ≤ length (now slots)) ⌝ }
-    ensures { λ _. ⌜ now (slots .exit) ≡ scatter set boats (now (own .entry)) ++ drop boats (now (slots .entry)) ⌝ }
+    ensures { λ _. ⌜ now (slots .exit) ≡ scatter-from (usable set) 0 boats (now (own .entry)) ++ drop boats (now (slots .entry)) ⌝ }
 {
     let mut next: usize = 0;
     let mut i = 0;
@@ -89,7 +89,7 @@ pub fn scatter(own: &[u16], set: Released, boats: usize, slots: &mut [u16])
 // The shares of the boats that may be used, one after the other from the first slot on; 0 behind them.
 pub fn gather(shares: [u16; 256], set: Released, boats: usize) -> [u16; 256]
     requires { ⌜ boats ≤ 256 ⌝ }
-    ensures { λ r. ⌜ r ≡ gather set (take boats shares) ++ replicate (256 - length (released set boats)) 0 ⌝ }
+    ensures { λ r. ⌜ r ≡ kept (usable set) 0 (take boats shares) ++ replicate (256 - length (used-from (usable set) 0 boats)) 0 ⌝ }
 {
     let mut own = [0u16; 256];
     let mut next: usize = 0;

@@ -4,6 +4,7 @@ use mathlib.Core.Logic.{⊎-elim}
 use Prim.Native.Nat.{_-_, _≤_}
 use native.Mathlib.Omega.{arith}
 use borrow.Author.Needs.{needs}
+use Rattle.method.specs.ReleasedBoats.{usable}
 use Rattle.released_set.proofs.Ranks.{Counted, counted-start, counted-used, counted-other, counted-few}
 use Rattle.released_set.proofs.count.Statement.{statement}
 use Rattle.released_set.proofs.count.Tie as tie
@@ -12,7 +13,7 @@ use Rattle.released_set.proofs.count.Lts as lts
 use Rattle.released_set.proofs.may_use.Reads as may-use-reads
 
 abbrev Inv-loop : tie.InvT-loop
-Inv-loop set first end n₀ i₀ n i = (i ≤ end) × Counted set first i n
+Inv-loop set first end n₀ i₀ n i = (i ≤ end) × Counted (usable set) first i n
 
 abbrev μ-loop : tie.MeasureT-loop
 μ-loop set first end n₀ i₀ n i = end - i

@@ -5,6 +5,7 @@ use Prim.Native.Nat.{_-_, _≤_}
 use lib.ListN.{length}
 use native.Mathlib.Omega.{arith}
 use borrow.Author.Needs.{needs}
+use Rattle.method.specs.ReleasedBoats.{usable}
 use Rattle.released_set.proofs.Ranks.{counted-few, Gathering, gathering-start, gathering-long, gathering-used, gathering-other, gathering-end}
 use Rattle.released_set.proofs.gather.Statement.{statement}
 use Rattle.released_set.proofs.gather.Tie as tie
@@ -13,7 +14,7 @@ use Rattle.released_set.proofs.gather.Lts as lts
 use Rattle.released_set.proofs.may_use.Reads as may-use-reads
 
 abbrev Inv-loop : tie.InvT-loop
-Inv-loop set boats shares own₀ next₀ i₀ own next i = (i ≤ boats) × Gathering shares set boats next i own
+Inv-loop set boats shares own₀ next₀ i₀ own next i = (i ≤ boats) × Gathering shares (usable set) boats next i own
 
 abbrev μ-loop : tie.MeasureT-loop
 μ-loop set boats shares own₀ next₀ i₀ own next i = boats - i

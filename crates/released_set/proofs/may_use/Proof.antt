@@ -1,5 +1,5 @@
 -- `released_set::may_use` meets its contract.
-use mathlib.Core.Path.{refl, sym}
+use borrow.Author.Tests.{not-true, not-false}
 use Rattle.method.specs.ReleasedBoats.{may-use}
 use borrow.Author.Needs.{needs}
 use Rattle.released_set.proofs.may_use.Statement.{statement}
@@ -7,7 +7,7 @@ use Rattle.released_set.proofs.may_use.Tie as tie
 
 returns : tie.Need-returns
 unfolding may-use
-returns c = simp (c .if1 .taken)
+returns c = rw (not-true (c .before .before .args .set .limited) (c .if1 .taken))
 
 array-read-result : tie.Need-array-read-result
 array-read-result c = search needs
@@ -20,7 +20,7 @@ shr-result c = search needs
 
 returns-2 : tie.Need-returns-2
 unfolding may-use
-returns-2 c = simp (c .before .if1 .left)
+returns-2 c = rw (not-false (c .before .before .before .args .set .limited) (c .before .if1 .left))
 
 pub may-use-spec : {M : Type 1} → statement M
 may-use-spec = tie.close (tie.spec returns array-read-result cast-result shr-result returns-2)

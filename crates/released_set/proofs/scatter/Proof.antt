@@ -4,6 +4,7 @@ use mathlib.Core.Logic.{⊎-elim}
 use Prim.Native.Nat.{_-_, _≤_}
 use native.Mathlib.Omega.{arith}
 use borrow.Author.Needs.{needs}
+use Rattle.method.specs.ReleasedBoats.{usable}
 use Rattle.released_set.proofs.Ranks.{counted-used, counted-other, counted-few, Scattering, scattering-start, scattering-long, scattering-more, scattering-end}
 use Rattle.released_set.proofs.scatter.Statement.{statement}
 use Rattle.released_set.proofs.scatter.Tie as tie
@@ -13,7 +14,7 @@ use Rattle.released_set.proofs.may_use.Reads as may-use-reads
 use Rattle.released_set.proofs.share_of.Reads as share-of-reads
 
 abbrev Inv-loop : tie.InvT-loop
-Inv-loop own set boats slots₀ next₀ i₀ slots next i = (i ≤ boats) × Scattering own set boats slots₀ next i slots
+Inv-loop own set boats slots₀ next₀ i₀ slots next i = (i ≤ boats) × Scattering own (usable set) boats slots₀ next i slots
 
 abbrev μ-loop : tie.MeasureT-loop
 μ-loop own set boats slots₀ next₀ i₀ slots next i = boats - i
