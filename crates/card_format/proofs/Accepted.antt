@@ -1,8 +1,9 @@
 -- A card is accepted exactly when it is well formed and true.
 use mathlib.Core.Path.{_≡_, refl, sym, ap, _∙_}
-use mathlib.Core.Bool.{Bool, true, false, _&&_, _||_, cond}
+use mathlib.Core.Bool.{Bool, true, false, not, _&&_, _||_, cond}
 use mathlib.Core.List.{List, [], _∷_}
 use Prim.Native.Nat.{ℕ, zero, suc, _+_, _*_, _-_, _/_, _%_, _≤_, _<_}
+use native.Mathlib.Nat.{zero-add, add-zero}
 use native.Mathlib.Omega.{arith}
 use borrow.Author.Tests.{eqb-true, eq-eqb, ne-eqb, leb-true, le-leb, ltb-true, lt-ltb}
 use lib.Dec.{eqb, leb, ltb, eqb·suc-zero}
@@ -19,16 +20,18 @@ use Rattle.method.specs.declared.Test.{Test}
 use Rattle.method.specs.declared.Test.the-variants.{Former, Sharper}
 use Rattle.method.specs.declared.Verdict.{Verdict}
 use Rattle.method.specs.declared.Verdict.the-variants.{Within, Beyond, Spent}
-use Rattle.method.specs.Problem.{Terms, call-steps, call-problem}
+use Rattle.method.specs.ReleasedBoats.{Usable, every, only, may-use, used-from, gather, Rests-on}
+use Rattle.method.specs.Problem.{Terms, call-steps, call-problem, weight}
 use Rattle.method.specs.Iterates.{support, distance, gap}
 use Rattle.method.specs.Answers.{verdict-number, stops}
 use Rattle.method.specs.Bounds.{answer-of, Answer-bounds}
-use Rattle.method.proofs.Accepted.{files-ok, call-schedule, well-formed, in-range, sized}
+use Rattle.method.proofs.ReleasedBoats.{every-used, length-gather, sum-gather, support-gather}
+use Rattle.method.proofs.Accepted.{files-ok, call-schedule, well-formed, in-range, sized, vertex-count}
 use Rattle.method.proofs.Bounds.{answer-bounds}
 use Rattle.method.proofs.Weights.{weight-positive}
 use Rattle.method.proofs.Shares.{share-most}
 use Rattle.card_format.specs.Format.{Fields, letters, pairs, trailer-bytes, fields, card-fields, lettered, card-test, card-body, pair-count, card-shares, card-answer-with}
-use Rattle.card_format.specs.Checks.{back-fits, pairs-in-order, counts-agree, steps-fit, form-refusal, shares-total, numbers-agree, truth-refusal, card-refusal-with}
+use Rattle.card_format.specs.Checks.{back-fits, pairs-in-order, counts-agree, steps-fit, form-refusal, rests-from, rests, shares-total, numbers-agree, truth-refusal, card-refusal-with}
 use Rattle.card_format.specs.Truth.{Card-true-with}
 use Rattle.files.proofs.Bytes.{drop-bytes}
 use Rattle.card_format.proofs.Pairs.{Parsed, parse, Readable, readable}
@@ -45,7 +48,8 @@ pub record Passed (m : Terms) (b s w : List ℕ) : Type 0 where
   pub ranges : steps-fit (call-steps m s) w ≡ true
   pub back : back-fits (boats b) (card-fields w .back) w ≡ true
   pub ordered : pairs-in-order (pair-count w) 0 (boats b) (card-body w) ≡ true
-  pub totals : shares-total (m .schedule) (pair-count w) (card-shares (boats b) w) (card-fields w .steps) ≡ true
+  pub resting : rests (m .released) (card-shares (boats b) w) ≡ true
+  pub totals : shares-total (m .schedule) (pair-count w) (gather (m .released) (card-shares (boats b) w)) (card-fields w .steps) ≡ true
   pub numbers : numbers-agree (call-steps m s) w (card-answer-with m b s w) ≡ true
   pub tolerance : eqb (card-fields w .tolerance) (sheet s .tolerance) ≡ true
 
@@ -57,14 +61,17 @@ both-zero (suc m) n e = absurd (omega (arith, rw (eqb·suc-zero m) at e))
 pub all-passed : (m : Terms) (b s w : List ℕ) → card-refusal-with m b s w ≡ 0 → Passed m b s w
 unfolding card-refusal-with form-refusal truth-refusal card-answer-with call-problem
 all-passed m b s w e =
-    let p = both-zero (form-refusal (boats b) (columns b) (call-steps m s) w) (truth-refusal (call-problem m b s) (card-shares (boats b) w) w) e in
+    let u = m .released in
+    let qs = card-shares (boats b) w in
+    let p = both-zero (form-refusal (boats b) (columns b) (call-steps m s) w) (cond (not (rests u qs)) 36 (truth-refusal (call-problem m b s) (gather u qs) w)) e in
     let p1 = passed (length-in-range 36 w) 30 _ (p .0) in
     let p2 = passed (lettered Former w || lettered Sharper w) 31 _ (p1 .1) in
     let p3 = passed (counts-agree (boats b) (columns b) w) 32 _ (p2 .1) in
     let p4 = passed (steps-fit (call-steps m s) w) 33 _ (p3 .1) in
     let p5 = passed (back-fits (boats b) (card-fields w .back) w) 34 _ (p4 .1) in
     let p6 = passed (pairs-in-order (pair-count w) 0 (boats b) (card-body w)) 35 0 (p5 .1) in
-    let p7 = passed (shares-total (m .schedule) (pair-count w) (card-shares (boats b) w) (card-fields w .steps)) 36 _ (p .1) in
+    let p0 = passed (rests u qs) 35 _ (p .1) in
+    let p7 = passed (shares-total (m .schedule) (pair-count w) (gather u qs) (card-fields w .steps)) 36 _ (p0 .1) in
     let p8 = passed (numbers-agree (call-steps m s) w (card-answer-with m b s w)) 37 _ (p7 .1) in
     record {
       sized = p1 .0;
@@ -73,6 +80,7 @@ all-passed m b s w e =
       ranges = p4 .0;
       back = p5 .0;
       ordered = p6 .0;
+      resting = p0 .0;
       totals = p7 .0;
       numbers = p8 .0;
       tolerance = passed-last _ 38 (p8 .1);
@@ -80,9 +88,39 @@ all-passed m b s w e =
 
 passed-all : {m : Terms} {b s w : List ℕ} → Passed m b s w → card-refusal-with m b s w ≡ 0
 unfolding card-refusal-with form-refusal truth-refusal card-answer-with call-problem
-passed-all p = simp (p .sized, p .letters, p .counts, p .ranges, p .back, p .ordered, p .totals, p .numbers, p .tolerance)
+passed-all p = simp (p .sized, p .letters, p .counts, p .ranges, p .back, p .ordered, p .resting, p .totals, p .numbers, p .tolerance)
 
 -- ---- What the tests say
+
+-- shares rest on boats that may be used exactly where the test says so
+rests-from-means : (u : Usable) (i : ℕ) (qs : List ℕ) → rests-from u i qs ≡ true → (j : ℕ) → may-use u (i + j) ≡ false → getD qs j 0 ≡ 0
+unfolding rests-from
+rests-from-means u i [] h j t = refl
+rests-from-means u i (q ∷ qs) h zero t =
+    let p = and-true (may-use u i || eqb q 0) _ h in
+    let e : may-use u i ≡ false = rw (add-zero i) at t in
+    eqb-true q 0 (rw e at (p .0))
+rests-from-means u i (q ∷ qs) h (suc j) t =
+    let e : i + suc j ≡ suc i + j = omega arith in
+    rests-from-means u (suc i) qs (and-true (may-use u i || eqb q 0) _ h .1) j (rw e at t)
+
+rests-from-said : (u : Usable) (i : ℕ) (qs : List ℕ) → ((j : ℕ) → may-use u (i + j) ≡ false → getD qs j 0 ≡ 0) → rests-from u i qs ≡ true
+unfolding rests-from
+rests-from-said u i [] f = refl
+rests-from-said u i (q ∷ qs) f =
+    rw (first (may-use u i) refl) (rests-from-said u (suc i) qs (λ j t. let e : i + suc j ≡ suc i + j = omega arith in f (suc j) (rw e t)))
+  where
+    first : (t : Bool) → may-use u i ≡ t → may-use u i || eqb q 0 ≡ true
+    first true e = rw e
+    first false e = let z : q ≡ 0 = f 0 (rw (add-zero i) e) in rw (e, z)
+
+pub rests-means : (u : Usable) (qs : List ℕ) → rests u qs ≡ true → Rests-on u qs
+rests-means every qs h i t = absurd (let e = every-used i in let z : _≡_ {A = ℕ} 0 1 = cc in omega arith)
+rests-means (only set) qs h i t = rests-from-means (only set) 0 qs h i (rw (zero-add i) t)
+
+pub rests-said : (u : Usable) (qs : List ℕ) → Rests-on u qs → rests u qs ≡ true
+rests-said every qs r = refl
+rests-said (only set) qs r = rests-from-said (only set) 0 qs (λ j t. r j (rw (zero-add j) at t))
 
 pub record Back-fits (n back : ℕ) (w : List ℕ) : Type 0 where
   pub some : 0 < back
@@ -176,6 +214,9 @@ module _ (m : Terms) (b s w : List ℕ) (all : all-bytes w ≡ true) (p : Passed
   unfolding numbers-agree
   numbers-are = and-true (eqb (card-fields w .distance) (card-answer-with m b s w .distance) && eqb (card-fields w .gap) (card-answer-with m b s w .gap)) _ (p .numbers)
 
+  resting : Rests-on (m .released) (card-shares (boats b) w)
+  resting = rests-means (m .released) (card-shares (boats b) w) (p .resting)
+
   passed-true : Card-true-with m b s w
   unfolding call-problem card-answer-with counts-agree steps-fit shares-total
   passed-true =
@@ -197,9 +238,10 @@ module _ (m : Terms) (b s w : List ℕ) (all : all-bytes w ≡ true) (p : Passed
         boats = n;
         columns = eqb-true _ _ (counts .1);
         share-count = ap length shares-are ∙ parsed .share-count ∙ sym n;
+        rests = resting;
         truth = record {
           total = eqb-true _ _ (totals .1);
-          few-boats = rw (shares-are, parsed .boats) (leb-true (pair-count w) (card-fields w .steps) (totals .0));
+          few-boats = rw (support-gather (m .released) (card-shares (boats b) w) resting, shares-are, parsed .boats) (leb-true (pair-count w) (card-fields w .steps) (totals .0));
           some-step = steps .0;
           most-steps = steps .1;
           distance = eqb-true _ _ (eg .0);
@@ -241,16 +283,28 @@ module _ (m : Terms) (b s w : List ℕ) (ok : call-refusal m b s ≡ 0) (c : Car
   count : length (c .shares) ≡ boats b
   count = c .share-count ∙ c .boats
 
-  share-fits : (j : ℕ) → getD (c .shares) j 0 < 65536
+  -- those of the boats that may be used
+  abbrev own-shares : List ℕ
+  own-shares = gather (m .released) (c .shares)
+
+  own-total : sum (c .shares) ≡ weight (m .schedule) (c .own .steps)
   unfolding call-problem
-  share-fits j = omega (arith, share-most (c .shares) j, c .truth .total, call-schedule m b s ok .most-total (c .own .steps) few-steps)
+  own-total = sym (sum-gather (m .released) (c .shares) (c .rests)) ∙ c .truth .total
+
+  own-few : support (c .shares) ≤ c .own .steps
+  own-few = rw (support-gather (m .released) (c .shares) (c .rests)) at (c .truth .few-boats)
+
+  own-count : length own-shares ≡ length (call-problem m b s .vertices)
+  own-count = length-gather (m .released) (c .shares) ∙ ap (λ n. length (used-from (m .released) 0 n)) count ∙ sym (vertex-count m b s ok)
+
+  share-fits : (j : ℕ) → getD (c .shares) j 0 < 65536
+  share-fits j = omega (arith, share-most (c .shares) j, own-total, call-schedule m b s ok .most-total (c .own .steps) few-steps)
 
   reading : Readable 0 (boats b) (support (c .shares)) (pairs 0 (c .shares)) (c .shares)
   reading = readable (c .shares) 0 (boats b) (omega (arith, count)) (omega (arith, files-accepted b s (files-ok m b s ok) .0 .most-boats)) share-fits
 
-  pub own-bounds : Answer-bounds (c .test) (call-problem m b s) (answer-of (c .test) (call-problem m b s) (c .shares) (c .own .steps)) (c .shares)
-  unfolding call-problem
-  own-bounds = answer-bounds (well-formed m b s ok) (in-range m b s ok) (sized m b s ok) (c .test) (c .shares) (c .own .steps) (count ∙ sym (files-accepted b s (files-ok m b s ok) .0 .row-count)) (c .truth .total) (c .truth .few-boats) (c .truth .some-step) (c .truth .most-steps) (c .truth .stops-here)
+  pub own-bounds : Answer-bounds (c .test) (call-problem m b s) (answer-of (c .test) (call-problem m b s) own-shares (c .own .steps)) own-shares
+  own-bounds = answer-bounds (well-formed m b s ok) (in-range m b s ok) (sized m b s ok) (c .test) own-shares (c .own .steps) own-count (c .truth .total) (c .truth .few-boats) (c .truth .some-step) (c .truth .most-steps) (c .truth .stops-here)
 
   own-fits : Fields-fit (c .own)
   unfolding call-problem
@@ -258,7 +312,7 @@ module _ (m : Terms) (b s w : List ℕ) (ok : call-refusal m b s ≡ 0) (c : Car
       let book = files-accepted b s (files-ok m b s ok) .0 in
       record {
         back = omega (arith, c .back, reading .sized, support-most (c .shares), count, book .most-boats);
-        verdict = omega (arith, c .truth .verdict, verdict-between (answer-of (c .test) (call-problem m b s) (c .shares) (c .own .steps) .verdict) .1);
+        verdict = omega (arith, c .truth .verdict, verdict-between (answer-of (c .test) (call-problem m b s) own-shares (c .own .steps) .verdict) .1);
         steps = omega (arith, few-steps);
         tolerance = omega (arith, c .truth .tolerance, files-accepted b s (files-ok m b s ok) .1 .most-tolerance);
         distance = omega (arith, c .truth .distance, own-bounds .distance-fits);
@@ -297,7 +351,7 @@ module _ (m : Terms) (b s w : List ℕ) (ok : call-refusal m b s ≡ 0) (c : Car
   pub test-is : card-test w ≡ c .test
   test-is = told .1
 
-  pub answer-is : card-answer-with m b s w ≡ answer-of (c .test) (call-problem m b s) (c .shares) (c .own .steps)
+  pub answer-is : card-answer-with m b s w ≡ answer-of (c .test) (call-problem m b s) own-shares (c .own .steps)
   unfolding card-answer-with
   answer-is = rw (test-is, fields-are, shares-back)
 
@@ -311,20 +365,21 @@ module _ (m : Terms) (b s w : List ℕ) (ok : call-refusal m b s ≡ 0) (c : Car
   true-passed : Passed m b s w
   unfolding call-problem length-in-range counts-agree steps-fit shares-total
   true-passed =
-      let v = verdict-between (answer-of (c .test) (call-problem m b s) (c .shares) (c .own .steps) .verdict) in
+      let v = verdict-between (answer-of (c .test) (call-problem m b s) own-shares (c .own .steps) .verdict) in
       record {
         sized = between-said (omega (arith, file-size)) (c .most-bytes);
         letters = told .0;
         counts = rw fields-are (simp (eq-eqb _ _ (c .boats), eq-eqb _ _ (c .columns)));
         ranges = rw fields-are (simp (between-said {least = 1} {most = 3} {n = c .own .verdict} (rw (c .truth .verdict) (v .0)) (rw (c .truth .verdict) (v .1)), between-said (c .truth .some-step) (c .truth .most-steps)));
         back = back-said (rw back-is (record {
-          some = omega (arith, reading .sized, support-some (c .shares) (rw (c .truth .total) (weight-positive (call-schedule m b s ok .fits) (c .truth .some-step))));
+          some = omega (arith, reading .sized, support-some (c .shares) (rw own-total (weight-positive (call-schedule m b s ok .fits) (c .truth .some-step))));
           fours = omega (arith, reading .sized);
           few = omega (arith, reading .sized, support-most (c .shares), count);
           inside = omega (arith, file-size);
         }));
         ordered = rw (count-is, body-is) (reading .ordered);
-        totals = rw (count-is, shares-back, fields-are) (simp (le-leb _ _ (c .truth .few-boats), eq-eqb _ _ (c .truth .total)));
+        resting = rw shares-back (rests-said (m .released) (c .shares) (c .rests));
+        totals = rw (count-is, shares-back, fields-are) (simp (le-leb _ _ own-few, eq-eqb _ _ (c .truth .total)));
         numbers = numbers-said;
         tolerance = rw fields-are (eq-eqb _ _ (c .truth .tolerance));
       }

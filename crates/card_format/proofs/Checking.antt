@@ -22,6 +22,7 @@ use Rattle.card_format.proofs.Editions.{same-check, same-card-answer}
 use Rattle.card_format.proofs.Front.{card-front-unread}
 use Rattle.card_format.proofs.Accepted.{both-zero}
 use Rattle.card_format.proofs.Counted.{counted-check, counted-checked}
+use Rattle.card_format.proofs.Isolated.{answer-isolated, check-isolated, answer-all, check-all}
 use Rattle.card_format.proofs.Vouches.{accepted-exactly, accepted-vouches}
 use Rattle.card_format.proofs.RunCards.{filed-before-true}
 
@@ -32,11 +33,11 @@ module _ (m : Terms) (b s w slots : List ℕ) (all : all-bytes w ≡ true) {n : 
   accepted z = both-zero (search-refusal-with m b s (length slots)) (card-refusal-with m b s w) (sym e ∙ z)
 
   share-count : n ≡ 0 → (length (card-shares (boats b) w) ≡ boats b) × (boats b ≤ length slots)
-  unfolding Accepted-vouches call-problem
+  unfolding Accepted-vouches
   share-count z =
       let h = accepted z in
       let k = search-accepted m b s (length slots) (h .0) in
-      (accepted-vouches m b s w (k .0) all (h .1) .answer .share-count ∙ files-accepted b s (files-ok m b s (k .0)) .0 .row-count, k .1)
+      (accepted-vouches m b s w (k .0) all (h .1) .in-book .slot-count ∙ files-accepted b s (files-ok m b s (k .0)) .0 .row-count, k .1)
 
   same-length : length now ≡ length slots
   same-length = ap length g ∙ length-after n (card-shares (boats b) w) slots (λ z. rw (share-count z .0) (share-count z .1))
@@ -71,4 +72,9 @@ module _ (m : Terms) (b s w slots : List ℕ) (all : all-bytes w ≡ true) {n : 
         editions = λ s′ d. (same-check m b s s′ d w (length now), same-card-answer m b s s′ d w);
         fronts = λ b′ s′ w′ d h k. card-front-unread m b s w b′ s′ w′ d h k;
         counted = λ c. (counted-check m b s c w (length now), counted-checked m b s c w (length now));
+        isolated = λ b′ h h′ d. record {
+          given = λ k. rw (check-isolated m b b′ s h h′ d w k, answer-isolated m b b′ s h h′ d w);
+          left = λ old. rw (check-isolated m b b′ s h h′ d w (length old), d .boats-same);
+        };
+        all-boats = λ d. record { given = λ k. rw (check-all m b s d w k, answer-all m b s d w); left = λ old. rw (check-all m b s d w (length old)) };
       }

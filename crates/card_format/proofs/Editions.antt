@@ -6,7 +6,7 @@ use Rattle.files.specs.Sheet.{sheet}
 use Rattle.files.specs.Editions.{Editions, Editions-alike}
 use Rattle.files.proofs.Editions.{editions-alike}
 use Rattle.method.specs.Problem.{Terms}
-use Rattle.method.proofs.Promise.{same-files, same-search, same-problem}
+use Rattle.method.proofs.Promise.{same-call, same-search, same-problem}
 use Rattle.card_format.specs.Format.{card-answer-with, run-card-with}
 use Rattle.card_format.specs.Checks.{card-refusal-with, write-refusal-with, check-refusal-with}
 
@@ -21,7 +21,7 @@ module _ (m : Terms) (b s s′ : List ℕ) (d : Editions s s′) where
 
   pub same-writing : (room : ℕ) → write-refusal-with m b s′ room ≡ write-refusal-with m b s room
   unfolding write-refusal-with
-  same-writing room = rw (same-files m b s s′ d, same-run-card)
+  same-writing room = rw (same-call m b s s′ d, same-run-card)
 
   pub same-card-refusal : (w : List ℕ) → card-refusal-with m b s′ w ≡ card-refusal-with m b s w
   unfolding card-refusal-with

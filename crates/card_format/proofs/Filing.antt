@@ -12,18 +12,21 @@ use Rattle.files.specs.Front.{Files-front-unread}
 use Rattle.files.specs.Limits.{file-limit}
 use Rattle.files.proofs.Front.{files-front-unread}
 use Rattle.method.specs.declared.Answer.{Answer}
-use Rattle.method.specs.Problem.{Terms, plain-terms, call-problem}
-use Rattle.method.specs.Answers.{slots-after, run-answer, run-iterate}
-use Rattle.method.proofs.Promise.{same-problem, problem-behind, run-right, length-after, slots-kept, counted-run}
+use Rattle.method.specs.Problem.{Terms, call-problem}
+use Rattle.method.specs.Promise.{without-table}
+use Rattle.method.specs.Answers.{slots-after, run-answer, run-slots}
+use Rattle.method.proofs.Promise.{same-problem, problem-behind, run-right, run-gathered, run-in-book, length-after, slots-kept, counted-run}
+use Rattle.method.proofs.BookNumbers.{problem-isolated, call-isolated, call-all, problem-all}
 use Rattle.card_format.specs.declared.Written.{Written}
 use Rattle.card_format.specs.declared.Written.the-variants.{Refused, Filed}
 use Rattle.card_format.specs.Format.{run-card-with}
 use Rattle.card_format.specs.Checks.{write-refusal-with}
 use Rattle.card_format.specs.Truth.{Written-accepted, Written-short}
-use Rattle.card_format.specs.Filing.{writing-number, written-size, filing, Reads-back-with, Filed-right-with, Filing-right-with}
+use Rattle.card_format.specs.Filing.{writing-number, written-size, filing, Reads-back-with, Filed-right-with, Same-filing, Filing-right-with}
 use Rattle.card_format.proofs.Editions.{same-run-card, same-writing}
 use Rattle.card_format.proofs.Front.{run-card-behind, writing-behind}
 use Rattle.card_format.proofs.Counted.{counted-card, counted-writing}
+use Rattle.card_format.proofs.Isolated.{card-isolated, card-all}
 use Rattle.card_format.proofs.RunCards.{written-accepted, written-short}
 
 filing-number : (n : ℕ) (a : Answer) (k : ℕ) → writing-number (filing n a k) ≡ n
@@ -54,7 +57,7 @@ write-accepted m b s room e = by (call-refusal m b s) refl (ltb room (length (ru
     by zero q false r e = (q, ltb-false room (length (run-card-with m b s)) r)
     by (suc n) q u r e = absurd (omega (arith, rw (eqb·suc-zero n) at e))
 
-card-reads-back : (m : Terms) (b s : List ℕ) → call-refusal m b s ≡ 0 → (front : List ℕ) → length front + length (run-card-with m b s) ≤ file-limit → Reads-back-with m b s (front ++ run-card-with m b s) (run-answer (call-problem m b s)) (run-iterate (call-problem m b s) .shares)
+card-reads-back : (m : Terms) (b s : List ℕ) → call-refusal m b s ≡ 0 → (front : List ℕ) → length front + length (run-card-with m b s) ≤ file-limit → Reads-back-with m b s (front ++ run-card-with m b s) (run-answer (call-problem m b s)) (run-slots m b s)
 unfolding Written-accepted
 card-reads-back m b s ok front h = let w = written-accepted m b s front ok h in record { accepted = w .0; answer = w .1; shares = w .2 }
 
@@ -62,7 +65,14 @@ filed-right : (m : Terms) (b s : List ℕ) → call-refusal m b s ≡ 0 → File
 unfolding Written-short
 filed-right m b s ok =
     let back = card-reads-back m b s ok [] (omega (arith, written-short m b s ok)) in
-    record { card-is = refl; reads-back = back; behind-front = card-reads-back m b s ok; right = rw (back .shares) (run-right m b s ok) }
+    record { card-is = refl; reads-back = back; behind-front = card-reads-back m b s ok; right = rw (back .shares, run-gathered m b s ok) (run-right m b s ok); in-book = rw (back .shares) (run-in-book m b s ok) }
+
+-- ---- Other books and sets that change nothing
+
+-- what makes two calls the same
+same-filing-by : {m m′ : Terms} {b b′ s : List ℕ} → call-refusal m′ b′ s ≡ call-refusal m b s → call-problem m′ b′ s ≡ call-problem m b s → run-card-with m′ b′ s ≡ run-card-with m b s → Same-filing m m′ b b′ s
+unfolding write-refusal-with
+same-filing-by e p q = record { given = λ room. rw (e, p, q); left = λ output. rw (e, q) }
 
 module _ (m : Terms) (b s out : List ℕ) {n : ℕ} {r : Written} {now : List ℕ} (e : n ≡ write-refusal-with m b s (length out)) (f : r ≡ filing n (run-answer (call-problem m b s)) (length (run-card-with m b s)))
     (g : now ≡ slots-after n (run-card-with m b s) out) where
@@ -86,5 +96,7 @@ module _ (m : Terms) (b s out : List ℕ) {n : ℕ} {r : Written} {now : List �
         filed = λ a j q. let h = filing-filed n (run-answer (call-problem m b s)) a (length (run-card-with m b s)) j (sym f ∙ q) in rw (← h .1, written-is (h .0)) (filed-right m b s (accepted (h .0) .0));
         editions = λ s′ d. (same-writing m b s s′ d (length now), (same-problem m b s s′ d, same-run-card m b s s′ d));
         fronts = λ b′ s′ d h. let k = files-front-unread b s b′ s′ d h in (writing-behind m k (length now), (problem-behind m k, run-card-behind m k));
-        counted = λ c. (counted-writing m b s c (length now), λ z. let ok = write-accepted plain-terms b s (length now) z .0 in (counted-run m b s c ok .0, counted-card m b s c ok));
+        counted = λ c. (counted-writing m b s c (length now), λ z. let ok = write-accepted (without-table m) b s (length now) z .0 in (counted-run m b s c ok .0, counted-card m b s c ok));
+        isolated = λ b′ h h′ d. same-filing-by (call-isolated m b b′ s h h′ d) (problem-isolated m b b′ s h h′ d) (card-isolated m b b′ s h h′ d);
+        all-boats = λ d. same-filing-by (sym (call-all m b s d)) (sym (problem-all m b s d)) (sym (card-all m b s d));
       }

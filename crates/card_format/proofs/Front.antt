@@ -12,8 +12,9 @@ use Rattle.files.specs.Front.{Front-fits, same-file, other-front, Files-alike, 
 use Rattle.files.specs.Limits.{file-limit}
 use Rattle.files.proofs.Front.{files-front-unread}
 use Rattle.method.specs.declared.Test.{Test}
+use Rattle.method.specs.ReleasedBoats.{gather}
 use Rattle.method.specs.Problem.{Problem, Terms, call-steps, call-problem}
-use Rattle.method.proofs.Promise.{search-behind, problem-behind}
+use Rattle.method.proofs.Promise.{call-behind, search-behind, problem-behind}
 use Rattle.card_format.specs.Format.{card-fields, lettered, card-test, card-body, pair-count, card-shares, card-answer-with, run-card-with}
 use Rattle.card_format.specs.Checks.{back-fits, counts-agree, steps-fit, form-refusal, numbers-agree, truth-refusal, card-refusal-with, write-refusal-with, check-refusal-with}
 use Rattle.card_format.specs.Front.{Card-whole, Same-card, Cards-alike-with, Card-front-unread}
@@ -90,7 +91,7 @@ module _ (f w : List ℕ) (h : Card-whole w) where
 
   refusal-front : Front-fits f w → (m : Terms) (b s : List ℕ) → card-refusal-with m b s (f ++ w) ≡ card-refusal-with m b s w
   unfolding card-refusal-with
-  refusal-front k m b s = rw (form-front k (boats b) (columns b) (call-steps m s), shares-front (boats b), truth-front (call-problem m b s) (card-shares (boats b) w))
+  refusal-front k m b s = rw (form-front k (boats b) (columns b) (call-steps m s), shares-front (boats b), truth-front (call-problem m b s) (gather (m .released) (card-shares (boats b) w)))
 
 -- ---- A card, a book and a sheet that differ in front text alone
 
@@ -122,7 +123,7 @@ module _ (m : Terms) {b s b′ s′ : List ℕ} (d : Files-alike b s b′ s′) 
 
   pub writing-behind : (room : ℕ) → write-refusal-with m b′ s′ room ≡ write-refusal-with m b s room
   unfolding write-refusal-with
-  writing-behind room = rw (d .refusal, run-card-behind)
+  writing-behind room = rw (call-behind m d, run-card-behind)
 
   cards-alike : {w w′ : List ℕ} → Same-fields w w′ → Cards-alike-with m b s w b′ s′ w′
   unfolding check-refusal-with card-answer-with

@@ -8,5 +8,6 @@ pub mod Vouches
 pub mod Editions
 pub mod Front
 pub mod Counted
+pub mod Isolated
 pub mod Filing
 pub mod Checking

@@ -1,6 +1,6 @@
 -- What refuses a card, 31 to 39, and the calls of the card writer and the card check.
 use mathlib.Core.Bool.{Bool, true, _&&_, _||_, not, cond}
-use mathlib.Core.List.{List}
+use mathlib.Core.List.{List, [], _∷_}
 use Prim.Native.Nat.{ℕ, zero, suc, _*_, _%_}
 use lib.Dec.{eqb, ltb, leb}
 use lib.ListN.{length, drop}
@@ -9,6 +9,7 @@ use Rattle.files.specs.Bytes.{number, between, length-in-range, reaches}
 use Rattle.files.specs.Book.{boats, columns}
 use Rattle.method.specs.declared.Test.the-variants.{Former, Sharper}
 use Rattle.method.specs.declared.Answer.{Answer}
+use Rattle.method.specs.ReleasedBoats.{Usable, every, only, may-use, gather}
 use Rattle.method.specs.Problem.{Schedule, Problem, Terms, plain-terms, call-steps, call-problem, weight}
 use Rattle.method.specs.Calls.{call-refusal}
 use Rattle.method.specs.Answers.{verdict-number, stops, search-refusal-with}
@@ -43,6 +44,15 @@ form-refusal n c steps w =
     (cond (not (back-fits n (card-fields w .back) w)) 35
     (cond (not (pairs-in-order (pair-count w) 0 n (card-body w))) 36 0)))))
 
+-- whether shares from this boat on rest on boats that may be used: every other boat's share is 0
+unfoldable pub rests-from : Usable → (boat : ℕ) → (shares : List ℕ) → Bool
+rests-from u i [] = true
+rests-from u i (q ∷ qs) = (may-use u i || eqb q 0) && rests-from u (suc i) qs
+
+abbrev pub rests : Usable → (shares : List ℕ) → Bool
+rests every qs = true
+rests (only set) qs = rests-from (only set) 0 qs
+
 -- whether no more boats than steps hold shares, and they total W: t (t + 1) / 2 for the fixed shares, the first t entries of a table
 unfoldable pub shares-total : Schedule → (count : ℕ) → (shares : List ℕ) → (t : ℕ) → Bool
 shares-total a k qs t = leb k t && eqb (sum qs) (weight a t)
@@ -62,11 +72,13 @@ truth-refusal p qs w =
     (cond (not (numbers-agree (p .steps) w (answer-of (card-test w) p qs (f .steps)))) 38
     (cond (eqb (f .tolerance) (p .tolerance)) 0 39))
 
--- the first refusal, 31 to 39, that applies to a card in a call whose terms and files are accepted: its form's, else its truth's; 0 if none does
+-- the first refusal, 31 to 39, that applies to a card in a call whose terms and files are accepted; 0 if none does. Its form goes by the whole
+-- book: 31 to 36; 36 also where it rests on a boat that may not be used; then its truth of the boats that may be, 37 to 39
 unfoldable pub card-refusal-with : Terms → (book sheet card : List ℕ) → ℕ
 card-refusal-with m b s w =
     let form = form-refusal (boats b) (columns b) (call-steps m s) w in
-    cond (eqb form 0) (truth-refusal (call-problem m b s) (card-shares (boats b) w) w) form
+    let qs = card-shares (boats b) w in
+    cond (eqb form 0) (cond (not (rests (m .released) qs)) 36 (truth-refusal (call-problem m b s) (gather (m .released) qs) w)) form
 
 -- of the writer: what refuses the call's terms and its files, then 22, a buffer shorter than the card
 unfoldable pub write-refusal-with : Terms → (book sheet : List ℕ) → (room : ℕ) → ℕ

@@ -13,8 +13,9 @@ use Rattle.files.specs.Sheet.{sheet}
 use Rattle.method.specs.declared.Test.{Test}
 use Rattle.method.specs.declared.Test.the-variants.{Former, Sharper}
 use Rattle.method.specs.declared.Answer.{Answer}
+use Rattle.method.specs.ReleasedBoats.{gather}
 use Rattle.method.specs.Problem.{Terms, plain-terms, call-problem}
-use Rattle.method.specs.Answers.{verdict-number, run-iterate, run-answer}
+use Rattle.method.specs.Answers.{verdict-number, run-answer, run-slots}
 use Rattle.method.specs.Bounds.{answer-of}
 
 -- the bytes of the longest card that is written: 256 pairs and a trailer
@@ -76,9 +77,9 @@ answer-fields a back tolerance n c =
 unfoldable pub card-bytes : Test → Answer → (shares : List ℕ) → (tolerance boats columns : ℕ) → List ℕ
 card-bytes test a qs tolerance n c = pairs 0 qs ++ trailer-bytes test (answer-fields a (length (pairs 0 qs)) tolerance n c)
 
--- the card of the run of a call, of the edition WCD2
+-- the card of the run of a call, of the edition WCD2; boats are numbered as in the book
 unfoldable pub run-card-with : Terms → (book sheet : List ℕ) → List ℕ
-run-card-with m b s = card-bytes Sharper (run-answer (call-problem m b s)) (run-iterate (call-problem m b s) .shares) (sheet s .tolerance) (boats b) (columns b)
+run-card-with m b s = card-bytes Sharper (run-answer (call-problem m b s)) (run-slots m b s) (sheet s .tolerance) (boats b) (columns b)
 
 -- of the run of the files alone
 abbrev pub run-card : (book sheet : List ℕ) → List ℕ
@@ -127,9 +128,9 @@ shares-into (suc k) bs qs = shares-into k (drop 4 bs) (set qs (number 0 2 bs) (n
 unfoldable pub card-shares : (boats : ℕ) → List ℕ → List ℕ
 card-shares n w = shares-into (pair-count w) (card-body w) (replicate n 0)
 
--- the answer of a card's shares and steps in a call, judged by the test of its letters
+-- the answer of a card's shares and steps in a call, those of the boats that may be used, judged by the test of its letters
 unfoldable pub card-answer-with : Terms → (book sheet card : List ℕ) → Answer
-card-answer-with m b s w = answer-of (card-test w) (call-problem m b s) (card-shares (boats b) w) (card-fields w .steps)
+card-answer-with m b s w = answer-of (card-test w) (call-problem m b s) (gather (m .released) (card-shares (boats b) w)) (card-fields w .steps)
 
 -- with the files alone
 abbrev pub card-answer : (book sheet card : List ℕ) → Answer

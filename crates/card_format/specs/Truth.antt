@@ -14,11 +14,13 @@ use Rattle.files.specs.Limits.{file-limit, total-limit, sum-limit}
 use Rattle.method.specs.declared.Test.{Test}
 use Rattle.method.specs.declared.Test.the-variants.{Former}
 use Rattle.method.specs.declared.Answer.{Answer}
-use Rattle.method.specs.Problem.{Problem, Terms, plain-terms, call-steps, call-problem, problem, weight}
+use Rattle.method.specs.ReleasedBoats.{gather, Rests-on}
+use Rattle.method.specs.Problem.{Problem, Terms, plain-terms, call-steps, fleet-problem, call-problem, problem, weight}
 use Rattle.method.specs.Calls.{call-refusal}
 use Rattle.method.specs.Iterates.{gaps, maximum, mixture-distance, support}
-use Rattle.method.specs.Answers.{verdict-number, stops, run-answer, run-iterate}
+use Rattle.method.specs.Answers.{verdict-number, stops, run-answer, run-slots}
 use Rattle.method.specs.Bounds.{answer-of, Answer-bounds}
+use Rattle.method.specs.BookNumbers.{Released-answer}
 use Rattle.card_format.specs.Format.{card-limit, Fields, pairs, trailer-bytes, card-bytes, card-fields, card-test, card-shares, card-answer-with, run-card-with}
 use Rattle.card_format.specs.Checks.{card-refusal-with}
 
@@ -52,8 +54,10 @@ pub record Card-true-with (m : Terms) (b s w : List ℕ) : Type 0 where
   pub boats : own .boats ≡ boats b
   pub columns : own .columns ≡ columns b
   pub share-count : length shares ≡ own .boats
-  -- ---- What it says of the shares is true
-  pub truth : Fields-true test (call-problem m b s) shares own
+  -- on boats that may be used
+  pub rests : Rests-on (m .released) shares
+  -- ---- What it says of their shares is true
+  pub truth : Fields-true test (call-problem m b s) (gather (m .released) shares) own
 
 -- the card w was filed before WCD2: behind front text, the WCD1 card of the answer and the shares after some steps, where the former test
 -- ends a run. The shares are any that so many steps can give, whichever boat of least score each step took
@@ -66,8 +70,9 @@ pub record Filed-before-with (m : Terms) (b s w : List ℕ) : Type 0 where
   pub share-count : length shares ≡ boats b
   pub total : sum shares ≡ weight (m .schedule) steps
   pub few-boats : support shares ≤ steps
-  pub stops-here : stops (call-steps m s) steps (answer-of Former (call-problem m b s) shares steps .verdict) ≡ true
-  pub layout : w ≡ front ++ card-bytes Former (answer-of Former (call-problem m b s) shares steps) shares (sheet s .tolerance) (boats b) (columns b)
+  pub rests : Rests-on (m .released) shares
+  pub stops-here : stops (call-steps m s) steps (answer-of Former (call-problem m b s) (gather (m .released) shares) steps .verdict) ≡ true
+  pub layout : w ≡ front ++ card-bytes Former (answer-of Former (call-problem m b s) (gather (m .released) shares) steps) shares (sheet s .tolerance) (boats b) (columns b)
   pub most-bytes : length w ≤ file-limit
 
 -- ---- What an accepted card vouches for: a is the answer given back for it, `shares` its shares. The bound by steps is a run's alone. All of
@@ -85,7 +90,9 @@ pub record Card-vouches-with (m : Terms) (b s w : List ℕ) (a : Answer) (shares
   pub own-verdict : verdict-number (a .verdict) ≡ card-fields w .verdict
   pub own-tolerance : sheet s .tolerance ≡ card-fields w .tolerance
   -- which with the shares keeps what is promised of an answer, judged by the test of the card's letters
-  pub answer : Answer-bounds (card-test w) (call-problem m b s) a shares
+  pub answer : Answer-bounds (card-test w) (call-problem m b s) a (gather (m .released) shares)
+  -- by the numbers of the book: other boats hold no shares, and the bounds are of any mixture of its boats that rests on released ones
+  pub in-book : Released-answer (m .released) (fleet-problem m b s) a shares
 
 -- ---- With the files alone
 
@@ -107,14 +114,14 @@ Accepted-exactly =
     (card-refusal-with m b s w ≡ 0 → Card-true-with m b s w)
     × ((c : Card-true-with m b s w) →
     (card-refusal-with m b s w ≡ 0) × (card-fields w ≡ c .own) × (card-shares (boats b) w ≡ c .shares) × (card-test w ≡ c .test)
-    × (card-answer-with m b s w ≡ answer-of (c .test) (call-problem m b s) (c .shares) (c .own .steps)))
+    × (card-answer-with m b s w ≡ answer-of (c .test) (call-problem m b s) (gather (m .released) (c .shares)) (c .own .steps)))
 
 -- a card that was written is accepted, also behind any front text that keeps it within 40,000 bytes, and reads back as the run's answer and shares
 unfoldable pub Written-accepted : Type 0
 Written-accepted =
     (m : Terms) (b s front : List ℕ) → call-refusal m b s ≡ 0 → length front + length (run-card-with m b s) ≤ file-limit →
     (card-refusal-with m b s (front ++ run-card-with m b s) ≡ 0)
-    × (card-answer-with m b s (front ++ run-card-with m b s) ≡ run-answer (call-problem m b s)) × (card-shares (boats b) (front ++ run-card-with m b s) ≡ run-iterate (call-problem m b s) .shares)
+    × (card-answer-with m b s (front ++ run-card-with m b s) ≡ run-answer (call-problem m b s)) × (card-shares (boats b) (front ++ run-card-with m b s) ≡ run-slots m b s)
 
 -- a card that was filed before WCD2 is true, and so is still accepted
 unfoldable pub Filed-before-true : Type 0
