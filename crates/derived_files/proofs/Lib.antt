@@ -3,3 +3,4 @@ pub mod Columns
 pub mod Repeating
 pub mod Rows
 pub mod Files
+pub mod Bytes

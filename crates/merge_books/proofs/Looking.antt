@@ -12,7 +12,8 @@ use Rattle.files.specs.Bytes.{values, same}
 use Rattle.files.specs.Book.{rows-from}
 use Rattle.files.proofs.Rows.{values-take-some}
 use Rattle.merged_book.specs.Merging.{same-row, is-among}
-use Rattle.merge_books.proofs.Bytes.{Bytes, bytes-drop, bytes-take, same-bytes}
+use Rattle.derived_files.proofs.Bytes.{Bytes, bytes-drop, bytes-take}
+use Rattle.merge_books.proofs.Bytes.{same-bytes}
 
 -- after i rows that are other rows, those from `at` on decide
 pub record Looking (rows : List ℕ) (count c : ℕ) (v : List ℤ) (i at : ℕ) : Type 0 where

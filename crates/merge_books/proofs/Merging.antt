@@ -25,7 +25,8 @@ use Rattle.merged_book.specs.Merging.{is-among, with-row, with-rows, merged-row
 use Rattle.merged_book.proofs.Rows.{among-at, known-row, new-row, row-length, row-length-most, rows-taken, rows-before}
 use Rattle.merged_book.proofs.Book.{all-rows, merged-wide, merged-row}
 use Rattle.merge_books.specs.Putting.{new-bytes}
-use Rattle.merge_books.proofs.Bytes.{Bytes, bytes-drop, values-same, rows-same, rows-one}
+use Rattle.derived_files.proofs.Bytes.{Bytes, bytes-drop, values-same, rows-same}
+use Rattle.merge_books.proofs.Bytes.{rows-one}
 use Rattle.merge_books.proofs.Putting.{no-bytes, all-bytes}
 
 -- what is put over bytes that end no later
