@@ -25,13 +25,7 @@ fn limited_refusal(book: &[u8], sheet: &[u8], released: Released) -> u32
 
 // The first number that refuses the terms or the files, 0 where none does: 49 to 51 of a lent table, then 1 to 17 and 46, with 52 of a
 // released set after 6.
-pub fn call_refusal(
-    book: &[u8],
-    sheet: &[u8],
-    released: Released,
-    lent: bool,
-    table: &[u16],
-) -> u32
+pub fn call_refusal(book: &[u8], sheet: &[u8], released: Released, lent: bool, table: &[u16]) -> u32
     ensures { λ r. ⌜ r ≡ call-refusal (call-terms released lent (now (table .entry))) (now (book .entry)) (now (sheet .entry)) ⌝ }
 {
     let refusal = schedules::refusal(lent, table);

@@ -22,7 +22,6 @@ use Rattle.sheet_output.specs.Back.{Sheet-fit, Sheet-reads-back}
 use Rattle.sheet_output.proofs.Values.{length-values-bytes}
 use Rattle.sheet_output.proofs.Back.{sheet-trailer-length, sheet-reads-back}
 use Rattle.buffers.proofs.Writing.{front-taken}
-use Rattle.method.specs.Problem.{call-problem}
 use Rattle.method.specs.Plain.{plain-problem}
 use Rattle.repeated_columns.specs.Repeating.{repeated, plain-of}
 use Rattle.repeated_columns.proofs.Repeating.{length-repeated}
@@ -174,7 +173,7 @@ own-fit : (c : ℕ) (s : List ℕ) → Sheet-fits c s → Factors-fit c (sheet s
 own-fit c s g = record { each-column = g .factor-count; some-columns = omega arith; most-columns = omega arith }
 
 pub files-twin : Files-twin
-unfolding Files-twin Files-derived Book-derived Sheet-derived derived-rows derived plain-problem plain-of call-problem
+unfolding Files-twin Files-derived Book-derived Sheet-derived derived-rows derived plain-problem plain-of
 files-twin b s ok =
     let fs = sheet s .factors in
     let known = files-accepted b s ok .1 in

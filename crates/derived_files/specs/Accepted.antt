@@ -8,7 +8,7 @@ use Rattle.frank_wolfe.specs.Vectors.{sum}
 use Rattle.files.specs.Book.{boats, columns, book-refusal}
 use Rattle.files.specs.Sheet.{sheet, files-refusal}
 use Rattle.files.specs.Fits.{Sheet-fits}
-use Rattle.method.specs.Problem.{Terms, call-problem}
+use Rattle.method.specs.Problem.{Terms, fleet-problem}
 use Rattle.method.specs.Plain.{plain-problem}
 use Rattle.repeated_columns.specs.Repeating.{plain-of}
 use Rattle.book_output.specs.Back.{Book-of}
@@ -45,7 +45,7 @@ pub record Twin-files (b s : List ℕ) : Type 0 where
   pub sheet-fits : length (twin-sheet s) ≤ 144
   pub accepted : files-refusal (twin-book b s) (twin-sheet s) ≡ 0
   pub same-boats : boats (twin-book b s) ≡ boats b
-  pub plain-twin : (m : Terms) → plain-problem (m .schedule) (twin-book b s) (twin-sheet s) ≡ plain-of (call-problem m b s)
+  pub plain-twin : (m : Terms) → plain-problem (m .schedule) (twin-book b s) (twin-sheet s) ≡ plain-of (fleet-problem m b s)
 
 unfoldable pub Files-twin : Type 0
 Files-twin = (b s : List ℕ) → files-refusal b s ≡ 0 → Twin-files b s

@@ -17,6 +17,7 @@ use Rattle.method.specs.Problem.{Problem, Terms, weight, call-problem}
 use Rattle.method.specs.Plain.{plain-problem}
 use Rattle.method.specs.Answers.{run-answer, run-iterate}
 use Rattle.method.specs.Bounds.{answer-of}
+use Rattle.method.specs.Promise.{without-set}
 use Rattle.repeated_columns.specs.Repeating.{plain-of, Plain-twin, Same-runs}
 use Rattle.repeated_columns.proofs.Repeating.{plain-twin}
 use Rattle.buffers.specs.Placed.{placed}
@@ -38,19 +39,19 @@ module _ (b s : List ℕ) (ok : files-refusal b s ≡ 0) where
   -- ---- Every factor 1
   module _ {t : Bool} (e : t ≡ all-ones (sheet s .factors)) where
     module _ (m : Terms) (h : t ≡ true) where
-      plain-is : plain-problem (m .schedule) b s ≡ call-problem m b s
+      plain-is : plain-problem (m .schedule) b s ≡ call-problem (without-set m) b s
       unfolding call-problem plain-problem
       plain-is =
           let n : sheet s .factors ≡ ones (columns b) = all-ones-are (sheet s .factors) (sym e ∙ h) ∙ ap ones (g .factor-count) in
           rw n
 
-      pub plain-run : {a : Answer} → a ≡ run-answer (plain-problem (m .schedule) b s) → a ≡ run-answer (call-problem m b s)
+      pub plain-run : {a : Answer} → a ≡ run-answer (plain-problem (m .schedule) b s) → a ≡ run-answer (call-problem (without-set m) b s)
       plain-run q = q ∙ ap run-answer plain-is
 
-      pub plain-shares : (rest : List ℕ) {now : List ℕ} → now ≡ run-iterate (plain-problem (m .schedule) b s) .shares ++ rest → now ≡ run-iterate (call-problem m b s) .shares ++ rest
+      pub plain-shares : (rest : List ℕ) {now : List ℕ} → now ≡ run-iterate (plain-problem (m .schedule) b s) .shares ++ rest → now ≡ run-iterate (call-problem (without-set m) b s) .shares ++ rest
       plain-shares rest q = q ∙ ap (λ (p : Problem). run-iterate p .shares ++ rest) plain-is
 
-      pub plain-answer : (test : Test) (qs : List ℕ) (k : ℕ) {a : Answer} → a ≡ answer-of test (plain-problem (m .schedule) b s) qs k → a ≡ answer-of test (call-problem m b s) qs k
+      pub plain-answer : (test : Test) (qs : List ℕ) (k : ℕ) {a : Answer} → a ≡ answer-of test (plain-problem (m .schedule) b s) qs k → a ≡ answer-of test (call-problem (without-set m) b s) qs k
       plain-answer test qs k q = q ∙ ap (λ (p : Problem). answer-of test p qs k) plain-is
 
     pub lettered : t ≡ false → sheet-lettered WSH2 s ≡ true
@@ -61,9 +62,9 @@ module _ (b s : List ℕ) (ok : files-refusal b s ≡ 0) where
   unfolding Files-twin
   twin = files-twin b s ok
 
-  same : (m : Terms) → Same-runs (call-problem m b s)
+  same : (m : Terms) → Same-runs (call-problem (without-set m) b s)
   unfolding call-problem Plain-twin
-  same m = plain-twin (call-problem m b s) (g .factor-count)
+  same m = plain-twin (call-problem (without-set m) b s) (g .factor-count)
 
   module _ {fs : List ℕ} (ef : fs ≡ sheet s .factors) where
     pub book-derivable : (book-refusal b ≡ 0) × ((length fs ≡ columns b) × (sum fs ≤ 64))
@@ -99,18 +100,19 @@ module _ (b s : List ℕ) (ok : files-refusal b s ≡ 0) where
         pub derived-boats : boats (take n own) ≡ boats b
         derived-boats = rw book-is (twin .same-boats)
 
-        derived-is : (m : Terms) → plain-problem (m .schedule) (take n own) (take k own′) ≡ plain-of (call-problem m b s)
+        derived-is : (m : Terms) → plain-problem (m .schedule) (take n own) (take k own′) ≡ plain-of (call-problem (without-set m) b s)
+        unfolding call-problem
         derived-is m = rw (book-is, sheet-is) (twin .plain-twin m)
 
-        pub derived-run : (m : Terms) {a : Answer} → a ≡ run-answer (plain-problem (m .schedule) (take n own) (take k own′)) → a ≡ run-answer (call-problem m b s)
+        pub derived-run : (m : Terms) {a : Answer} → a ≡ run-answer (plain-problem (m .schedule) (take n own) (take k own′)) → a ≡ run-answer (call-problem (without-set m) b s)
         derived-run m q = q ∙ ap run-answer (derived-is m) ∙ same m .same-answer
 
         pub derived-shares : (m : Terms) (slots : List ℕ) {now : List ℕ} → now ≡ run-iterate (plain-problem (m .schedule) (take n own) (take k own′)) .shares ++ drop (boats (take n own)) slots →
-            now ≡ run-iterate (call-problem m b s) .shares ++ drop (boats b) slots
+            now ≡ run-iterate (call-problem (without-set m) b s) .shares ++ drop (boats b) slots
         derived-shares m slots q = q ∙ rw (derived-is m, same m .same-shares, derived-boats)
 
         pub derived-answer : (m : Terms) (test : Test) (shares : List ℕ) (t : ℕ) {a : Answer} →
-            a ≡ answer-of test (plain-problem (m .schedule) (take n own) (take k own′)) (take (boats (take n own)) shares) t → a ≡ answer-of test (call-problem m b s) (take (boats b) shares) t
+            a ≡ answer-of test (plain-problem (m .schedule) (take n own) (take k own′)) (take (boats (take n own)) shares) t → a ≡ answer-of test (call-problem (without-set m) b s) (take (boats b) shares) t
         derived-answer m test shares t q = q ∙ rw (derived-is m, derived-boats, same m .same-of)
 
         pub derived-total : (m : Terms) (shares : List ℕ) (t : ℕ) → sum (take (boats b) shares) ≡ weight (m .schedule) t → sum (take (boats (take n own)) shares) ≡ weight (m .schedule) t
