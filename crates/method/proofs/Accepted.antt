@@ -95,6 +95,9 @@ module _ (m : Terms) (b s : List ℕ) (ok : call-refusal m b s ≡ 0) where
   pub schedule-ok : schedule-refusal (m .schedule) ≡ 0
   schedule-ok = passed .0
 
+  pub set-ok : set-refusal (boats b) (m .released) ≡ 0
+  set-ok = released-accepted (m .released) b s (passed .1) .1
+
   pub call-schedule : Schedule-sized (m .schedule)
   call-schedule = schedule-sized (m .schedule) schedule-ok
 
@@ -103,7 +106,7 @@ module _ (m : Terms) (b s : List ℕ) (ok : call-refusal m b s ≡ 0) where
 
   -- one of the book's boats may be used
   pub some-used : 1 ≤ length (used-from (m .released) 0 (boats b))
-  some-used = some-released (boats b) (m .released) (files-accepted b s files-ok .0 .some-boats) (released-accepted (m .released) b s (passed .1) .1)
+  some-used = some-released (boats b) (m .released) (files-accepted b s files-ok .0 .some-boats) set-ok
 
   some-vertex : 1 ≤ length (used-from (m .released) 0 (length (fleet-problem m b s .vertices)))
   some-vertex = rw (files-accepted b s files-ok .0 .row-count) some-used
