@@ -1,10 +1,10 @@
 -- The outcomes of `check_card_with`: refused by the terms or the files, a short share list, the card's form or its numbers, or answered.
 use mathlib.Core.Path.{_≡_, refl, sym, ap, _∙_}
-use mathlib.Core.Bool.{Bool, true, false, _&&_, cond}
+use mathlib.Core.Bool.{Bool, true, false, not, _&&_, cond}
 use mathlib.Core.List.{List, _∷_, _++_}
 use Prim.Native.Nat.{ℕ, zero, suc, _+_, _*_, _-_, _≤_, _<_}
 use native.Mathlib.Omega.{arith}
-use borrow.Author.Tests.{ltb-true, lt-ltb, le-ltb}
+use borrow.Author.Tests.{ltb-true, lt-ltb, le-ltb, not-true, not-false}
 use lib.Dec.{eqb, ltb, leb, eqb·suc-zero}
 use lib.ListN.{length, take, drop, set, replicate}
 use lib.Seq.{take-set-lt, length-take-le}
@@ -15,8 +15,10 @@ use Rattle.files.proofs.Refusal.{and-true}
 use Rattle.method.specs.declared.Answer.{Answer}
 use Rattle.method.specs.declared.Searched.{Searched}
 use Rattle.method.specs.declared.Searched.the-variants.{Refused, Answered}
+use Rattle.method.specs.declared.Released.{Released}
+use Rattle.method.specs.ReleasedBoats.{Usable, usable, gather}
 use Rattle.method.specs.Problem.{Terms, plain-terms, call-steps, call-problem}
-use Rattle.method.specs.Calls.{terms, call-refusal}
+use Rattle.method.specs.Calls.{call-terms, call-refusal}
 use Rattle.method.proofs.Accepted.{files-ok}
 use Rattle.method.specs.Answers.{outcome, search-refusal-with, slots-after}
 use Rattle.method.specs.Bounds.{answer-of}
@@ -25,7 +27,7 @@ use Rattle.iteration.specs.declared.Layout.{Layout}
 use Rattle.iteration.specs.States.{file-layout}
 use Rattle.iteration.proofs.States.{book-fits}
 use Rattle.card_format.specs.Format.{card-fields, card-test, pair-count, shares-into, card-shares, card-answer-with}
-use Rattle.card_format.specs.Checks.{pairs-in-order, form-refusal, truth-refusal, card-refusal-with, check-refusal-with}
+use Rattle.card_format.specs.Checks.{pairs-in-order, form-refusal, rests, truth-refusal, card-refusal-with, check-refusal-with}
 use Rattle.card_format.specs.Checking.{Check-right-with}
 use Rattle.card_format.proofs.Pairs.{into-none, into-more}
 use Rattle.card_format.proofs.Checking.{check-right}
@@ -86,9 +88,12 @@ layout-boats b s ok e = rw e (book-fits b s ok .most-boats)
 
 -- ---- Outcomes
 
-module _ (l : Bool) (table b s w slots : List ℕ) where
+module _ (set : Released) (l : Bool) (table b s w slots : List ℕ) where
   abbrev m : Terms
-  m = terms l table
+  m = call-terms set l table
+
+  abbrev u : Usable
+  u = usable set
 
   -- what the check gives back and leaves in the list, by the refusal number
   abbrev Gives : (refusal : ℕ) → Searched → List ℕ → Type 0
@@ -98,8 +103,8 @@ module _ (l : Bool) (table b s w slots : List ℕ) where
   pub promised : all-bytes w ≡ true → {r : Searched} {now : List ℕ} → Gives (check-refusal-with m b s w (length slots)) r now →
       (r ≡ outcome (check-refusal-with m b s w (length slots)) (card-answer-with m b s w))
       × ((now ≡ slots-after (check-refusal-with m b s w (length slots)) (card-shares (boats b) w) slots)
-      × (Check-right-with m b s w r now × (l ≡ false → m ≡ plain-terms)))
-  promised all g = (g .0, (g .1, (check-right m b s w slots all refl (g .0) (g .1), λ e. rw e)))
+      × (Check-right-with m b s w r now × (set .limited ≡ false → l ≡ false → m ≡ plain-terms)))
+  promised all g = (g .0, (g .1, (check-right m b s w slots all refl (g .0) (g .1), λ e f. rw (e, f))))
 
   refused : (n : ℕ) → (n ≡ 0 → ⊥) → Gives n (Refused n) slots
   unfolding outcome slots-after
@@ -122,7 +127,8 @@ module _ (l : Bool) (table b s w slots : List ℕ) where
       by-card = let k : ltb (length slots) (boats b) ≡ false = le-ltb (length slots) (boats b) (rw el at room) in rw (ok, k)
 
       card-parts : card-refusal-with m b s w ≡
-          cond (eqb (form-refusal (boats b) (columns b) (call-steps m s) w) 0) (truth-refusal (call-problem m b s) (card-shares (boats b) w) w) (form-refusal (boats b) (columns b) (call-steps m s) w)
+          cond (eqb (form-refusal (boats b) (columns b) (call-steps m s) w) 0)
+          (cond (not (rests u (card-shares (boats b) w))) 36 (truth-refusal (call-problem m b s) (gather u (card-shares (boats b) w)) w)) (form-refusal (boats b) (columns b) (call-steps m s) w)
       unfolding card-refusal-with
       card-parts = refl
 
@@ -143,32 +149,44 @@ module _ (l : Bool) (table b s w slots : List ℕ) where
           pub form-zero : form-refusal (boats b) (columns b) (call-steps m s) w ≡ 0
           form-zero = sym form-is ∙ zn
 
-          by-truth : check-refusal-with m b s w (length slots) ≡ truth-refusal (call-problem m b s) (card-shares (boats b) w) w
-          by-truth = by-card ∙ card-parts ∙ rw form-zero
+          -- shares that are the card's, and whether they rest on boats that may be used
+          module _ (found : List ℕ) (ef : take (boats b) found ≡ card-shares (boats b) w) {t : Bool} (et : t ≡ rests u (take (y .boats) found)) where
+            rests-is : rests u (card-shares (boats b) w) ≡ t
+            unfolding file-layout
+            rests-is = sym (et ∙ rw (el, ef))
 
-          -- a judgement by shares that are the card's
-          abbrev Judged : (found : List ℕ) → Searched → Type 0
-          Judged found r =
-              r ≡ outcome (truth-refusal (call-problem m b s) (take (boats b) found) w) (answer-of (card-test w) (call-problem m b s) (take (boats b) found) (card-fields w .steps))
+            pub refused-by-rests : not t ≡ true → Gives (check-refusal-with m b s w (length slots)) (Refused 36) slots
+            unfolding outcome slots-after
+            refused-by-rests h =
+                let e : check-refusal-with m b s w (length slots) ≡ 36 = by-card ∙ card-parts ∙ rw (form-zero, rests-is, not-true t h) in
+                rw e (refl, refl)
 
-          own : (found : List ℕ) → take (boats b) found ≡ card-shares (boats b) w → {r : Searched} → Judged found r →
-              outcome (truth-refusal (call-problem m b s) (card-shares (boats b) w) w) (card-answer-with m b s w) ≡ r
-          unfolding card-answer-with
-          own found ef e = sym (rw ef at e)
+            module _ (h : not t ≡ false) where
+              by-truth : check-refusal-with m b s w (length slots) ≡ truth-refusal (call-problem m b s) (gather u (card-shares (boats b) w)) w
+              by-truth = by-card ∙ card-parts ∙ rw (form-zero, rests-is, not-false t h)
 
-          pub refused-by-truth : (found : List ℕ) → take (boats b) found ≡ card-shares (boats b) w → (j : ℕ) → Judged found (Refused j) → Gives (check-refusal-with m b s w (length slots)) (Refused j) slots
-          refused-by-truth found ef j e =
-              let p = outcome-refused (truth-refusal (call-problem m b s) (card-shares (boats b) w) w) j (card-answer-with m b s w) (own found ef e) in
-              rw (by-truth, p .0) (refused j (λ z. omega (arith, p .1)))
+              -- a judgement by them
+              abbrev Judged : Searched → Type 0
+              Judged r =
+                  r ≡ outcome (truth-refusal (call-problem m b s) (gather u (take (boats b) found)) w) (answer-of (card-test w) (call-problem m b s) (gather u (take (boats b) found)) (card-fields w .steps))
 
-          module _ (found : List ℕ) (ef : take (boats b) found ≡ card-shares (boats b) w) (lf : length found ≡ 256) where
-            found-count : length (card-shares (boats b) w) ≡ boats b
-            found-count = sym (ap length ef) ∙ length-take-le (boats b) found (omega (arith, book-fits b s (files-ok m b s ok) .most-boats))
+              own : {r : Searched} → Judged r → outcome (truth-refusal (call-problem m b s) (gather u (card-shares (boats b) w)) w) (card-answer-with m b s w) ≡ r
+              unfolding card-answer-with
+              own e = sym (rw ef at e)
 
-            pub answered : {now : List ℕ} → now ≡ take (y .boats) found ++ drop (y .boats) slots → (a : Answer) → Judged found (Answered a) →
-                Gives (check-refusal-with m b s w (length slots)) (Answered a) now
-            unfolding outcome slots-after file-layout
-            answered {now} e a h =
-                let p = outcome-answered (truth-refusal (call-problem m b s) (card-shares (boats b) w) w) (card-answer-with m b s w) a (own found ef h) in
-                let r : now ≡ card-shares (boats b) w ++ drop (boats b) slots = e ∙ rw (el, ef) in
-                rw (by-truth, p .0, ← p .1) (refl, r ∙ rw found-count)
+              pub refused-by-truth : (j : ℕ) → Judged (Refused j) → Gives (check-refusal-with m b s w (length slots)) (Refused j) slots
+              refused-by-truth j e =
+                  let p = outcome-refused (truth-refusal (call-problem m b s) (gather u (card-shares (boats b) w)) w) j (card-answer-with m b s w) (own e) in
+                  rw (by-truth, p .0) (refused j (λ z. omega (arith, p .1)))
+
+              module _ (lf : length found ≡ 256) where
+                found-count : length (card-shares (boats b) w) ≡ boats b
+                found-count = sym (ap length ef) ∙ length-take-le (boats b) found (omega (arith, book-fits b s (files-ok m b s ok) .most-boats))
+
+                pub answered : {now : List ℕ} → now ≡ take (y .boats) found ++ drop (y .boats) slots → (a : Answer) → Judged (Answered a) →
+                    Gives (check-refusal-with m b s w (length slots)) (Answered a) now
+                unfolding outcome slots-after file-layout
+                answered {now} e a q =
+                    let p = outcome-answered (truth-refusal (call-problem m b s) (gather u (card-shares (boats b) w)) w) (card-answer-with m b s w) a (own q) in
+                    let r : now ≡ card-shares (boats b) w ++ drop (boats b) slots = e ∙ rw (el, ef) in
+                    rw (by-truth, p .0, ← p .1) (refl, r ∙ rw found-count)

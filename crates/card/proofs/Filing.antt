@@ -13,11 +13,12 @@ use Rattle.files.specs.Book.{boats, columns}
 use Rattle.files.specs.Sheet.{sheet}
 use Rattle.method.specs.declared.Test.the-variants.{Sharper}
 use Rattle.method.specs.declared.Answer.{Answer}
+use Rattle.method.specs.declared.Released.{Released}
 use Rattle.method.specs.Problem.{Terms, plain-terms, call-problem}
-use Rattle.method.specs.Calls.{terms, call-refusal}
+use Rattle.method.specs.Calls.{call-terms, call-refusal}
 use Rattle.method.specs.Iterates.{support}
-use Rattle.method.specs.Answers.{slots-after, run-answer, run-iterate}
-use Rattle.method.proofs.Accepted.{share-count}
+use Rattle.method.specs.Answers.{slots-after, run-answer, run-slots}
+use Rattle.method.proofs.Promise.{run-slot-count}
 use Rattle.card_format.specs.declared.Written.{Written}
 use Rattle.card_format.specs.declared.Written.the-variants.{Refused, Filed}
 use Rattle.card_format.specs.Format.{pairs, trailer-bytes, answer-fields, card-bytes, run-card-with}
@@ -30,9 +31,9 @@ use Rattle.buffers.proofs.Placing.{placed-next}
 
 -- ---- Outcomes
 
-module _ (l : Bool) (table b s out : List ℕ) where
+module _ (set : Released) (l : Bool) (table b s out : List ℕ) where
   abbrev m : Terms
-  m = terms l table
+  m = call-terms set l table
 
   -- what the writer gives back and leaves in the buffer, by the refusal number
   abbrev Gives : (refusal : ℕ) → Written → List ℕ → Type 0
@@ -43,10 +44,10 @@ module _ (l : Bool) (table b s out : List ℕ) where
   Promises r now =
       (r ≡ filing (write-refusal-with m b s (length out)) (run-answer (call-problem m b s)) (length (run-card-with m b s)))
       × ((now ≡ slots-after (write-refusal-with m b s (length out)) (run-card-with m b s) out)
-      × (Filing-right-with m b s r now × (l ≡ false → m ≡ plain-terms)))
+      × (Filing-right-with m b s r now × (set .limited ≡ false → l ≡ false → m ≡ plain-terms)))
 
   promised : {r : Written} {now : List ℕ} → Gives (write-refusal-with m b s (length out)) r now → Promises r now
-  promised g = (g .0, (g .1, (filing-right m b s out refl (g .0) (g .1), λ e. rw e)))
+  promised g = (g .0, (g .1, (filing-right m b s out refl (g .0) (g .1), λ e f. rw (e, f))))
 
   refused : (n : ℕ) → (n ≡ 0 → ⊥) → Gives n (Refused n) out
   unfolding filing slots-after
@@ -58,11 +59,10 @@ module _ (l : Bool) (table b s out : List ℕ) where
   refused-by-call zero e h = absurd (h refl)
   refused-by-call (suc n) e h = promised (rw (← e, eqb·suc-zero n) (refused (suc n) h))
 
-  module _ (ok : call-refusal m b s ≡ 0) {n : ℕ} (en : n ≡ boats b) {a : Answer} (ea : a ≡ run-answer (call-problem m b s)) (z : List ℕ) {qs : List ℕ} (eq : qs ≡ run-iterate (call-problem m b s) .shares ++ z) (k : ℕ)
+  module _ (ok : call-refusal m b s ≡ 0) {n : ℕ} (en : n ≡ boats b) {a : Answer} (ea : a ≡ run-answer (call-problem m b s)) (z : List ℕ) {qs : List ℕ} (eq : qs ≡ run-slots m b s ++ z) (k : ℕ)
       (ek : k ≡ support (take n qs)) where
-    shares-are : take n qs ≡ run-iterate (call-problem m b s) .shares
-    unfolding run-iterate
-    shares-are = rw en (ap (take (boats b)) eq ∙ take-at (run-iterate (call-problem m b s) .shares) z (boats b) (share-count m b s ok _))
+    shares-are : take n qs ≡ run-slots m b s
+    shares-are = rw en (ap (take (boats b)) eq ∙ take-at (run-slots m b s) z (boats b) (run-slot-count m b s ok))
 
     size-is : length (run-card-with m b s) ≡ 4 * k + 36
     size-is = run-card-length m b s ok ∙ rw (ek, shares-are)

@@ -8,37 +8,41 @@ ghost use Prim.Native.Nat.{_≤_};
 ghost use lib.ListN.{length, take, drop};
 ghost use Rattle.files.specs.Book.{boats};
 ghost use Rattle.method.specs.Problem.{plain-terms, call-problem, problem};
-ghost use Rattle.method.specs.Calls.{terms};
+ghost use Rattle.method.specs.Calls.{call-terms};
 ghost use Rattle.method.specs.Answers.{outcome, slots-after, run-answer};
 ghost use Rattle.card_format.specs.Format.{card-shares, card-answer-with, card-answer, run-card-with, run-card};
 ghost use Rattle.card_format.specs.Checks.{write-refusal-with, write-refusal, check-refusal-with, check-refusal};
 ghost use Rattle.card_format.specs.Filing.{filing, Filing-right-with, Filing-right};
 ghost use Rattle.card_format.specs.Checking.{Check-right-with, Check-right};
 use card_format::Written;
+use method::Released;
 use method::Searched;
 
-// ENTRY. The card writer with what a caller may hand in beside the files: a table of shares, which is read only where `lent` says so.
-// Refuses a lent table (49 to 51), then as the writer of the files alone does, and leaves the buffer as it was; else writes the card of
-// the run of the problem that they set. Nothing on the card says which table made it. With nothing lent the terms are those of `write_card`.
+// ENTRY. The card writer with what a caller may hand in beside the files: a set of released boats, which is read only where it says that
+// the call is limited to it, and a table of shares, which is read only where `lent` says so. Refuses a lent table (49 to 51), then as the
+// writer of the files alone does, with 52 of a set after 6, and leaves the buffer as it was; else writes the card of the run of the
+// problem that they set, boats numbered as in the book. Nothing on the card says which table or set made it. The rows of other boats
+// change nothing (isolated). With nothing handed in the terms are those of `write_card`.
 pub fn write_card_with(
     book: &[u8],
     sheet: &[u8],
+    released: Released,
     lent: bool,
     table: &[u16],
     output: &mut [u8],
 ) -> Written
-    ensures { λ r. ⌜ r ≡ filing (write-refusal-with (terms lent (now (table .entry))) (now (book .entry)) (now (sheet .entry)) (length (now (output .entry)))) (run-answer (call-problem (terms lent (now (table .entry))) (now (book .entry)) (now (sheet .entry)))) (length (run-card-with (terms lent (now (table .entry))) (now (book .entry)) (now (sheet .entry)))) ⌝ }
-    ensures { λ _. ⌜ now (output .exit) ≡ slots-after (write-refusal-with (terms lent (now (table .entry))) (now (book .entry)) (now (sheet .entry)) (length (now (output .entry)))) (run-card-with (terms lent (now (table .entry))) (now (book .entry)) (now (sheet .entry))) (now (output .entry)) ⌝ }
-    ensures { λ r. ⌜ Filing-right-with (terms lent (now (table .entry))) (now (book .entry)) (now (sheet .entry)) r (now (output .exit)) ⌝ }
-    ensures { λ _. ⌜ (lent ≡ false → (terms lent (now (table .entry))) ≡ plain-terms) ⌝ }
+    ensures { λ r. ⌜ r ≡ filing (write-refusal-with (call-terms released lent (now (table .entry))) (now (book .entry)) (now (sheet .entry)) (length (now (output .entry)))) (run-answer (call-problem (call-terms released lent (now (table .entry))) (now (book .entry)) (now (sheet .entry)))) (length (run-card-with (call-terms released lent (now (table .entry))) (now (book .entry)) (now (sheet .entry)))) ⌝ }
+    ensures { λ _. ⌜ now (output .exit) ≡ slots-after (write-refusal-with (call-terms released lent (now (table .entry))) (now (book .entry)) (now (sheet .entry)) (length (now (output .entry)))) (run-card-with (call-terms released lent (now (table .entry))) (now (book .entry)) (now (sheet .entry))) (now (output .entry)) ⌝ }
+    ensures { λ r. ⌜ Filing-right-with (call-terms released lent (now (table .entry))) (now (book .entry)) (now (sheet .entry)) r (now (output .exit)) ⌝ }
+    ensures { λ _. ⌜ (released .limited ≡ false → lent ≡ false → call-terms released lent (now (table .entry)) ≡ plain-terms) ⌝ }
 {
-    let refusal = calls::call_refusal(book, sheet, lent, table);
+    let refusal = calls::call_refusal(book, sheet, released, lent, table);
     if refusal != 0 {
         return Written::Refused(refusal);
     }
     let boats = files::boats(book);
     let mut shares = [0u16; 256];
-    let answer = factored_run::run(book, sheet, lent, table, &mut shares);
+    let answer = released_run::run(book, sheet, released, lent, table, &mut shares);
     let back = 4 * card_output::holding(shares, boats);
     if output.len() < back + 36 {
         return Written::Refused(22);
@@ -63,7 +67,11 @@ pub fn write_card(book: &[u8], sheet: &[u8], output: &mut [u8]) -> Written
     ensures { λ _. ⌜ now (output .exit) ≡ slots-after (write-refusal (now (book .entry)) (now (sheet .entry)) (length (now (output .entry)))) (run-card (now (book .entry)) (now (sheet .entry))) (now (output .entry)) ⌝ }
     ensures { λ r. ⌜ Filing-right (now (book .entry)) (now (sheet .entry)) r (now (output .exit)) ⌝ }
 {
-    write_card_with(book, sheet, false, &[0u16; 0], output)
+    let every_boat = Released {
+        limited: false,
+        boats: [0u8; 32],
+    };
+    write_card_with(book, sheet, every_boat, false, &[0u16; 0], output)
 }
 
 // The first `count` slots of `to` as those of `from`; later slots as they were.
@@ -78,24 +86,26 @@ fn fill(from: [u16; 256], count: usize, to: &mut [u16])
     }
 }
 
-// ENTRY. The card check with what a caller may hand in beside the files: a table of shares, which is read only where `lent` says so.
-// Refuses a lent table (49 to 51), then as the check with the files alone does, and leaves the list as it was; else gives the card's
-// answer and its shares. An accepted card vouches for what it says under this table, whichever made it. With nothing lent the terms are
-// those of `check_card`.
+// ENTRY. The card check with what a caller may hand in beside the files: a set of released boats, which is read only where it says that
+// the call is limited to it, and a table of shares, which is read only where `lent` says so. Refuses a lent table (49 to 51), then as the
+// check with the files alone does, with 52 of a set after 6 and by 36 also a card that rests on a boat that may not be used, and leaves
+// the list as it was; else gives the card's answer and its shares. An accepted card vouches for what it says under these terms, whichever
+// made it. The rows of other boats change nothing (isolated). With nothing handed in the terms are those of `check_card`.
 pub fn check_card_with(
     book: &[u8],
     sheet: &[u8],
+    released: Released,
     lent: bool,
     table: &[u16],
     card: &[u8],
     shares: &mut [u16],
 ) -> Searched
-    ensures { λ r. ⌜ r ≡ outcome (check-refusal-with (terms lent (now (table .entry))) (now (book .entry)) (now (sheet .entry)) (now (card .entry)) (length (now (shares .entry)))) (card-answer-with (terms lent (now (table .entry))) (now (book .entry)) (now (sheet .entry)) (now (card .entry))) ⌝ }
-    ensures { λ _. ⌜ now (shares .exit) ≡ slots-after (check-refusal-with (terms lent (now (table .entry))) (now (book .entry)) (now (sheet .entry)) (now (card .entry)) (length (now (shares .entry)))) (card-shares (boats (now (book .entry))) (now (card .entry))) (now (shares .entry)) ⌝ }
-    ensures { λ r. ⌜ Check-right-with (terms lent (now (table .entry))) (now (book .entry)) (now (sheet .entry)) (now (card .entry)) r (now (shares .exit)) ⌝ }
-    ensures { λ _. ⌜ (lent ≡ false → (terms lent (now (table .entry))) ≡ plain-terms) ⌝ }
+    ensures { λ r. ⌜ r ≡ outcome (check-refusal-with (call-terms released lent (now (table .entry))) (now (book .entry)) (now (sheet .entry)) (now (card .entry)) (length (now (shares .entry)))) (card-answer-with (call-terms released lent (now (table .entry))) (now (book .entry)) (now (sheet .entry)) (now (card .entry))) ⌝ }
+    ensures { λ _. ⌜ now (shares .exit) ≡ slots-after (check-refusal-with (call-terms released lent (now (table .entry))) (now (book .entry)) (now (sheet .entry)) (now (card .entry)) (length (now (shares .entry)))) (card-shares (boats (now (book .entry))) (now (card .entry))) (now (shares .entry)) ⌝ }
+    ensures { λ r. ⌜ Check-right-with (call-terms released lent (now (table .entry))) (now (book .entry)) (now (sheet .entry)) (now (card .entry)) r (now (shares .exit)) ⌝ }
+    ensures { λ _. ⌜ (released .limited ≡ false → lent ≡ false → call-terms released lent (now (table .entry)) ≡ plain-terms) ⌝ }
 {
-    let refusal = calls::call_refusal(book, sheet, lent, table);
+    let refusal = calls::call_refusal(book, sheet, released, lent, table);
     if refusal != 0 {
         return Searched::Refused(refusal);
     }
@@ -111,7 +121,10 @@ pub fn check_card_with(
     }
     let count = card_input::pair_count(card);
     let found = card_pairs::shares_of(card, card.len() - 36 - 4 * count, count);
-    match card_truth::judged(book, sheet, lent, table, layout, card, found) {
+    if !released_card::rests(found, released, boats) {
+        return Searched::Refused(36);
+    }
+    match released_card::judged(book, sheet, released, lent, table, card, found) {
         Searched::Refused(n) => Searched::Refused(n),
         Searched::Answered(answer) => {
             fill(found, boats, shares);
@@ -128,5 +141,9 @@ pub fn check_card(book: &[u8], sheet: &[u8], card: &[u8], shares: &mut [u16]) ->
     ensures { λ _. ⌜ now (shares .exit) ≡ slots-after (check-refusal (now (book .entry)) (now (sheet .entry)) (now (card .entry)) (length (now (shares .entry)))) (card-shares (boats (now (book .entry))) (now (card .entry))) (now (shares .entry)) ⌝ }
     ensures { λ r. ⌜ Check-right (now (book .entry)) (now (sheet .entry)) (now (card .entry)) r (now (shares .exit)) ⌝ }
 {
-    check_card_with(book, sheet, false, &[0u16; 0], card, shares)
+    let every_boat = Released {
+        limited: false,
+        boats: [0u8; 32],
+    };
+    check_card_with(book, sheet, every_boat, false, &[0u16; 0], card, shares)
 }
