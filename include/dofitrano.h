@@ -60,7 +60,7 @@ enum dofitrano_refusal {
     DOFITRANO_CARD_SIZES = 33,     /* boats or columns differ from the book's */
     DOFITRANO_CARD_STEPS = 34,     /* verdict outside 1 to 3, or steps used 0 or above the steps asked */
     DOFITRANO_CARD_BACK = 35,      /* back 0, no multiple of 4, above 4 x boats, or before the first byte */
-    DOFITRANO_CARD_BOATS = 36,     /* boats not strictly ascending, a boat not in the book, or a share of 0 */
+    DOFITRANO_CARD_BOATS = 36,     /* boats not strictly ascending, a boat not in the book or not released, or a share of 0 */
     DOFITRANO_CARD_SHARES = 37,    /* more boats than steps used, or shares not totalling W of those steps */
     DOFITRANO_CARD_UNTRUE = 38,    /* E, G or the verdict, judged by the test of the letters, untrue of the shares */
     DOFITRANO_CARD_TOLERANCE = 39, /* tolerance differs from the sheet's */
@@ -68,6 +68,8 @@ enum dofitrano_refusal {
     DOFITRANO_CELL_UNWEIGHED = 41, /* a cell not weighed */
     DOFITRANO_CELL_READING = 42,   /* a reading not finite, or a net beyond 1,048,576 kilograms either way */
     DOFITRANO_CELL_UNIT = 43,      /* kilograms per unit outside 1 to 10,000, or a value outside -2,000 to 2,000 */
+    /* the released set */
+    DOFITRANO_RELEASED_SET = 52, /* empty, or names a boat that the book does not have; tested after 6 */
     /* one book from two */
     DOFITRANO_MERGE_COLUMNS = 55, /* the books' columns differ */
     DOFITRANO_MERGE_BOATS = 56,   /* a merged book of more than 256 boats */
@@ -124,25 +126,44 @@ dofitrano_reply dofitrano_check_card(const uint8_t *book, size_t book_length,
                                      const uint8_t *card, size_t card_length,
                                      uint16_t *shares, size_t slots);
 
-/* A table of shares may be lent to the search, the card writer and the card check: step k then takes entry k in place of k, and W is the
- * table's running total. A table has 1 to 360 entries, each above 0 with a square of at most twice the running total that includes it,
- * of a total of at most 64,980. With `lent` false no table is lent: it is not read, and the call does what its namesake without one does.
- * With `lent` true the call refuses by 49, 50 or 51 first, then as its namesake does; a table of no entry is refused by 49. A sheet that
- * asks for more steps than the table has entries counts as asking for their number, also in 34 and 38; 14 judges the sheet's own
- * number. Nothing on a card says which table made it: keep the table beside the card. */
+/* The boats that a call may use, by the numbers of the book: with `limited` true those that the bits of `boats` name, bit b of byte k,
+ * b = 0 the lowest, for boat 8 k + b; with `limited` false all of them, and `boats` is not read. */
+typedef struct dofitrano_released {
+    bool limited;
+    uint8_t boats[32];
+} dofitrano_released;
+
+/* A set of released boats and a table of shares may be handed to the search, the card writer and the card check.
+ *
+ * With `released.limited` true the call refuses a set that is empty or names a boat that the book does not have, by 52, after 1 to 6 and
+ * ahead of the sheet's numbers. The search then starts at the lowest released boat, and scores, G, D^2, bounds and verdicts are of the
+ * released boats alone. Shares stay numbered as in the book, 0 for every other boat; 21, 33 and 35 go by the whole book. The card check
+ * refuses a card that rests on a boat that is not released, by 36. Two accepted books of the same counts with the same released rows
+ * give the same replies, slots and bytes, whatever their other rows are; the time that a call takes is not covered.
+ *
+ * With `lent` true step k takes entry k of the table in place of k, and W is the table's running total. A table has 1 to 360 entries,
+ * each above 0 with a square of at most twice the running total that includes it, of a total of at most 64,980. The call refuses by 49,
+ * 50 or 51 first; a table of no entry is refused by 49. A sheet that asks for more steps than the table has entries counts as asking for
+ * their number, also in 34 and 38; 14 judges the sheet's own number.
+ *
+ * With `released.limited` and `lent` false neither is read, and the call does what its namesake without them does. Nothing on a card says
+ * which set or table made it: keep them beside the card. */
 dofitrano_reply dofitrano_search_with(const uint8_t *book, size_t book_length,
                                       const uint8_t *sheet, size_t sheet_length,
+                                      dofitrano_released released,
                                       bool lent, const uint16_t *table, size_t entries,
                                       uint16_t *shares, size_t slots);
 
 dofitrano_card_reply dofitrano_write_card_with(const uint8_t *book, size_t book_length,
                                                const uint8_t *sheet, size_t sheet_length,
+                                               dofitrano_released released,
                                                bool lent, const uint16_t *table, size_t entries,
                                                uint8_t *output, size_t output_length);
 
-/* An accepted card vouches for what it says with this table, whichever made it. */
+/* An accepted card vouches for what it says with this set and this table, whichever made it. */
 dofitrano_reply dofitrano_check_card_with(const uint8_t *book, size_t book_length,
                                           const uint8_t *sheet, size_t sheet_length,
+                                          dofitrano_released released,
                                           bool lent, const uint16_t *table, size_t entries,
                                           const uint8_t *card, size_t card_length,
                                           uint16_t *shares, size_t slots);

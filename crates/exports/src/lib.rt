@@ -11,8 +11,8 @@ ghost use mathlib.Core.Bool.{false};
 ghost use Prim.Native.Nat.{_+_, _≤_};
 ghost use lib.ListN.{length};
 ghost use Rattle.method.specs.Problem.{plain-terms, call-problem, problem};
-ghost use Rattle.method.specs.Calls.{terms};
-ghost use Rattle.method.specs.Answers.{outcome, search-refusal-with, search-refusal, slots-after, run-answer, run-iterate};
+ghost use Rattle.method.specs.Calls.{call-terms};
+ghost use Rattle.method.specs.Answers.{outcome, search-refusal-with, search-refusal, slots-after, run-answer, run-iterate, run-slots};
 ghost use Rattle.files.specs.Book.{boats};
 ghost use Rattle.card_format.specs.Format.{card-shares, card-answer-with, card-answer, run-card-with, run-card};
 ghost use Rattle.card_format.specs.Checks.{write-refusal-with, write-refusal, check-refusal-with, check-refusal};
@@ -39,6 +39,7 @@ use exported_types::CardReply;
 use exported_types::EditionReply;
 use exported_types::Reply;
 use merged_book::Merged;
+use method::Released;
 use scale_cells::SheetValues;
 use scale_sheet::ScaleSheet;
 
@@ -80,58 +81,61 @@ pub extern "C" fn dofitrano_write_card(book: &[u8], sheet: &[u8], output: &mut [
     exported_types::card_reply_of(written)
 }
 
-// ENTRY. The search with a lent table for other languages: the reply of `search_with`, and the share list's slots afterwards.
+// ENTRY. The search with a released set and a lent table for other languages: the reply of `search_with`, and the share list's slots afterwards.
 #[no_mangle]
 pub extern "C" fn dofitrano_search_with(
     book: &[u8],
     sheet: &[u8],
+    released: Released,
     lent: bool,
     table: &[u16],
     shares: &mut [u16],
 ) -> Reply
-    ensures { λ r. ⌜ r ≡ reply-of (outcome (search-refusal-with (terms lent (now (table .entry))) (now (book .entry)) (now (sheet .entry)) (length (now (shares .entry)))) (run-answer (call-problem (terms lent (now (table .entry))) (now (book .entry)) (now (sheet .entry))))) ⌝ }
-    ensures { λ _. ⌜ now (shares .exit) ≡ slots-after (search-refusal-with (terms lent (now (table .entry))) (now (book .entry)) (now (sheet .entry)) (length (now (shares .entry)))) (run-iterate (call-problem (terms lent (now (table .entry))) (now (book .entry)) (now (sheet .entry))) .shares) (now (shares .entry)) ⌝ }
-    ensures { λ _. ⌜ Outcome-right-with (terms lent (now (table .entry))) (now (book .entry)) (now (sheet .entry)) (outcome (search-refusal-with (terms lent (now (table .entry))) (now (book .entry)) (now (sheet .entry)) (length (now (shares .entry)))) (run-answer (call-problem (terms lent (now (table .entry))) (now (book .entry)) (now (sheet .entry))))) (now (shares .exit)) ⌝ }
-    ensures { λ _. ⌜ (lent ≡ false → (terms lent (now (table .entry))) ≡ plain-terms) ⌝ }
+    ensures { λ r. ⌜ r ≡ reply-of (outcome (search-refusal-with (call-terms released lent (now (table .entry))) (now (book .entry)) (now (sheet .entry)) (length (now (shares .entry)))) (run-answer (call-problem (call-terms released lent (now (table .entry))) (now (book .entry)) (now (sheet .entry))))) ⌝ }
+    ensures { λ _. ⌜ now (shares .exit) ≡ slots-after (search-refusal-with (call-terms released lent (now (table .entry))) (now (book .entry)) (now (sheet .entry)) (length (now (shares .entry)))) (run-slots (call-terms released lent (now (table .entry))) (now (book .entry)) (now (sheet .entry))) (now (shares .entry)) ⌝ }
+    ensures { λ _. ⌜ Outcome-right-with (call-terms released lent (now (table .entry))) (now (book .entry)) (now (sheet .entry)) (outcome (search-refusal-with (call-terms released lent (now (table .entry))) (now (book .entry)) (now (sheet .entry)) (length (now (shares .entry)))) (run-answer (call-problem (call-terms released lent (now (table .entry))) (now (book .entry)) (now (sheet .entry))))) (now (shares .exit)) ⌝ }
+    ensures { λ _. ⌜ (released .limited ≡ false → lent ≡ false → call-terms released lent (now (table .entry)) ≡ plain-terms) ⌝ }
 {
-    let found = search::search_with(book, sheet, lent, table, &mut *shares);
+    let found = search::search_with(book, sheet, released, lent, table, &mut *shares);
     exported_types::reply_of(found)
 }
 
-// ENTRY. The card check with a lent table for other languages: the reply of `check_card_with`, and the share list's slots afterwards.
+// ENTRY. The card check with a released set and a lent table for other languages: the reply of `check_card_with`, and the share list's slots afterwards.
 #[no_mangle]
 pub extern "C" fn dofitrano_check_card_with(
     book: &[u8],
     sheet: &[u8],
+    released: Released,
     lent: bool,
     table: &[u16],
     card: &[u8],
     shares: &mut [u16],
 ) -> Reply
-    ensures { λ r. ⌜ r ≡ reply-of (outcome (check-refusal-with (terms lent (now (table .entry))) (now (book .entry)) (now (sheet .entry)) (now (card .entry)) (length (now (shares .entry)))) (card-answer-with (terms lent (now (table .entry))) (now (book .entry)) (now (sheet .entry)) (now (card .entry)))) ⌝ }
-    ensures { λ _. ⌜ now (shares .exit) ≡ slots-after (check-refusal-with (terms lent (now (table .entry))) (now (book .entry)) (now (sheet .entry)) (now (card .entry)) (length (now (shares .entry)))) (card-shares (boats (now (book .entry))) (now (card .entry))) (now (shares .entry)) ⌝ }
-    ensures { λ _. ⌜ Check-right-with (terms lent (now (table .entry))) (now (book .entry)) (now (sheet .entry)) (now (card .entry)) (outcome (check-refusal-with (terms lent (now (table .entry))) (now (book .entry)) (now (sheet .entry)) (now (card .entry)) (length (now (shares .entry)))) (card-answer-with (terms lent (now (table .entry))) (now (book .entry)) (now (sheet .entry)) (now (card .entry)))) (now (shares .exit)) ⌝ }
-    ensures { λ _. ⌜ (lent ≡ false → (terms lent (now (table .entry))) ≡ plain-terms) ⌝ }
+    ensures { λ r. ⌜ r ≡ reply-of (outcome (check-refusal-with (call-terms released lent (now (table .entry))) (now (book .entry)) (now (sheet .entry)) (now (card .entry)) (length (now (shares .entry)))) (card-answer-with (call-terms released lent (now (table .entry))) (now (book .entry)) (now (sheet .entry)) (now (card .entry)))) ⌝ }
+    ensures { λ _. ⌜ now (shares .exit) ≡ slots-after (check-refusal-with (call-terms released lent (now (table .entry))) (now (book .entry)) (now (sheet .entry)) (now (card .entry)) (length (now (shares .entry)))) (card-shares (boats (now (book .entry))) (now (card .entry))) (now (shares .entry)) ⌝ }
+    ensures { λ _. ⌜ Check-right-with (call-terms released lent (now (table .entry))) (now (book .entry)) (now (sheet .entry)) (now (card .entry)) (outcome (check-refusal-with (call-terms released lent (now (table .entry))) (now (book .entry)) (now (sheet .entry)) (now (card .entry)) (length (now (shares .entry)))) (card-answer-with (call-terms released lent (now (table .entry))) (now (book .entry)) (now (sheet .entry)) (now (card .entry)))) (now (shares .exit)) ⌝ }
+    ensures { λ _. ⌜ (released .limited ≡ false → lent ≡ false → call-terms released lent (now (table .entry)) ≡ plain-terms) ⌝ }
 {
-    let found = card::check_card_with(book, sheet, lent, table, card, &mut *shares);
+    let found = card::check_card_with(book, sheet, released, lent, table, card, &mut *shares);
     exported_types::reply_of(found)
 }
 
-// ENTRY. The card writer with a lent table for other languages: the reply of `write_card_with`, and the buffer's bytes afterwards.
+// ENTRY. The card writer with a released set and a lent table for other languages: the reply of `write_card_with`, and the buffer's bytes afterwards.
 #[no_mangle]
 pub extern "C" fn dofitrano_write_card_with(
     book: &[u8],
     sheet: &[u8],
+    released: Released,
     lent: bool,
     table: &[u16],
     output: &mut [u8],
 ) -> CardReply
-    ensures { λ r. ⌜ r ≡ card-reply-of (filing (write-refusal-with (terms lent (now (table .entry))) (now (book .entry)) (now (sheet .entry)) (length (now (output .entry)))) (run-answer (call-problem (terms lent (now (table .entry))) (now (book .entry)) (now (sheet .entry)))) (length (run-card-with (terms lent (now (table .entry))) (now (book .entry)) (now (sheet .entry))))) ⌝ }
-    ensures { λ _. ⌜ now (output .exit) ≡ slots-after (write-refusal-with (terms lent (now (table .entry))) (now (book .entry)) (now (sheet .entry)) (length (now (output .entry)))) (run-card-with (terms lent (now (table .entry))) (now (book .entry)) (now (sheet .entry))) (now (output .entry)) ⌝ }
-    ensures { λ _. ⌜ Filing-right-with (terms lent (now (table .entry))) (now (book .entry)) (now (sheet .entry)) (filing (write-refusal-with (terms lent (now (table .entry))) (now (book .entry)) (now (sheet .entry)) (length (now (output .entry)))) (run-answer (call-problem (terms lent (now (table .entry))) (now (book .entry)) (now (sheet .entry)))) (length (run-card-with (terms lent (now (table .entry))) (now (book .entry)) (now (sheet .entry))))) (now (output .exit)) ⌝ }
-    ensures { λ _. ⌜ (lent ≡ false → (terms lent (now (table .entry))) ≡ plain-terms) ⌝ }
+    ensures { λ r. ⌜ r ≡ card-reply-of (filing (write-refusal-with (call-terms released lent (now (table .entry))) (now (book .entry)) (now (sheet .entry)) (length (now (output .entry)))) (run-answer (call-problem (call-terms released lent (now (table .entry))) (now (book .entry)) (now (sheet .entry)))) (length (run-card-with (call-terms released lent (now (table .entry))) (now (book .entry)) (now (sheet .entry))))) ⌝ }
+    ensures { λ _. ⌜ now (output .exit) ≡ slots-after (write-refusal-with (call-terms released lent (now (table .entry))) (now (book .entry)) (now (sheet .entry)) (length (now (output .entry)))) (run-card-with (call-terms released lent (now (table .entry))) (now (book .entry)) (now (sheet .entry))) (now (output .entry)) ⌝ }
+    ensures { λ _. ⌜ Filing-right-with (call-terms released lent (now (table .entry))) (now (book .entry)) (now (sheet .entry)) (filing (write-refusal-with (call-terms released lent (now (table .entry))) (now (book .entry)) (now (sheet .entry)) (length (now (output .entry)))) (run-answer (call-problem (call-terms released lent (now (table .entry))) (now (book .entry)) (now (sheet .entry)))) (length (run-card-with (call-terms released lent (now (table .entry))) (now (book .entry)) (now (sheet .entry))))) (now (output .exit)) ⌝ }
+    ensures { λ _. ⌜ (released .limited ≡ false → lent ≡ false → call-terms released lent (now (table .entry)) ≡ plain-terms) ⌝ }
 {
-    let written = card::write_card_with(book, sheet, lent, table, &mut *output);
+    let written = card::write_card_with(book, sheet, released, lent, table, &mut *output);
     exported_types::card_reply_of(written)
 }
 

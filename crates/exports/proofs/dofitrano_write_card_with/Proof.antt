@@ -1,7 +1,7 @@
 -- `exports::dofitrano_write_card_with` meets its contract.
 use mathlib.Core.Path.{ap, _∙_}
 use Rattle.exported_types.specs.Replies.{card-reply-of}
-use Rattle.method.specs.Calls.{terms}
+use Rattle.method.specs.Calls.{call-terms}
 use Rattle.exports.proofs.Promises.{filed-right}
 use borrow.Author.Needs.{needs}
 use Rattle.exports.proofs.dofitrano_write_card_with.Statement.{statement}
@@ -20,7 +20,7 @@ returns : tie.Need-returns
 returns c =
     let at-write-card = c .before .before .before in
     let start = at-write-card .before .before .before .before .before .before in
-    (c .card-reply-of .ensures ∙ ap card-reply-of (at-write-card .write-card-with .ensures .0), (at-write-card .write-card-with .ensures .1 .0, (filed-right (terms (start .args .lent) (start .args .table .now)) _ _ (at-write-card .write-card-with .ensures .0) (at-write-card .write-card-with .ensures .1 .0) (at-write-card .write-card-with .ensures .1 .1 .0), at-write-card .write-card-with .ensures .1 .1 .1)))
+    (c .card-reply-of .ensures ∙ ap card-reply-of (at-write-card .write-card-with .ensures .0), (at-write-card .write-card-with .ensures .1 .0, (filed-right (call-terms (start .args .released) (start .args .lent) (start .args .table .now)) _ _ (at-write-card .write-card-with .ensures .0) (at-write-card .write-card-with .ensures .1 .0) (at-write-card .write-card-with .ensures .1 .1 .0), at-write-card .write-card-with .ensures .1 .1 .1)))
 
 pub dofitrano-write-card-with-spec : {M : Type 1} → statement M
 dofitrano-write-card-with-spec =
