@@ -75,8 +75,13 @@ def main():
         if gives in homes and c_gives and gives not in STRUCTS:
             STRUCTS[gives] = c_gives
             struct(gives, homes[gives], c_gives)
-        wanted = [c for p in re.findall(r"\w+: ([^,]+?)\s*(?:,|$)", parameters) for c in c_types(p)]
         found = [re.sub(r"\w+$", "", p.strip()).strip() for p in c_parameters.split(",")]
+        wanted = []
+        for kind in re.findall(r"\w+: ([^,]+?)\s*(?:,|$)", parameters):
+            if kind in homes and kind not in STRUCTS:  # a struct by value
+                STRUCTS[kind] = found[len(wanted)] if len(wanted) < len(found) else kind
+                struct(kind, homes[kind], STRUCTS[kind])
+            wanted += c_types(kind)
         compare("%s: parameters" % name, wanted, found)
         compare("%s: gives back" % name, c_types(gives), [c_gives])
     compare("structs", sorted(STRUCTS.values()), sorted(re.findall(r"typedef struct (\w+)", HEADER)))
