@@ -93,6 +93,7 @@ module _ (b s w : List ℕ) (ok : files-refusal b s ≡ 0) (all : all-bytes w �
         boats = t .boats;
         columns = t .columns;
         share-count = t .share-count;
+        rests = t .rests;
         truth = t .truth;
       }
 
