@@ -9,7 +9,7 @@ use Rattle.method.specs.declared.Searched.{Searched}
 use Rattle.method.specs.Problem.{problem, plain-terms}
 use Rattle.method.specs.Answers.{outcome, search-refusal, slots-after, run-answer, run-iterate}
 use Rattle.method.specs.Promise.{Outcome-right}
-use Rattle.method.proofs.Promise.{run-share-count, outcome-right}
+use Rattle.method.proofs.Promise.{run-slot-count, outcome-right}
 use Rattle.text.specs.Texts.{Holds}
 use Rattle.text.specs.declared.Text.{Text}
 use Rattle.listing.specs.Lines.{outcome-listing, Listable}
@@ -20,7 +20,7 @@ use Rattle.search_listing.specs.Searches.{search-outcome, search-shares,
 pub listed-right : (b s : List ℕ) → Outcome-right b s (search-outcome b s) (search-shares b s)
 listed-right b s =
     outcome-right plain-terms b s (search-shares b s) (files-refusal b s) (search-outcome b s) (search-shares b s)
-    (sym (long-enough b s (length (search-shares b s)) (λ ok. omega (arith, run-share-count plain-terms b s ok)))) refl (sym (after-itself (files-refusal b s) (search-shares b s)))
+    (sym (long-enough b s (length (search-shares b s)) (λ ok. omega (arith, run-slot-count plain-terms b s ok)))) refl (sym (after-itself (files-refusal b s) (search-shares b s)))
 
 module _ (b s slots : List ℕ) {r : Searched} (e : r ≡ outcome (search-refusal b s 256) (run-answer (problem b s))) where
   found : r ≡ outcome (files-refusal b s) (run-answer (problem b s))
@@ -33,5 +33,5 @@ module _ (b s slots : List ℕ) {r : Searched} (e : r ≡ outcome (search-refusa
   unfolding search-listing
   search-listed {now} {t} f h =
       let g : now ≡ slots-after (files-refusal b s) (run-iterate (problem b s) .shares) slots = f ∙ ap (λ (n : ℕ). slots-after n (run-iterate (problem b s) .shares) slots) (same-refusal b s) in
-      let k : outcome-listing b s r now ≡ search-listing b s = rw (found, g) (same-listing b s slots (run-iterate (problem b s) .shares) (run-answer (problem b s)) (files-refusal b s) (run-share-count plain-terms b s)) in
+      let k : outcome-listing b s r now ≡ search-listing b s = rw (found, g) (same-listing b s slots (run-iterate (problem b s) .shares) (run-answer (problem b s)) (files-refusal b s) (run-slot-count plain-terms b s)) in
       rw k at h
