@@ -36,6 +36,12 @@ totals W_t = a_1 + ... + a_t, step t moves by gamma = a_t / W_t, and W_t is the
 W of the answer and of refusal 37.  The steps that may be taken are then the
 lesser of the sheet's and the number of shares: so for Spent, 34 and 38.
 
+The same three calls may be given a released set, 32 bytes: bit b of byte k,
+b = 0 the lowest, is for boat 8 k + b.  Only the released boats are then
+searched: x_0 is the row of the lowest of them, and the rows v of the scores, of
+the gap and of D^2 are theirs.  Shares, slots and cards number the boats as the
+book does, and the share of every other boat is 0.
+
 The three files.  All numbers are little-endian; a value is a signed 16-bit
 number, every other field is unsigned.  Each file is front text (never read),
 then the body, then the trailer.  "back" is the size of the body in bytes.
@@ -73,7 +79,8 @@ with the lowest number.
 A refusal is a number; 0 stands for accepted.  The first that applies, in the
 call's own order, is the one given back: in number order, but a sheet made of
 cells has 41 to 43, cell by cell, right after 6 and before 14 and 15, 46 is
-the last of a sheet's own, right after 17, and 49 to 51 come before all others.
+the last of a sheet's own, right after 17, 49 to 51 come before all others, and
+52 right after 6.
 
      1  book shorter than 12 or longer than 40,000 bytes
      2  letters not WBK1
@@ -96,7 +103,8 @@ the last of a sheet's own, right after 17, and 49 to 51 come before all others.
     33  boats or columns not those of the book
     34  verdict outside 1 to 3, or steps used 0 or above those that may be taken
     35  back 0, no multiple of 4, above 4 * boats, or before the first byte
-    36  boats not strictly ascending, a boat not in the book, or a share of 0
+    36  boats not strictly ascending, a boat not in the book or not released, or
+        a share of 0
     37  more boats than steps used, or shares not totalling W
     38  E, G or the verdict not true of the shares, by the test of the letters
     39  tolerance not that of the sheet
@@ -111,6 +119,7 @@ the last of a sheet's own, right after 17, and 49 to 51 come before all others.
     50  of a lent table: a share that is 0, or whose square is above twice the
         running total with it
     51  of a lent table: a total above 64,980
+    52  a released set that is empty or names a boat the book does not have
     55  columns of two books that differ
     56  a merged book of more than 256 boats
     57  book buffer shorter than the merged book
@@ -257,13 +266,26 @@ def table_refusal(table) -> int:
     return 0
 
 
-def files_refusal(book: bytes, sheet: bytes, table=None) -> int:
-    """The refusal of a table, a book and a sheet together, the table's checks first, then the book's."""
+def released_boats(released, boats):
+    """The numbers of the boats that may be used, ascending; all where no set is given."""
+    if released is None:
+        return list(range(boats))
+    return [8 * k + b for k, byte in enumerate(released) for b in range(8) if byte >> b & 1]
+
+
+def set_refusal(released, boats) -> int:
+    """The refusal of a released set for a book of so many boats, 0 if it is accepted or none is given."""
+    members = released_boats(released, boats)
+    return 52 if not members or members[-1] >= boats else 0
+
+
+def files_refusal(book: bytes, sheet: bytes, table=None, released=None) -> int:
+    """The refusal of a table, a book, a released set and a sheet together, in this order."""
     refusal = table_refusal(table) or book_refusal(book)
     if refusal:
         return refusal
-    (_, _, columns, _), _ = split(book, BOOK_TRAILER)
-    return sheet_refusal(sheet, columns)
+    (_, boats, columns, _), _ = split(book, BOOK_TRAILER)
+    return set_refusal(released, boats) or sheet_refusal(sheet, columns)
 
 
 def read_book(book: bytes) -> list[list[int]]:
@@ -466,55 +488,64 @@ def run(rows, target, steps, tolerance, factors=None, test=sharper_test, choose=
     return answer, [whole(weight * answer.weight) for weight in weights]
 
 
+def run_of(rows, sheet, table=None, released=None):
+    """Answer and shares, one a boat of the book, of the search among the released boats."""
+    members = released_boats(released, len(rows))
+    answer, found = run([rows[boat] for boat in members], *read_sheet(sheet), table=table)
+    shares = dict(zip(members, found))
+    return answer, [shares.get(boat, 0) for boat in range(len(rows))]
+
+
 # ---------------------------------------------------------------- the calls
 
 
-def search(book: bytes, sheet: bytes, slots: list[int], table=None):
+def search(book: bytes, sheet: bytes, slots: list[int], table=None, released=None):
     """Refusal, answer (None if refused) and the share list afterwards."""
-    refusal = files_refusal(book, sheet, table)
+    refusal = files_refusal(book, sheet, table, released)
     if refusal:
         return refusal, None, list(slots)
     rows = read_book(book)
     if len(slots) < len(rows):
         return 21, None, list(slots)
-    answer, shares = run(rows, *read_sheet(sheet), table=table)
+    answer, shares = run_of(rows, sheet, table, released)
     return 0, answer, shares + list(slots[len(rows):])
 
 
-def write_card(book: bytes, sheet: bytes, buffer: bytes, table=None):
+def write_card(book: bytes, sheet: bytes, buffer: bytes, table=None, released=None):
     """Refusal, answer, number of bytes written and the buffer afterwards."""
-    refusal = files_refusal(book, sheet, table)
+    refusal = files_refusal(book, sheet, table, released)
     if refusal:
         return refusal, None, 0, bytes(buffer)
     rows = read_book(book)
-    target, steps, tolerance, factors = read_sheet(sheet)
-    answer, shares = run(rows, target, steps, tolerance, factors, table=table)
+    target, _, tolerance, _ = read_sheet(sheet)
+    answer, shares = run_of(rows, sheet, table, released)
     card = card_bytes(answer, shares, tolerance, len(rows), len(target))
     if len(buffer) < len(card):
         return 22, None, 0, bytes(buffer)
     return 0, answer, len(card), card + bytes(buffer[len(card):])
 
 
-def check_card(book: bytes, sheet: bytes, card: bytes, slots: list[int], table=None):
+def check_card(book: bytes, sheet: bytes, card: bytes, slots: list[int], table=None, released=None):
     """Refusal, the card's answer and the share list afterwards.
 
     The point is formed anew from the card's shares; no search is made.
     """
-    refusal = files_refusal(book, sheet, table)
+    refusal = files_refusal(book, sheet, table, released)
     if refusal:
         return refusal, None, list(slots)
     rows = read_book(book)
     if len(slots) < len(rows):
         return 21, None, list(slots)
-    refusal, answer, shares = judge_card(rows, *read_sheet(sheet), card, table)
+    refusal, answer, shares = judge_card(rows, *read_sheet(sheet), card, table, released)
     if refusal:
         return refusal, None, list(slots)
     return 0, answer, shares + list(slots[len(rows):])
 
 
-def judge_card(rows, target, steps, tolerance, factors, card, table=None):
+def judge_card(rows, target, steps, tolerance, factors, card, table=None, released=None):
     """Checks 31 to 39: refusal, answer and shares of a card."""
     most = steps_allowed(steps, table)
+    members = released_boats(released, len(rows))
     if len(card) < CARD_TRAILER.size or len(card) > MOST_BYTES:
         return 31, None, None
     fields, before = split(card, CARD_TRAILER)
@@ -530,7 +561,7 @@ def judge_card(rows, target, steps, tolerance, factors, card, table=None):
     entries = list(struct.iter_unpack("<HH", before[len(before) - back:]))
     last = -1
     for boat, share in entries:
-        if boat <= last or boat >= boats or share == 0:
+        if boat <= last or boat not in members or share == 0:
             return 36, None, None
         last = boat
     w = total_of_steps(t, table)
@@ -541,7 +572,7 @@ def judge_card(rows, target, steps, tolerance, factors, card, table=None):
     for boat, share in entries:
         weight = Fraction(share, w)
         point = [x + weight * value for x, value in zip(point, rows[boat])]
-    squared_distance, duality_gap, _ = measure(point, rows, target, factors)
+    squared_distance, duality_gap, _ = measure(point, [rows[boat] for boat in members], target, factors)
     # 0 where no verdict is due yet; it then differs from every card's verdict.
     true_verdict = judge(squared_distance, duality_gap, tolerance, t, most, TESTS[letters])
     if (squared_distance * w * w != distance or duality_gap * w * w != gap
@@ -856,6 +887,14 @@ def make_sheet(target, steps: int, tolerance: int, front: bytes = b"", back=None
         steps, tolerance, letters)
 
 
+def make_set(boats) -> bytes:
+    """The released set of these boats."""
+    released = bytearray(32)
+    for boat in boats:
+        released[boat // 8] |= 1 << boat % 8
+    return bytes(released)
+
+
 def make_card(entries, verdict: int, steps: int, tolerance: int, distance: int,
               gap: int, boats: int, columns: int, front: bytes = b"", back=None,
               letters: bytes = b"WCD2") -> bytes:
@@ -867,13 +906,14 @@ def make_card(entries, verdict: int, steps: int, tolerance: int, distance: int,
 
 
 def true_card(book: bytes, sheet: bytes, shares, steps: int, front: bytes = b"",
-              letters: bytes = b"WCD2", table=None) -> bytes:
+              letters: bytes = b"WCD2", table=None, released=None) -> bytes:
     """The card of these shares with the E, G and verdict that are true of them by the test of the letters; Spent where none is due yet."""
     rows = read_book(book)
+    members = released_boats(released, len(rows))
     target, asked, tolerance, factors = read_sheet(sheet)
     w, most = total_of_steps(steps, table), steps_allowed(asked, table)
     point = [Fraction(dot(shares, column), w) for column in zip(*rows)]
-    squared_distance, duality_gap, _ = measure(point, rows, target, factors)
+    squared_distance, duality_gap, _ = measure(point, [rows[boat] for boat in members], target, factors)
     verdict = judge(squared_distance, duality_gap, tolerance, steps, most, TESTS[letters]) or SPENT
     answer = answer_of(steps, squared_distance, duality_gap, verdict, tolerance, table)
     entries = [(boat, share) for boat, share in enumerate(shares) if share]

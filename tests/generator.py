@@ -157,6 +157,40 @@ def draw_table(draws, choices):
     return table
 
 
+def with_bit(byte, bit):
+    """The byte with a bit set."""
+    return byte if byte >> bit & 1 else byte + (1 << bit)
+
+
+def draw_set(draws, boats):
+    """A released set, 32 bytes: one boat, all, the last, drawn ones, drawn ones with one of the book or with one it does not have, or none."""
+    kind = draws.draw(8)
+    chosen = draws.draw(boats)
+    if kind == 2:
+        chosen = boats - 1
+    if kind == 5:
+        chosen = boats + chosen % 8
+    released = []
+    for k in range(32):
+        inside = 1 << min(max(boats - 8 * k, 0), 8)
+        x = draws.draw(256)
+        byte = {1: inside - 1, 3: x % inside, 4: x % inside, 5: x % inside, 7: x % inside}.get(kind, 0)
+        if kind in (0, 2, 4, 5) and chosen // 8 == k:
+            byte = with_bit(byte, chosen % 8)
+        released.append(byte)
+    return bytes(released)
+
+
+def other_book(draws, plan, book, rows, released):
+    """The book with other rows for the boats that are not released."""
+    width = 2 * plan.columns
+    for boat in range(plan.boats):
+        if not released[boat // 8] >> boat % 8 & 1:
+            at = rows + width * boat
+            book = with_bytes(book, at, row_bytes(draw_row(draws, plan.columns, plan.scale)))
+    return book
+
+
 def draw_mirrored(draws):
     """A book of small values, about one in three of its rows a row before it with one value negated,
     a target whose first values are 0, and steps: equal scores of different rows are common.

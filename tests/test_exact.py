@@ -968,6 +968,167 @@ def drawn_sheets_with_tables():
     agree("wrong tables change enough", [n >= 40 for n in differ], [True] * len(differ))
 
 
+# ---- a released set
+
+# name, rows, target, factors, table, released boats, tolerance, steps, verdict, t, W, shares, E, G, carried; r is y - W u
+RELEASED = [
+    # Boats 1 and 2. The start is boat 1: r = (3, -1), scores 12, -4: boat 2 gets 1, where the whole book starts at boat 0 and takes boat 1. Then
+    # r = (-1, 3), E = 10, scores -4, 12, G = 12 + 4. Boat 1 gets 2: W = 3, y = (8, 4), r = (5, 1), E = 26, scores 20, 4: G = 44 - 3 * 4, where boat 0
+    # with the score 0 would make it 44.
+    ("two of three", P, (1, 1), None, None, (1, 2), 1, 2, 3, 2, 3, [0, 2, 1], 26, 32, 17),
+    # Boat 0 alone: r = (-1, -1), E = 2, G = 0, and 2 * 2 > 1 * 2. The whole book is Within.
+    ("the first", P, (1, 1), None, None, (0,), 1, 9, 2, 1, 1, [1, 0, 0], 2, 0, 2),
+    # Boat 2 alone: r = (-1, 3).
+    ("the last", P, (1, 1), None, None, (2,), 10, 9, 1, 1, 1, [0, 0, 1], 10, 0, None),
+    # With a table: boat 2 gets 2, W = 2, y = (0, 8), r = (-2, 6), scores -8, 24. Boat 1 gets 1: W = 3, y = (4, 8), r = (1, 5), E = 26, scores 4, 20,
+    # G = 44 - 3 * 4.
+    ("with a table", P, (1, 1), None, [2, 1], (1, 2), 2, 9, 3, 2, 3, [0, 1, 2], 26, 32, 8),
+    # With the factors 1 2: r' = (-1, -2), scores 0, -4: boat 1. r = (3, -1), r' = (3, -2), E = 11, scores 0, 12, G = 12. Boat 0 gets 2: W = 3,
+    # y = (4, 0), r = (1, -3), r' = (1, -6), E = 19, scores 0, 4, G = 4. The limit is 9: 15 * 15 > 9 * 19, and the floor is 19 - 8.
+    ("with factors", P, (1, 1), (1, 2), None, (0, 1), 1, 2, 2, 2, 3, [2, 1, 0], 19, 4, 11),
+    # All boats: sheet a.
+    ("all", P, (1, 1), None, None, (0, 1, 2), 1, 9, 1, 3, 6, [3, 1, 2], 8, 56, None),
+    # Boat 9 is bit 1 of byte 1; of equal rows the lowest that is released.
+    ("bit 1 of byte 1", [(i,) for i in range(10)], (9,), None, None, (9,), 0, 9, 1, 1, 1, [0] * 9 + [1], 0, 0, None),
+    ("equal rows", [(5,)] * 10, (5,), None, None, (3, 8), 0, 9, 1, 1, 1, [0, 0, 0, 1, 0, 0, 0, 0, 0, 0], 0, 0, None),
+]
+
+
+def released_sheets():
+    """The runs worked out above through every call, the set's bytes, 52 and where it stands in the order, and 36."""
+    for name, rows, target, factors, table, boats, tolerance, steps, verdict, t, w, shares, e, g, carried in RELEASED:
+        book, sheet, released = make_book(rows), make_sheet(target, steps, tolerance, factors=factors), exact.make_set(boats)
+        wanted = exact.Answer(t, w, e, g, verdict, carried)
+        agree("set, %s, search" % name, exact.search(book, sheet, [7] * 12, table, released), (0, wanted, shares + [7] * (12 - len(rows))))
+        card = make_card([(boat, s) for boat, s in enumerate(shares) if s], verdict, t, tolerance, e, g, len(rows), len(target))
+        agree("set, %s, writer" % name, exact.write_card(book, sheet, b"w" * 60, table, released), (0, wanted, len(card), card.ljust(60, b"w")))
+        agree("set, %s, check" % name, exact.check_card(book, sheet, b"front" + card, [7] * len(rows), table, released), (0, wanted, shares))
+        agree("set, %s, made anew" % name, exact.true_card(book, sheet, shares, t, table=table, released=released), card)
+    agree("bytes of sets", (exact.make_set((0, 9, 255)), exact.released_boats(exact.make_set((0, 9, 255)), 3)),
+          (bytes([1, 2] + [0] * 29 + [128]), [0, 9, 255]))
+    for boats, refusal in (((), 52), ((0,), 0), ((2,), 0), ((3,), 52), ((0, 1, 2), 0), ((0, 1, 2, 3), 52), ((0, 8), 52), ((255,), 52), (range(256), 52)):
+        released, label = exact.make_set(boats), "set %s" % list(boats)[:4]
+        agree(label, exact.set_refusal(released, 3), refusal)
+        agree(label + ", search", exact.search(BOOK_A, make_sheet((1, 1), 9, 100), [7] * 3, None, released)[0], refusal)
+        # After the table's and the book's numbers; before the sheet's, the share list's, the buffer's and the card's.
+        agree(label + ", no book", exact.search(b"", b"", [], None, released)[0], 1)
+        agree(label + ", no table", exact.search(BOOK_A, b"", [], [], released)[0], 49)
+        agree(label + ", no sheet", exact.search(BOOK_A, b"", [], None, released), (refusal or 11, None, []))
+        agree(label + ", no room", exact.write_card(BOOK_A, make_sheet((1, 1), 9, 100), b"", None, released)[0], refusal or 22)
+        agree(label + ", no slots", exact.check_card(BOOK_A, SHEET_A, b"", [], None, released)[0], refusal or 21)
+        agree(label + ", no card", exact.check_card(BOOK_A, SHEET_A, b"", [7] * 3, None, released)[0], refusal or 31)
+    agree("256 boats", exact.search(make_book([(0,)] * 256), make_sheet((0,), 1, 0), [7] * 256, None, b"\xff" * 32)[::2], (0, [1] + [0] * 255))
+    # Cards under a set: a boat that is not released, G of the whole book, counts of the whole book.
+    sheet, two = make_sheet((1, 1), 2, 1), exact.make_set((1, 2))
+    for label, card, wanted in (
+            ("true", make_card([(1, 2), (2, 1)], 3, 2, 1, 26, 32, 3, 2), 0), ("G of the book", make_card([(1, 2), (2, 1)], 3, 2, 1, 26, 44, 3, 2), 38),
+            ("boat 0", make_card([(0, 1), (1, 2)], 3, 2, 1, 26, 32, 3, 2), 36), ("boat 0 and no share", make_card([(0, 0), (1, 3)], 3, 2, 1, 26, 32, 3, 2), 36),
+            ("boat 3", make_card([(1, 2), (3, 1)], 3, 2, 1, 26, 32, 3, 2), 36), ("2 boats", make_card([(1, 2), (2, 1)], 3, 2, 1, 26, 32, 2, 2), 33),
+            ("numbered anew", make_card([(0, 2), (1, 1)], 3, 2, 1, 26, 32, 3, 2), 36), ("back 12", make_card([(1, 1), (2, 1), (2, 1)], 3, 2, 1, 26, 32, 3, 2), 36),
+            ("back 16", make_card([(1, 1), (2, 1), (2, 1), (2, 1)], 3, 2, 1, 26, 32, 3, 2), 35), ("0 shares too few", make_card([(1, 2)], 3, 2, 1, 26, 32, 3, 2), 37)):
+        agree("card under two boats, %s" % label, exact.check_card(BOOK_A, sheet, card, [7] * 3, None, two)[0], wanted)
+    agree("D^2", [exact.squared_diameter([P[boat] for boat in boats], (1, 2)) for boats in ((0, 1), (0, 1, 2), (2,))], [16, 48, 0])
+
+
+def released_books():
+    """Drawn runs with sets: as the search of a book of the released rows alone, against the bounds, and apart from all other rows."""
+    draw = random.Random(29)
+    verdicts, changed, unlike, refused = {1: 0, 2: 0, 3: 0}, 0, 0, 0
+    for number in range(300):
+        boats, columns, reach = draw.choice((1, 3, 6, 12, 20)), draw.randint(1, 4), draw.choice((2, 10, 2000))
+        rows = [[draw.randint(-reach, reach) for _ in range(columns)] for _ in range(boats)]
+        members = sorted(draw.sample(range(boats), draw.randint(1, boats)))
+        released = exact.make_set(members)
+        target = [sum(rows[i][j] for i in members) // len(members) for j in range(columns)] if draw.random() < 0.6 else \
+            [draw.randint(-reach, reach) for _ in range(columns)]
+        steps, tolerance, factors = draw.randint(1, 12), draw.choice((0, 0, 1, reach)), draw.choice((None, drawn_factors(draw, columns)))
+        table = draw.choice((None, drawn_table(draw, 12)))
+        book, sheet = make_book(rows), make_sheet(target, steps, tolerance, factors=factors)
+        label = "book %d with a set" % number
+        refusal, answer, slots = exact.search(book, sheet, [7] * (boats + 1), table, released)
+        small = make_book([rows[i] for i in members])
+        own = exact.search(small, sheet, [7] * len(members), table)
+        agree(label + ", the rows alone", (refusal, answer, [slots[i] for i in members]), own)
+        agree(label + ", no other boat", [slots[i] for i in range(boats) if i not in members], [0] * (boats - len(members)))
+        agree(label + ", later slots", slots[boats:], [7])
+        verdicts[answer.verdict] += 1
+        unlike += answer != exact.search(book, sheet, [7] * boats, table)[1]
+        distance, gap = plain_measure([rows[i] for i in members], own[2], target, factors)
+        best = min(plain_measure(rows, [int(i == j) for i in range(boats)], target, factors)[0] for j in members)
+        spread = exact.squared_diameter([rows[i] for i in members], factors)
+        agree(label + ", bounds", distance - best <= min(exact.step_bound(answer.steps, spread, table), 2 * gap), True)
+        # All boats released is no set; the bits of a set that is not given are not looked at.
+        agree(label + ", all", exact.search(book, sheet, [7] * boats, table, exact.make_set(range(boats))), exact.search(book, sheet, [7] * boats, table))
+        # Other rows for the other boats: the same answer, slots and card, the same number of a card that is refused.
+        others = [row if i in members else [draw.randint(-2000, 2000) for _ in range(columns)] for i, row in enumerate(rows)]
+        other = make_book(others, front=b"another")
+        changed += others != rows
+        agree(label + ", apart, search", exact.search(other, sheet, [7] * (boats + 1), table, released), (refusal, answer, slots))
+        refusal, _, size, buffer = written = exact.write_card(book, sheet, b"w" * 100, table, released)
+        agree(label + ", apart, writer", exact.write_card(other, sheet, b"w" * 100, table, released), written)
+        card = buffer[:size]
+        agree(label + ", card", exact.check_card(book, sheet, card, [7] * boats, table, released), (0, answer, slots[:boats]))
+        # The card of the whole book may rest on other boats, and is then refused by 36 with either book.
+        _, _, size, buffer = exact.write_card(book, sheet, bytes(100), table)
+        whole = exact.check_card(book, sheet, buffer[:size], [7] * boats, table, released)
+        resting = {boat for boat, _ in struct.iter_unpack("<HH", buffer[:size - 36])}
+        agree(label + ", 36", whole[0] == 36, not resting <= set(members))
+        refused += whole[0] == 36
+        agree(label + ", apart, the whole book's card", exact.check_card(other, sheet, buffer[:size], [7] * boats, table, released), whole)
+        for file in (card, card[:-1], make_card([(boats - 1, 1)], 1, 1, tolerance, 0, 0, boats, columns)):
+            agree(label + ", apart, check", exact.check_card(other, sheet, file, [7] * boats, table, released),
+                  exact.check_card(book, sheet, file, [7] * boats, table, released))
+    agree("every verdict with sets", min(verdicts.values()) > 5, True)
+    agree("sets change the answer often, other rows were there, and cards rested on them", (unlike > 100, changed > 100, refused > 50), (True, True, True))
+
+
+# Wrong ways to take a set, each of which changes many of the drawn searches: where to start, whom to score for the pick and for G, and the bits.
+def reversed_bits(released):
+    return bytes(int("{:08b}".format(byte)[::-1], 2) for byte in released)
+
+
+def in_sets(rows, target, steps, members, start, scored, in_gap):
+    """Shares, E and G after so many steps, in whole numbers, of a search that starts at one boat, picks among some boats and takes G over others."""
+    shares, slope, w = [0] * len(rows), [a - u for a, u in zip(rows[start], target)], 0
+    for k in range(1, steps + 1):
+        scores = {i: sum(a * b for a, b in zip(slope, rows[i])) for i in scored}
+        least = min(scores.values())
+        shares[first_that_holds([i for i in scored if scores[i] == least], shares, None)] += k
+        w += k
+        y = [sum(s * row[j] for s, row in zip(shares, rows)) for j in range(len(target))]
+        slope = [a - w * u for a, u in zip(y, target)]
+    e = sum(a * a for a in slope)
+    return shares, e, max(sum(a * (b - w * v) for a, b, v in zip(slope, y, rows[i])) for i in in_gap)
+
+
+def drawn_sheets_with_sets():
+    """Sets drawn as test_factor draws them tell a set from wrong ones; and what draw_set gives meets the limits."""
+    draws, draw = generator.Draws(29), random.Random(9)
+    met, differ = [], [0] * 5
+    for number in range(600):
+        boats = (1, 3, 8, 9, 20, 255, 256)[number % 7]
+        released = generator.draw_set(draws, boats)
+        members = exact.released_boats(released, boats)
+        refusal = exact.set_refusal(released, boats)
+        met += [(refusal, len(members) == 0), ("one", len(members) == 1), ("all", members == list(range(boats))), ("last", members == [boats - 1])]
+        if refusal or boats > 20:
+            continue
+        columns, every = draw.randint(1, 3), list(range(boats))
+        rows = [[draw.randint(-20, 20) for _ in range(columns)] for _ in range(boats)]
+        target, steps = [sum(column) // boats for column in zip(*rows)], draw.randint(1, 6)
+        _, answer, shares = exact.search(make_book(rows), make_sheet(target, steps, 0), [0] * boats, None, released)
+        right, t = (shares, answer.distance, answer.gap), answer.steps
+        agree("drawn set %d, in whole numbers" % number, right, in_sets(rows, target, t, members, members[0], members, members))
+        ways = [(0, members, members), (members[0], members, every), (members[0], every, members), (0, every, every)]
+        for i, (start, scored, in_gap) in enumerate(ways):
+            differ[i] += right != in_sets(rows, target, t, members, start, scored, in_gap)
+        differ[4] += (0, *right) != (lambda r, a, s: (r, s, a and a.distance, a and a.gap))(
+            *exact.search(make_book(rows), make_sheet(target, steps, 0), [0] * boats, None, reversed_bits(released)))
+    for outcome in ((52, True), (52, False), (0, False), ("one", True), ("all", True), ("last", True)):
+        agree("drawn sets meet %s" % (outcome,), met.count(outcome) >= 10, True)
+    agree("wrong sets change enough", [n >= 30 for n in differ], [True] * len(differ))
+
+
 def ties_and_start():
     """Equal scores take the lowest boat that holds shares; step 1 starts from boat 0's row."""
     # At (0, 0) with target (1, 1), boats 1 and 2 have equal scores.
@@ -1345,6 +1506,9 @@ def main():
                  two_tests, editions, filed_before, two_faults, ties_and_start, drawn_ties, random_books, factored_sheets, factored_cards, factored_books,
                  drawn_sheets_with_factors, tabled_sheets, tabled_cards, tabled_books, drawn_sheets_with_tables, full_size, damaged_files,
                  from_a_shell, whole_numbers, scale_cells, subtractions, gap_bounds, better_of_two, other_editions, one_book_from_two, boats_leaned_on):
+                 drawn_sheets_with_factors, tabled_sheets, tabled_cards, tabled_books, drawn_sheets_with_tables, released_sheets, released_books,
+                 drawn_sheets_with_sets, full_size, damaged_files,
+                 from_a_shell, whole_numbers, scale_cells, subtractions, gap_bounds, better_of_two, other_editions, one_book_from_two):
         part()
     if differences:
         print("exact.py: %d of %d checks differ" % (differences, checks))
