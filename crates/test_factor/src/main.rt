@@ -1,10 +1,11 @@
 // Drawn fleet books with three sheets each, one without factors and two with drawn ones: searched, their cards written and checked by
-// all three, the better of two chosen, a sheet searched and checked with drawn tables of shares, and a sheet damaged. Small books, some of
-// 64 columns, one of full size, and some of 360 steps. Before them, tables written by hand.
+// all three, the better of two chosen, a sheet searched and checked with drawn tables of shares and released sets, and a sheet damaged. Small
+// books, some of 64 columns, one of full size, some of 360 steps, and some of up to 40 boats. Before them, tables and sets written by hand.
 // The expected output is made by tests/expected/test_factor.py.
 mod factored;
 mod lent;
 mod marked;
+mod sets;
 mod tables;
 
 use method::Answer;
@@ -115,14 +116,38 @@ fn put_tolerance(sheet: &mut [u8], end: usize, tolerance: u64) {
     test_buffers::put_number(sheet, less(end, 8), tolerance, 4);
 }
 
-// Lists the sheet that ends at `end`, damaged.
-fn damaged(book: &[u8], sheet: &mut [u8], end: usize, seed: &mut u64) {
-    let part = test_samples::damage(sheet, end, seed);
-    found(book, between(sheet, part.start, part.end));
+// Lists a sheet, damaged.
+fn damaged(book: &[u8], sheet: &[u8], seed: &mut u64) {
+    let mut changed = [0u8; 256];
+    let end = test_buffers::put_bytes(&mut changed, 0, sheet);
+    let part = test_samples::damage(&mut changed, end, seed);
+    found(book, between(&changed, part.start, part.end));
 }
 
-// A sheet with two drawn tables of shares.
-fn with_tables(book: &[u8], sheet: &[u8], seed: &mut u64, plan: Plan, choices: u64) {
+// A sheet with a table and two drawn released sets, then a book with other rows for the boats that are not released.
+fn with_sets(book: &[u8], sheet: &[u8], seed: &mut u64, plan: Plan, rows: usize, table: &[u16]) {
+    let mut other = [0u8; 40001];
+    let boats = (plan.boats % 65536) as usize;
+    let set = sets::draw_set(seed, boats);
+    let another = sets::draw_set(seed, boats);
+    let lent = test_samples::draw(seed, 2) == 0;
+    let end = test_buffers::put_bytes(&mut other, 0, book);
+    sets::put_others(&mut other, seed, plan, rows, set);
+    lent::among(book, book, sheet, set, another, lent, table, boats);
+    lent::among(
+        between(&other, 0, end),
+        book,
+        sheet,
+        set,
+        another,
+        lent,
+        table,
+        boats,
+    );
+}
+
+// A sheet with two drawn tables of shares, and one of them with released sets.
+fn with_terms(book: &[u8], sheet: &[u8], seed: &mut u64, plan: Plan, rows: usize, choices: u64) {
     let mut table = [0u16; 361];
     let mut other = [0u16; 361];
     let n = tables::put_table(&mut table, seed, choices);
@@ -136,10 +161,28 @@ fn with_tables(book: &[u8], sheet: &[u8], seed: &mut u64, plan: Plan, choices: u
         tables::first(&other, m),
         boats,
     );
+    with_sets(book, sheet, seed, plan, rows, tables::first(&table, n));
+}
+
+// A sheet without factors and two with them: everything that is done with one of these two.
+fn tried(
+    book: &[u8],
+    plain: &[u8],
+    sheet: &[u8],
+    other: &[u8],
+    seed: &mut u64,
+    plan: Plan,
+    rows: usize,
+    choices: u64,
+) {
+    found(book, sheet);
+    cards(book, plain, sheet, other);
+    with_terms(book, sheet, seed, plan, rows, choices);
+    damaged(book, sheet, seed);
 }
 
 // A book, and its sheet without factors and of tolerance 0: two sheets with factors are made of it, and all three get a tolerance.
-fn sheets(book: &[u8], bare: &[u8], seed: &mut u64, plan: Plan, choices: u64) {
+fn sheets(book: &[u8], bare: &[u8], seed: &mut u64, plan: Plan, rows: usize, choices: u64) {
     let mut plain = [0u8; 256];
     let mut sheet = [0u8; 256];
     let mut other = [0u8; 256];
@@ -150,15 +193,16 @@ fn sheets(book: &[u8], bare: &[u8], seed: &mut u64, plan: Plan, choices: u64) {
     put_tolerance(&mut plain, m, tolerance);
     put_tolerance(&mut sheet, n, tolerance);
     put_tolerance(&mut other, k, tolerance);
-    found(book, between(&sheet, 0, n));
-    cards(
+    tried(
         book,
         between(&plain, 0, m),
         between(&sheet, 0, n),
         between(&other, 0, k),
+        seed,
+        plan,
+        rows,
+        choices,
     );
-    with_tables(book, between(&sheet, 0, n), seed, plan, choices);
-    damaged(book, &mut sheet, n, seed);
 }
 
 // One drawn case; the tables have as many shares as one of `choices` says.
@@ -175,6 +219,7 @@ fn one(seed: &mut u64, number: u64, plan: Plan, choices: u64) {
         between(&plain, 0, m),
         seed,
         plan,
+        rows,
         choices,
     );
 }
@@ -200,6 +245,23 @@ fn wide_cases(seed: &mut u64) {
     one(seed, number, wide(256, 2000, 12), 20);
 }
 
+// Books of 9 to 40 boats, whose sets have more than one byte.
+fn larger_cases(seed: &mut u64) {
+    let mut number = 0;
+    while number < 40 {
+        let boats = test_samples::draw(seed, 32) % 32 + 9;
+        let plan = Plan {
+            boats,
+            columns: 2,
+            scale: 200,
+            steps: 9,
+            front: 2,
+        };
+        one(seed, number, plan, 20);
+        number += 1;
+    }
+}
+
 // Sheets of 360 steps with long tables.
 fn long_cases(seed: &mut u64) {
     let mut number = 0;
@@ -220,11 +282,12 @@ fn main() {
     marked::marked();
     let mut seed = 25;
     let mut number = 0;
-    while number < 1000 {
+    while number < 700 {
         let plan = test_samples::draw_plan(&mut seed);
         one(&mut seed, number, plan, 20);
         number += 1;
     }
     wide_cases(&mut seed);
+    larger_cases(&mut seed);
     long_cases(&mut seed);
 }

@@ -1,6 +1,7 @@
-// Runs with tables of shares that tests/test_exact.py works out by hand, and each refusal of a table beside its neighbours, on boats (0,0), (4,0)
-// and (0,4).
+// Runs with tables of shares and released sets that tests/test_exact.py works out by hand, and each refusal of a table and of a set beside its
+// neighbours, on boats (0,0), (4,0) and (0,4).
 use crate::tables::first;
+use method::Released;
 use test_buffers::between;
 use test_buffers::less;
 use test_buffers::put_number;
@@ -73,6 +74,46 @@ fn long(name: &[u8], kind: u64, count: usize) {
     case(name, &table, count, 1, 9, 1);
 }
 
+// The sheet of target (1,1) with a set whose bytes are zeros but for one, with no table or the table 2 1.
+fn case_among(name: &[u8], k: usize, byte: u8, lent: bool, steps: u64, tolerance: u64) {
+    let mut book = [0u8; 64];
+    let mut sheet = [0u8; 64];
+    let table = [2u16, 1];
+    let n = put_book(&mut book);
+    let m = put_sheet(&mut sheet, 1, steps, tolerance);
+    let mut boats = [0u8; 32];
+    boats[k % 32] = byte;
+    let all = between(&book, 0, n);
+    let set = Released {
+        limited: true,
+        boats,
+    };
+    test_printing::title(name);
+    crate::lent::among(
+        all,
+        all,
+        between(&sheet, 0, m),
+        set,
+        crate::lent::none(),
+        lent,
+        &table,
+        3,
+    );
+}
+
+// Sets of one byte that is not 0.
+fn sets() {
+    case_among(b"boats 1 and 2", 0, 6, false, 2, 1);
+    case_among(b"boats 1 and 2, table 2 1", 0, 6, true, 9, 2);
+    case_among(b"boat 0", 0, 1, false, 9, 1);
+    case_among(b"boat 2", 0, 4, false, 9, 10);
+    case_among(b"all boats", 0, 7, false, 9, 1);
+    case_among(b"no boat", 0, 0, false, 9, 1);
+    case_among(b"boats 2 and 3", 0, 12, false, 9, 1);
+    case_among(b"boat 8", 1, 1, false, 9, 1);
+    case_among(b"boat 255", 31, 128, false, 9, 1);
+}
+
 // All of them.
 pub fn marked() {
     runs();
@@ -83,4 +124,5 @@ pub fn marked() {
     long(b"table of 2 and 2 to 360", 7, 360);
     long(b"table of 2 to 360", 3, 359);
     long(b"table of 2 to 361", 3, 360);
+    sets();
 }
