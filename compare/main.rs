@@ -1,6 +1,6 @@
 //! The volume comparison: random and damaged files through the exported functions of the library and through the reference
 //! implementation in reference.rs. Replies, share lists, cards, listings and what must stay untouched are compared bit for bit;
-//! terms.rs has the calls that also take a table of shares; cells.rs does the same of scale cells, pairs.rs of two cards, editions.rs of
+//! terms.rs has the calls that also take a released set and a table of shares; cells.rs does the same of scale cells, pairs.rs of two cards, editions.rs of
 //! a sheet's other edition, merges.rs of two books.
 //!
 //! Use: compare [COUNT [SEED]]. The last line has the count; the exit status is 1 where a case differs, and the case is printed.
@@ -409,12 +409,12 @@ fn damage_card(rng: &mut Random, file: &mut Vec<u8>, boats: usize) {
 
 /// A fleet book and a sheet, one in three of them damaged.
 fn files(rng: &mut Random) -> (Vec<u8>, Vec<u8>) {
-    files_for(rng, Handed::default())
+    let size = sizes(rng);
+    files_for(rng, size, Handed::default())
 }
 
-/// The same for a call that is handed something beside them.
-fn files_for(rng: &mut Random, handed: Handed) -> (Vec<u8>, Vec<u8>) {
-    let (boats, columns, steps) = sizes(rng);
+/// The same of some size, for a call that is handed something beside them.
+fn files_for(rng: &mut Random, (boats, columns, steps): (usize, usize, u16), handed: Handed) -> (Vec<u8>, Vec<u8>) {
     let rows = rows(rng, boats, columns);
     let target = target(rng, &rows);
     let factors = factors(rng, columns);
@@ -516,48 +516,75 @@ fn table_bytes(terms: &Option<Terms>) -> Vec<u8> {
     terms.as_ref().map_or(Vec::new(), Terms::bytes)
 }
 
-fn compare_search(rng: &mut Random, terms: Option<Terms>) -> Compared {
-    let (book, sheet) = files_for(rng, handed(&terms));
+/// A call of the library on a book, and, where a set is handed in, on the book with other rows for the boats that are not released, which must
+/// make no difference: the second result where it is another one.
+fn called<T: PartialEq>(rng: &mut Random, terms: &Option<Terms>, book: &[u8], call: impl Fn(&[u8]) -> T) -> T {
+    let given = call(book);
+    match terms.as_ref().and_then(|terms| terms.other_book(rng, book)) {
+        Some(other) => {
+            let again = call(&other);
+            if again == given { given } else { again }
+        }
+        None => given,
+    }
+}
+
+/// With what a caller may hand in beside the files, or plain.
+fn compare_search(rng: &mut Random, with: bool) -> Compared {
+    let size = sizes(rng);
+    let terms = with.then(|| Terms::drawn(rng, size.0));
+    let (book, sheet) = files_for(rng, size, handed(&terms));
     let boats = boats_of(rng, &book);
     let slots = length_near(rng, boats);
     let whole: Vec<u16> = (0..slots + 2 * GUARD).map(|_| rng.next() as u16).collect();
-    let (mut wanted, mut given) = (whole.clone(), whole);
+    let mut wanted = whole.clone();
     let before = (lent("book", &book), lent("sheet", &sheet), lent("table", &table_bytes(&terms)));
     let expected = reply_of(&reference::search(handed(&terms), &book, &sheet, &mut wanted[GUARD..GUARD + slots]));
-    let list = &mut given[GUARD..GUARD + slots];
-    let (call, reply) = match &terms {
-        None => ("search", library_search(&book, &sheet, list)),
-        Some(terms) => ("search_with", terms.search(&book, &sheet, list)),
-    };
+    let given = called(rng, &terms, &book, |book| {
+        let mut given = whole.clone();
+        let list = &mut given[GUARD..GUARD + slots];
+        let reply = match &terms {
+            None => library_search(book, &sheet, list),
+            Some(terms) => terms.search(book, &sheet, list),
+        };
+        (reply, given)
+    });
     let files = [(before.0, &book[..]), (before.1, &sheet[..]), (before.2, &table_bytes(&terms)[..])];
-    compared(call, outcome_name(&expected), &files, (expected, wanted), (reply, given))
+    compared(["search", "search_with"][usize::from(with)], outcome_name(&expected), &files, (expected, wanted), given)
 }
 
-fn compare_write_card(rng: &mut Random, terms: Option<Terms>) -> Compared {
-    let (book, sheet) = files_for(rng, handed(&terms));
+/// With what a caller may hand in beside the files, or plain.
+fn compare_write_card(rng: &mut Random, with: bool) -> Compared {
+    let size = sizes(rng);
+    let terms = with.then(|| Terms::drawn(rng, size.0));
+    let (book, sheet) = files_for(rng, size, handed(&terms));
     let needed = match reference::read_files(handed(&terms), &book, &sheet) {
         Ok(problem) => 36 + 4 * problem.run().1.iter().filter(|q| **q != 0).count(),
         Err(_) => rng.below(60),
     };
     let length = length_near(rng, needed);
     let whole = rng.bytes(length + 2 * GUARD);
-    let (mut wanted, mut given) = (whole.clone(), whole);
+    let mut wanted = whole.clone();
     let before = (lent("book", &book), lent("sheet", &sheet), lent("table", &table_bytes(&terms)));
     let outcome = reference::write_card(handed(&terms), &book, &sheet, &mut wanted[GUARD..GUARD + length]);
-    let output = &mut given[GUARD..GUARD + length];
-    let (call, reply) = match &terms {
-        None => ("write_card", library_write_card(&book, &sheet, output)),
-        Some(terms) => ("write_card_with", terms.write_card(&book, &sheet, output)),
-    };
+    let given = called(rng, &terms, &book, |book| {
+        let mut given = whole.clone();
+        let output = &mut given[GUARD..GUARD + length];
+        let reply = match &terms {
+            None => library_write_card(book, &sheet, output),
+            Some(terms) => terms.write_card(book, &sheet, output),
+        };
+        (reply, given)
+    });
     let expected = CardReply {
         reply: reply_of(&outcome.map(|(answer, _)| answer)),
         bytes: outcome.map_or(0, |(_, bytes)| bytes),
     };
     let files = [(before.0, &book[..]), (before.1, &sheet[..]), (before.2, &table_bytes(&terms)[..])];
-    compared(call, outcome_name(&expected.reply), &files, (expected, wanted), (reply, given))
+    compared(["write_card", "write_card_with"][usize::from(with)], outcome_name(&expected.reply), &files, (expected, wanted), given)
 }
 
-/// Shares of some mixture, not that of a search: the total of t steps, mostly on at most t boats.
+/// Shares of some mixture, not that of a search: the total of t steps, mostly on at most t boats and on those that may be used.
 fn other_shares(rng: &mut Random, problem: &reference::Problem, t: usize) -> Vec<u16> {
     let boats = problem.rows.len();
     let mut left = problem.weight(t) as usize;
@@ -569,7 +596,8 @@ fn other_shares(rng: &mut Random, problem: &reference::Problem, t: usize) -> Vec
         return shares;
     }
     let used = 1 + rng.below(boats.min(t).min(6));
-    let held: Vec<usize> = (0..used).map(|_| rng.below(boats)).collect();
+    let any = problem.usable.len() == boats || rng.one_in(4);
+    let held: Vec<usize> = (0..used).map(|_| if any { rng.below(boats) } else { rng.of(&problem.usable) }).collect();
     for boat in &held {
         let part = rng.below(left + 1);
         shares[*boat] += part as u16;
@@ -609,9 +637,11 @@ fn card_for(rng: &mut Random, problem: &reference::Problem) -> Vec<u8> {
     card
 }
 
-/// A card of the files under what is handed in, or, one in six, under nothing.
-fn compare_check_card(rng: &mut Random, terms: Option<Terms>) -> Compared {
-    let (book, sheet) = files_for(rng, handed(&terms));
+/// With what a caller may hand in beside the files, or plain; the card is of the files under it or, one in six, under nothing.
+fn compare_check_card(rng: &mut Random, with: bool) -> Compared {
+    let size = sizes(rng);
+    let terms = with.then(|| Terms::drawn(rng, size.0));
+    let (book, sheet) = files_for(rng, size, handed(&terms));
     let made = if rng.one_in(6) { Handed::default() } else { handed(&terms) };
     let card = match reference::read_files(made, &book, &sheet) {
         Ok(problem) => card_for(rng, &problem),
@@ -620,17 +650,21 @@ fn compare_check_card(rng: &mut Random, terms: Option<Terms>) -> Compared {
     let boats = boats_of(rng, &book);
     let slots = if rng.one_in(3) { length_near(rng, boats) } else { boats + rng.below(4) };
     let whole: Vec<u16> = (0..slots + 2 * GUARD).map(|_| rng.next() as u16).collect();
-    let (mut wanted, mut given) = (whole.clone(), whole);
+    let mut wanted = whole.clone();
     let before = (lent("book", &book), lent("sheet", &sheet), lent("table", &table_bytes(&terms)), lent("card", &card));
     let expected = reply_of(&reference::check_card(handed(&terms), &book, &sheet, &card, &mut wanted[GUARD..GUARD + slots]));
-    let list = &mut given[GUARD..GUARD + slots];
-    let (call, reply) = match &terms {
-        None => ("check_card", library_check_card(&book, &sheet, &card, list)),
-        Some(terms) => ("check_card_with", terms.check_card(&book, &sheet, &card, list)),
-    };
+    let given = called(rng, &terms, &book, |book| {
+        let mut given = whole.clone();
+        let list = &mut given[GUARD..GUARD + slots];
+        let reply = match &terms {
+            None => library_check_card(book, &sheet, &card, list),
+            Some(terms) => terms.check_card(book, &sheet, &card, list),
+        };
+        (reply, given)
+    });
     let table = table_bytes(&terms);
     let files = [(before.0, &book[..]), (before.1, &sheet[..]), (before.2, &table[..]), (before.3, &card[..])];
-    compared(call, outcome_name(&expected), &files, (expected, wanted), (reply, given))
+    compared(["check_card", "check_card_with"][usize::from(with)], outcome_name(&expected), &files, (expected, wanted), given)
 }
 
 fn compare_listing(rng: &mut Random) -> Compared {
@@ -672,7 +706,7 @@ fn refusals(call: &str) -> Vec<u32> {
         _ => {}
     }
     if call.ends_with("_with") {
-        numbers.extend(49..=51);
+        numbers.extend(49..=52);
     }
     numbers
 }
@@ -705,21 +739,12 @@ fn answers(call: &str) -> &'static [&'static str] {
 
 fn one_case(rng: &mut Random) -> Compared {
     match rng.below(25) {
-        0 | 1 => compare_search(rng, None),
-        2 | 3 => compare_write_card(rng, None),
-        4..=6 => compare_check_card(rng, None),
-        17 | 18 => {
-            let terms = Terms::drawn(rng);
-            compare_search(rng, Some(terms))
-        }
-        19 | 20 => {
-            let terms = Terms::drawn(rng);
-            compare_write_card(rng, Some(terms))
-        }
-        21..=24 => {
-            let terms = Terms::drawn(rng);
-            compare_check_card(rng, Some(terms))
-        }
+        0 | 1 => compare_search(rng, false),
+        2 | 3 => compare_write_card(rng, false),
+        4..=6 => compare_check_card(rng, false),
+        17 | 18 => compare_search(rng, true),
+        19 | 20 => compare_write_card(rng, true),
+        21..=24 => compare_check_card(rng, true),
         7 => compare_listing(rng),
         8 => cells::compare_values(rng),
         9 => cells::compare_sheet(rng),

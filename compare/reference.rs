@@ -69,15 +69,18 @@ pub struct Answer {
     pub verdict: Verdict,
 }
 
-/// What a caller may hand in beside the files: a table of shares.
+/// What a caller may hand in beside the files: a table of shares and a released set.
 #[derive(Clone, Copy, Default)]
 pub struct Handed<'a> {
     pub table: Option<&'a [u16]>,
+    pub released: Option<&'a [u8; 32]>,
 }
 
 /// What an accepted call is about.
 pub struct Problem {
     pub rows: Vec<Vec<i128>>,
+    /// The boats that may be used, ascending.
+    pub usable: Vec<usize>,
     pub target: Vec<i128>,
     pub factors: Vec<i128>,
     /// The shares that the steps give, one a step that may be taken.
@@ -188,6 +191,15 @@ fn read_table(table: &[u16]) -> Result<Vec<u16>, u32> {
     Ok(table.to_vec())
 }
 
+/// The boats of a released set, or the number that refuses it in a book of so many boats.
+fn read_set(released: &[u8; 32], boats: usize) -> Result<Vec<usize>, u32> {
+    let named: Vec<usize> = (0..256).filter(|boat| released[boat / 8] & (1 << (boat % 8)) != 0).collect();
+    if named.is_empty() || named.iter().any(|boat| *boat >= boats) {
+        return Err(52);
+    }
+    Ok(named)
+}
+
 /// The problem of what is handed in and the two files, or the number that refuses them.
 pub fn read_files(handed: Handed, book: &[u8], sheet: &[u8]) -> Result<Problem, u32> {
     let mut schedule = match handed.table {
@@ -195,9 +207,13 @@ pub fn read_files(handed: Handed, book: &[u8], sheet: &[u8]) -> Result<Problem, 
         None => (1..=360).collect(),
     };
     let rows = read_book(book)?;
+    let usable = match handed.released {
+        Some(released) => read_set(released, rows.len())?,
+        None => (0..rows.len()).collect(),
+    };
     let Sheet { target, factors, steps, tolerance } = read_sheet(sheet, rows[0].len())?;
     schedule.truncate(steps);
-    Ok(Problem { rows, target, factors, schedule, tolerance })
+    Ok(Problem { rows, usable, target, factors, schedule, tolerance })
 }
 
 impl Problem {
@@ -235,8 +251,8 @@ impl Problem {
     pub fn distance_and_gap(&self, shares: &[u16]) -> (i128, i128) {
         let total: i128 = shares.iter().map(|q| i128::from(*q)).sum();
         let (y, r) = self.point_and_residual(shares);
-        let gap = self.rows.iter().map(|v| {
-            let direction: Vec<i128> = y.iter().zip(v).map(|(p, x)| p - total * x).collect();
+        let gap = self.usable.iter().map(|boat| {
+            let direction: Vec<i128> = y.iter().zip(&self.rows[*boat]).map(|(p, x)| p - total * x).collect();
             self.inner(&r, &direction)
         });
         (self.inner(&r, &r), gap.max().unwrap())
@@ -244,9 +260,9 @@ impl Problem {
 
     /// Of the boats of least score in some direction the lowest-numbered that holds shares, else the lowest-numbered.
     fn pick(&self, direction: &[i128], shares: &[u16]) -> usize {
-        let scores: Vec<i128> = self.rows.iter().map(|v| self.inner(direction, v)).collect();
-        let least = scores.iter().min().unwrap();
-        let equal: Vec<usize> = (0..scores.len()).filter(|i| scores[*i] == *least).collect();
+        let score = |boat: &usize| self.inner(direction, &self.rows[*boat]);
+        let least = self.usable.iter().map(score).min().unwrap();
+        let equal: Vec<usize> = self.usable.iter().copied().filter(|boat| score(boat) == least).collect();
         let holding = equal.iter().copied().find(|i| shares[*i] > 0);
         if holding.is_some_and(|i| i != equal[0]) {
             TIES.fetch_add(1, Ordering::Relaxed);
@@ -268,10 +284,10 @@ impl Problem {
         }
     }
 
-    /// Step t, counted from 1: the first is scored from boat 0, the others from the residual.
+    /// Step t, counted from 1: the first is scored from the lowest boat that may be used, the others from the residual.
     fn step(&self, t: usize, shares: &mut [u16]) {
         let direction = match t {
-            1 => self.rows[0].iter().zip(&self.target).map(|(x, u)| x - u).collect(),
+            1 => self.rows[self.usable[0]].iter().zip(&self.target).map(|(x, u)| x - u).collect(),
             _ => self.point_and_residual(shares).1,
         };
         let boat = self.pick(&direction, shares);
@@ -372,7 +388,7 @@ impl Problem {
         for pair in body.chunks(4) {
             let boat = unsigned(&pair[..2]) as usize;
             let share = unsigned(&pair[2..]) as u16;
-            if boat < lowest || boat >= shares.len() || share == 0 {
+            if boat < lowest || !self.usable.contains(&boat) || share == 0 {
                 return Err(36);
             }
             shares[boat] = share;

@@ -1,8 +1,8 @@
-//! What a caller may hand in beside the files, drawn, and the calls of the library that take it: a table of shares, which is read only where it
-//! is lent.
+//! What a caller may hand in beside the files, drawn, and the calls of the library that take it: a released set and a table of shares, each read
+//! only where it is said to be there.
 
 use crate::random::Random;
-use crate::reference::Handed;
+use crate::reference::{self, Handed};
 use crate::{CardReply, Reply};
 
 extern "C" {
@@ -11,6 +11,7 @@ extern "C" {
         book_length: usize,
         sheet: *const u8,
         sheet_length: usize,
+        released: Released,
         lent: bool,
         table: *const u16,
         entries: usize,
@@ -22,6 +23,7 @@ extern "C" {
         book_length: usize,
         sheet: *const u8,
         sheet_length: usize,
+        released: Released,
         lent: bool,
         table: *const u16,
         entries: usize,
@@ -33,6 +35,7 @@ extern "C" {
         book_length: usize,
         sheet: *const u8,
         sheet_length: usize,
+        released: Released,
         lent: bool,
         table: *const u16,
         entries: usize,
@@ -43,8 +46,17 @@ extern "C" {
     ) -> Reply;
 }
 
-/// A table, and whether it is lent.
+/// dofitrano_released of include/dofitrano.h: a set of boats, and whether it counts.
+#[repr(C)]
+#[derive(Clone, Copy)]
+struct Released {
+    limited: bool,
+    boats: [u8; 32],
+}
+
+/// A set, a table, and whether the table is lent.
 pub struct Terms {
+    released: Released,
     lent: bool,
     table: Vec<u16>,
 }
@@ -97,15 +109,52 @@ fn table(rng: &mut Random) -> Vec<u16> {
     drawn
 }
 
+/// A set for a book of so many boats, which may have others: all, none, one boat, the last, most, half or few, and one that the book does not have.
+fn set(rng: &mut Random, boats: usize) -> [u8; 32] {
+    let kind = rng.below(14);
+    let one = if kind == 2 { boats - 1 } else { rng.below(boats) };
+    let past = boats + rng.below(256 - boats + 1);
+    let mut released = [0; 32];
+    for boat in 0..256 {
+        let named = match kind {
+            0 => boat < boats,
+            1 | 2 => boat == one,
+            3 => false,
+            4 => boat == past,
+            5 => boat < boats || boat == past,
+            6..=9 => boat < boats && (boat == one || rng.one_in(2)),
+            10 | 11 => boat < boats && (boat == one || rng.one_in(5)),
+            _ => boat < boats && (boat == one || !rng.one_in(5)),
+        };
+        released[boat / 8] |= u8::from(named) << (boat % 8);
+    }
+    released
+}
+
 impl Terms {
-    /// A table, one in six of them not lent.
-    pub fn drawn(rng: &mut Random) -> Terms {
-        Terms { lent: !rng.one_in(6), table: table(rng) }
+    /// A table, one in three not lent, and a set for a book of so many boats, one in three of them not there.
+    pub fn drawn(rng: &mut Random, boats: usize) -> Terms {
+        let released = Released { limited: !rng.one_in(3), boats: set(rng, boats) };
+        Terms { released, lent: !rng.one_in(3), table: table(rng) }
     }
 
     /// What the reference is given.
     pub fn handed(&self) -> Handed<'_> {
-        Handed { table: self.lent.then_some(&self.table) }
+        Handed { table: self.lent.then_some(&self.table), released: self.released.limited.then_some(&self.released.boats) }
+    }
+
+    /// Where a set is handed in and the book is accepted: the book with other rows for the boats that are not released.
+    pub fn other_book(&self, rng: &mut Random, book: &[u8]) -> Option<Vec<u8>> {
+        let rows = reference::read_book(book).ok()?;
+        let (columns, body) = (rows[0].len(), book.len() - 12 - 2 * rows.len() * rows[0].len());
+        let mut other = book.to_vec();
+        for boat in (0..rows.len()).filter(|boat| self.released.boats[boat / 8] & (1 << (boat % 8)) == 0) {
+            for column in 0..columns {
+                let at = body + 2 * (boat * columns + column);
+                other[at..at + 2].copy_from_slice(&(rng.between(-2000, 2000) as i16).to_le_bytes());
+            }
+        }
+        self.released.limited.then_some(other)
     }
 
     /// The table's bytes, to see that no call changes them.
@@ -122,6 +171,7 @@ impl Terms {
                 book.len(),
                 sheet.as_ptr(),
                 sheet.len(),
+                self.released,
                 self.lent,
                 self.table.as_ptr(),
                 self.table.len(),
@@ -138,6 +188,7 @@ impl Terms {
                 book.len(),
                 sheet.as_ptr(),
                 sheet.len(),
+                self.released,
                 self.lent,
                 self.table.as_ptr(),
                 self.table.len(),
@@ -154,6 +205,7 @@ impl Terms {
                 book.len(),
                 sheet.as_ptr(),
                 sheet.len(),
+                self.released,
                 self.lent,
                 self.table.as_ptr(),
                 self.table.len(),
