@@ -47,6 +47,19 @@ def print_tabled(book, sheet, table):
     print_reply(*exact.search(book, sheet, [7] * 4, [])[:2])
 
 
+def print_among(book, sheet, released):
+    """A search among released boats, its card, the card of the whole book, and a set of no boat."""
+    refusal, answer, slots = exact.search(book, sheet, [7, 7, 7, 7], None, released)
+    print_reply(refusal, answer)
+    print("slots", *slots)
+    _, _, size, buffer = exact.write_card(book, sheet, bytes(1060), None, released)
+    refusal, answer, _ = exact.check_card(book, sheet, buffer[:size], [7] * 4, None, released)
+    print("checked, refusal %d, %s" % (refusal, NAMES[answer.verdict]))
+    _, _, size, buffer = exact.write_card(book, sheet, bytes(1060))
+    print("the whole book's card, refusal %d" % exact.check_card(book, sheet, buffer[:size], [7] * 4, None, released)[0])
+    print("no boat released, refusal %d" % exact.search(book, sheet, [7] * 4, None, exact.make_set([]))[0])
+
+
 def main():
     book = exact.make_book([[0, 0], [4, 0], [0, 4]])
     for words, sheet in (("9 steps", exact.make_sheet([1, 1], 9, 1)), ("0 steps", exact.make_sheet([1, 1], 0, 1)),
@@ -58,6 +71,8 @@ def main():
     sheet = exact.make_sheet([1, 1], 9, 1)
     print("table 2 1 1")
     print_tabled(book, sheet, [2, 1, 1])
+    print("released 1 2")
+    print_among(book, sheet, exact.make_set([1, 2]))
     print("listing")
     print(exact.listing(book, sheet).decode("ascii"), end="")
     print("card")

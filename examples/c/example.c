@@ -1,5 +1,5 @@
-/* The library from C: a search and its refusal, a search with factors, one with a table of shares, a listing, a card written and checked,
- * a sheet of scale cells, a sheet in its other edition. Files are built in memory. */
+/* The library from C: a search and its refusal, a search with factors, one with a table of shares, one among released boats, a listing, a
+ * card written and checked, a sheet of scale cells, a sheet in its other edition. Files are built in memory. */
 #include <inttypes.h>
 #include <stdbool.h>
 #include <stdio.h>
@@ -81,25 +81,51 @@ static void write_and_check(void)
     printf("checked with one share more, refusal %" PRIu32 "\n", checked.refusal);
 }
 
+/* No released set: every boat may be used. */
+static const dofitrano_released every_boat = { false, { 0 } };
+
 /* Later steps count for less: the first gives 2 shares, the others 1 each. The card is checked with its table and without it. */
 static void lend_a_table(void)
 {
     const uint16_t table[] = { 2, 1, 1 };
     uint16_t shares[4] = { 7, 7, 7, 7 };
     uint8_t card[DOFITRANO_CARD_MOST];
-    print_reply(dofitrano_search_with(book, sizeof book, sheet, sizeof sheet, true, table, 3, shares, 4));
+    print_reply(dofitrano_search_with(book, sizeof book, sheet, sizeof sheet, every_boat, true, table, 3, shares, 4));
     printf("slots %u %u %u %u\n", shares[0], shares[1], shares[2], shares[3]);
     dofitrano_card_reply written =
-        dofitrano_write_card_with(book, sizeof book, sheet, sizeof sheet, true, table, 3, card, sizeof card);
+        dofitrano_write_card_with(book, sizeof book, sheet, sizeof sheet, every_boat, true, table, 3, card, sizeof card);
     printf("refusal %" PRIu32 ", bytes %zu\n", written.reply.refusal, written.bytes);
-    dofitrano_reply checked = dofitrano_check_card_with(book, sizeof book, sheet, sizeof sheet, true, table, 3,
+    dofitrano_reply checked = dofitrano_check_card_with(book, sizeof book, sheet, sizeof sheet, every_boat, true, table, 3,
                                                         card, written.bytes, shares, 4);
     printf("checked with its table, refusal %" PRIu32 ", %s\n", checked.refusal, verdict_name(checked.verdict));
-    checked = dofitrano_check_card_with(book, sizeof book, sheet, sizeof sheet, false, table, 3,
+    checked = dofitrano_check_card_with(book, sizeof book, sheet, sizeof sheet, every_boat, false, table, 3,
                                         card, written.bytes, shares, 4);
     printf("checked without it, refusal %" PRIu32 "\n", checked.refusal);
     /* An empty table is not the same as none. */
-    print_reply(dofitrano_search_with(book, sizeof book, sheet, sizeof sheet, true, table, 0, shares, 4));
+    print_reply(dofitrano_search_with(book, sizeof book, sheet, sizeof sheet, every_boat, true, table, 0, shares, 4));
+}
+
+/* Boats 1 and 2 are released, bits 1 and 2 of the first byte; no table is lent. The card of the whole book rests on boat 0. */
+static void search_among(void)
+{
+    const dofitrano_released two = { true, { 6 } };
+    const dofitrano_released none = { true, { 0 } };
+    const uint16_t table[] = { 0 };
+    uint16_t shares[4] = { 7, 7, 7, 7 };
+    uint8_t card[DOFITRANO_CARD_MOST];
+    print_reply(dofitrano_search_with(book, sizeof book, sheet, sizeof sheet, two, false, table, 0, shares, 4));
+    printf("slots %u %u %u %u\n", shares[0], shares[1], shares[2], shares[3]);
+    dofitrano_card_reply written =
+        dofitrano_write_card_with(book, sizeof book, sheet, sizeof sheet, two, false, table, 0, card, sizeof card);
+    dofitrano_reply checked = dofitrano_check_card_with(book, sizeof book, sheet, sizeof sheet, two, false, table, 0,
+                                                        card, written.bytes, shares, 4);
+    printf("checked, refusal %" PRIu32 ", %s\n", checked.refusal, verdict_name(checked.verdict));
+    written = dofitrano_write_card(book, sizeof book, sheet, sizeof sheet, card, sizeof card);
+    checked = dofitrano_check_card_with(book, sizeof book, sheet, sizeof sheet, two, false, table, 0,
+                                        card, written.bytes, shares, 4);
+    printf("the whole book's card, refusal %" PRIu32 "\n", checked.refusal);
+    dofitrano_reply refused = dofitrano_search_with(book, sizeof book, sheet, sizeof sheet, none, false, table, 0, shares, 4);
+    printf("no boat released, refusal %" PRIu32 "\n", refused.refusal);
 }
 
 /* A weighing in units of 10 kilograms and a net in units of 4: the cells of the two columns. */
@@ -150,6 +176,9 @@ int main(void)
 
     printf("table 2 1 1\n");
     lend_a_table();
+
+    printf("released 1 2\n");
+    search_among();
 
     printf("listing\n");
     list();

@@ -1,5 +1,5 @@
 """The library from Python by ctypes: a search and its refusal, a search with factors, one with a table of shares,
-a listing, a card written and checked, a sheet of scale cells, a sheet in its other edition.
+one among released boats, a listing, a card written and checked, a sheet of scale cells, a sheet in its other edition.
 
 Files are built in memory.
 
@@ -44,6 +44,12 @@ class EditionReply(ctypes.Structure):
     _fields_ = [("refusal", ctypes.c_uint32), ("edition", ctypes.c_uint32), ("bytes", ctypes.c_size_t)]
 
 
+class Released(ctypes.Structure):
+    """dofitrano_released of include/dofitrano.h."""
+
+    _fields_ = [("limited", ctypes.c_bool), ("boats", ctypes.c_uint8 * 32)]
+
+
 class Sheet(ctypes.Structure):
     """dofitrano_sheet of include/dofitrano.h."""
 
@@ -67,13 +73,13 @@ def load(path):
     library.dofitrano_write_card.argtypes = file + file + buffer
     library.dofitrano_check_card.restype = Reply
     library.dofitrano_check_card.argtypes = file + file + file + shares
-    table = [ctypes.c_bool, ctypes.POINTER(ctypes.c_uint16), ctypes.c_size_t]
+    terms = [Released, ctypes.c_bool, ctypes.POINTER(ctypes.c_uint16), ctypes.c_size_t]
     library.dofitrano_search_with.restype = Reply
-    library.dofitrano_search_with.argtypes = file + file + table + shares
+    library.dofitrano_search_with.argtypes = file + file + terms + shares
     library.dofitrano_write_card_with.restype = CardReply
-    library.dofitrano_write_card_with.argtypes = file + file + table + buffer
+    library.dofitrano_write_card_with.argtypes = file + file + terms + buffer
     library.dofitrano_check_card_with.restype = Reply
-    library.dofitrano_check_card_with.argtypes = file + file + table + file + shares
+    library.dofitrano_check_card_with.argtypes = file + file + terms + file + shares
     library.dofitrano_listing.restype = ctypes.c_size_t
     library.dofitrano_listing.argtypes = file + file + buffer
     doubles = [ctypes.POINTER(ctypes.c_double), ctypes.c_size_t]
@@ -113,19 +119,49 @@ def numbers(values):
     return (ctypes.c_uint16 * len(values))(*values), len(values)
 
 
+def released(boats):
+    """The set of these boats: bit b of byte k is for boat 8 k + b."""
+    bits = bytearray(32)
+    for boat in boats:
+        bits[boat // 8] |= 1 << boat % 8
+    return Released(True, (ctypes.c_uint8 * 32)(*bits))
+
+
+# No released set: every boat may be used.
+EVERY_BOAT = Released(False)
+
+
 def lend_a_table(library, book, sheet, table):
     """A search with a table of shares, and its card with the table and without it. An empty table is not the same as none."""
     shares, slots = numbers([7, 7, 7, 7])
-    print_reply(library.dofitrano_search_with(book, len(book), sheet, len(sheet), True, *numbers(table), shares, slots))
+    print_reply(library.dofitrano_search_with(book, len(book), sheet, len(sheet), EVERY_BOAT, True, *numbers(table), shares, slots))
     print("slots", *shares)
     output = ctypes.create_string_buffer(CARD_MOST)
-    written = library.dofitrano_write_card_with(book, len(book), sheet, len(sheet), True, *numbers(table), output, CARD_MOST)
+    written = library.dofitrano_write_card_with(book, len(book), sheet, len(sheet), EVERY_BOAT, True, *numbers(table), output, CARD_MOST)
     print("refusal %d, bytes %d" % (written.reply.refusal, written.bytes))
     card = output.raw[:written.bytes]
     for lent, words in ((True, "with its table, refusal %d, %s"), (False, "without it, refusal %d")):
-        reply = library.dofitrano_check_card_with(book, len(book), sheet, len(sheet), lent, *numbers(table), card, len(card), shares, slots)
+        reply = library.dofitrano_check_card_with(book, len(book), sheet, len(sheet), EVERY_BOAT, lent, *numbers(table), card, len(card), shares, slots)
         print("checked", words % ((reply.refusal, VERDICT_NAMES[reply.verdict]) if lent else reply.refusal))
-    print_reply(library.dofitrano_search_with(book, len(book), sheet, len(sheet), True, *numbers([]), shares, slots))
+    print_reply(library.dofitrano_search_with(book, len(book), sheet, len(sheet), EVERY_BOAT, True, *numbers([]), shares, slots))
+
+
+def search_among(library, book, sheet, boats):
+    """A search among these boats without a table, its card, the card of the whole book, and a set of no boat."""
+    terms = (released(boats), False, *numbers([]))
+    shares, slots = numbers([7, 7, 7, 7])
+    print_reply(library.dofitrano_search_with(book, len(book), sheet, len(sheet), *terms, shares, slots))
+    print("slots", *shares)
+    output = ctypes.create_string_buffer(CARD_MOST)
+    written = library.dofitrano_write_card_with(book, len(book), sheet, len(sheet), *terms, output, CARD_MOST)
+    card = output.raw[:written.bytes]
+    reply = library.dofitrano_check_card_with(book, len(book), sheet, len(sheet), *terms, card, len(card), shares, slots)
+    print("checked, refusal %d, %s" % (reply.refusal, VERDICT_NAMES[reply.verdict]))
+    _, card = write_card(library, book, sheet)
+    reply = library.dofitrano_check_card_with(book, len(book), sheet, len(sheet), *terms, card, len(card), shares, slots)
+    print("the whole book's card, refusal %d" % reply.refusal)
+    reply = library.dofitrano_search_with(book, len(book), sheet, len(sheet), released([]), False, *numbers([]), shares, slots)
+    print("no boat released, refusal %d" % reply.refusal)
 
 
 def listing(library, book, sheet):
@@ -179,6 +215,8 @@ def main(path):
     # Later steps count for less: the first gives 2 shares, the others 1 each.
     print("table 2 1 1")
     lend_a_table(library, book, sheet, [2, 1, 1])
+    print("released 1 2")
+    search_among(library, book, sheet, [1, 2])
     print("listing")
     print(listing(library, book, sheet), end="")
     print("card")
