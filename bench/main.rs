@@ -47,6 +47,17 @@ struct Merged {
     length: usize,
 }
 
+/// dofitrano_released of include/dofitrano.h.
+#[repr(C)]
+#[derive(Clone, Copy)]
+struct Released {
+    limited: bool,
+    boats: [u8; 32],
+}
+
+/// No set: every boat may be used.
+const EVERY_BOAT: Released = Released { limited: false, boats: [0; 32] };
+
 /// float_answer of float.c.
 #[repr(C)]
 #[derive(Clone, Copy)]
@@ -75,6 +86,7 @@ extern "C" {
         bn: usize,
         s: *const u8,
         sn: usize,
+        released: Released,
         lent: bool,
         t: *const u16,
         tn: usize,
@@ -86,6 +98,7 @@ extern "C" {
         bn: usize,
         s: *const u8,
         sn: usize,
+        released: Released,
         lent: bool,
         t: *const u16,
         tn: usize,
@@ -115,17 +128,18 @@ fn library_check_card(book: &[u8], sheet: &[u8], card: &[u8], shares: &mut [u16]
     unsafe { dofitrano_check_card(b, book.len(), s, sheet.len(), c, card.len(), shares.as_mut_ptr(), shares.len()) }
 }
 
-/// The search with a table of shares, which is lent.
-fn library_search_with(book: &[u8], sheet: &[u8], table: &[u16], shares: &mut [u16]) -> Reply {
-    let (b, s, t) = (book.as_ptr(), sheet.as_ptr(), table.as_ptr());
-    unsafe { dofitrano_search_with(b, book.len(), s, sheet.len(), true, t, table.len(), shares.as_mut_ptr(), shares.len()) }
+/// The search among released boats with a table of shares, which is lent unless it is empty.
+fn library_search_with(book: &[u8], sheet: &[u8], set: Released, table: &[u16], shares: &mut [u16]) -> Reply {
+    let (b, s, t, lent) = (book.as_ptr(), sheet.as_ptr(), table.as_ptr(), !table.is_empty());
+    let (q, slots) = (shares.as_mut_ptr(), shares.len());
+    unsafe { dofitrano_search_with(b, book.len(), s, sheet.len(), set, lent, t, table.len(), q, slots) }
 }
 
-/// The card check with such a table.
-fn library_check_card_with(book: &[u8], sheet: &[u8], table: &[u16], card: &[u8], shares: &mut [u16]) -> Reply {
-    let (b, s, t, c) = (book.as_ptr(), sheet.as_ptr(), table.as_ptr(), card.as_ptr());
+/// The card check with such a set and table.
+fn library_check_card_with(book: &[u8], sheet: &[u8], set: Released, table: &[u16], card: &[u8], shares: &mut [u16]) -> Reply {
+    let (b, s, t, c, lent) = (book.as_ptr(), sheet.as_ptr(), table.as_ptr(), card.as_ptr(), !table.is_empty());
     let (q, slots) = (shares.as_mut_ptr(), shares.len());
-    unsafe { dofitrano_check_card_with(b, book.len(), s, sheet.len(), true, t, table.len(), c, card.len(), q, slots) }
+    unsafe { dofitrano_check_card_with(b, book.len(), s, sheet.len(), set, lent, t, table.len(), c, card.len(), q, slots) }
 }
 
 fn library_listing(book: &[u8], sheet: &[u8], text: &mut [u8]) -> usize {
@@ -507,9 +521,9 @@ fn print_tables(inputs: &[(&str, Input)], repeats: u32) {
         let mut lists = [[0u16; 256]; 4];
         let replies = [
             library_search(book, sheet, &mut lists[0]),
-            library_search_with(book, sheet, &table, &mut lists[1]),
+            library_search_with(book, sheet, EVERY_BOAT, &table, &mut lists[1]),
             library_check_card(book, sheet, card, &mut lists[2]),
-            library_check_card_with(book, sheet, &table, card, &mut lists[3]),
+            library_check_card_with(book, sheet, EVERY_BOAT, &table, card, &mut lists[3]),
         ];
         assert!(written.reply.refusal == 0 && replies.iter().all(|reply| *reply == written.reply), "the answers differ");
         assert!(lists.iter().all(|list| *list == lists[0]), "the shares differ");
@@ -526,13 +540,13 @@ fn print_tables(inputs: &[(&str, Input)], repeats: u32) {
                 black_box(library_search(black_box(book), black_box(sheet), shares));
             }));
             times[1].push(time(calls, || {
-                black_box(library_search_with(black_box(book), black_box(sheet), black_box(&table), shares));
+                black_box(library_search_with(black_box(book), black_box(sheet), EVERY_BOAT, black_box(&table), shares));
             }));
             times[2].push(time(checks, || {
                 black_box(library_check_card(black_box(book), black_box(sheet), black_box(card), shares));
             }));
             times[3].push(time(checks, || {
-                black_box(library_check_card_with(black_box(book), black_box(sheet), black_box(&table), black_box(card), shares));
+                black_box(library_check_card_with(black_box(book), black_box(sheet), EVERY_BOAT, black_box(&table), black_box(card), shares));
             }));
         }
         let [plain, lent, checked, checked_lent] = &times;
@@ -545,6 +559,53 @@ fn print_tables(inputs: &[(&str, Input)], repeats: u32) {
             microseconds(checked_lent),
             ratio(checked_lent, checked)
         );
+    }
+}
+
+/// The files with a row that is not released behind each row, twice as many boats in all, and the set of the others.
+fn half_released(x: &Input, columns: usize) -> (Input, Released) {
+    let mut rng = Random(7);
+    let body = &x.book[..x.book.len() - 12];
+    let rows: Vec<Vec<i16>> = body.chunks(2 * columns).map(|row| row.chunks(2).map(|v| i16::from_le_bytes([v[0], v[1]])).collect()).collect();
+    let mixed: Vec<Vec<i16>> = rows.iter().flat_map(|row| [row.clone(), (0..columns).map(|_| rng.value()).collect()]).collect();
+    let mut boats = [0; 32];
+    for boat in (0..mixed.len()).step_by(2) {
+        boats[boat / 8] |= 1 << (boat % 8);
+    }
+    (Input { book: book_of(&mixed), sheet: x.sheet.clone() }, Released { limited: true, boats })
+}
+
+/// The search among the released half of a book beside that of a book of just those rows, in turn.
+fn print_sets(repeats: u32) {
+    println!("| input | steps | of the rows alone | among the released | released / alone |");
+    println!("|---|---|---|---|---|");
+    let inputs = [
+        ("128 of 256 boats, 64 columns, 360 steps, few boats picked", few_boats(128, 64, 360), 64),
+        ("128 of 256 boats, 64 columns, 360 steps, many boats picked", many_boats(128, 64, 360), 64),
+        ("20 of 40 boats, 20 columns, 60 steps, few boats picked", few_boats(20, 20, 60), 20),
+        ("128 of 256 boats, 64 columns, one step", one_step(128, 64), 64),
+    ];
+    for (name, x, columns) in &inputs {
+        let (all, set) = half_released(x, *columns);
+        let (mut own, mut shares) = ([0u16; 256], [0u16; 256]);
+        let reply = library_search(&x.book, &x.sheet, &mut own);
+        assert!(reply.refusal == 0 && reply == library_search_with(&all.book, &all.sheet, set, &[], &mut shares), "the answers differ");
+        let boats = (x.book.len() - 12) / (2 * columns);
+        assert!((0..boats).all(|i| shares[2 * i] == own[i] && shares[2 * i + 1] == 0), "the shares differ");
+        let calls = batch(|| {
+            black_box(library_search(black_box(&x.book), black_box(&x.sheet), &mut own));
+        });
+        let mut times = [const { Vec::new() }; 2];
+        for _ in 0..repeats {
+            times[0].push(time(calls, || {
+                black_box(library_search(black_box(&x.book), black_box(&x.sheet), &mut own));
+            }));
+            times[1].push(time(calls, || {
+                black_box(library_search_with(black_box(&all.book), black_box(&all.sheet), black_box(set), &[], &mut shares));
+            }));
+        }
+        let [alone, among] = &times;
+        println!("| {name} | {} | {:.2} | {:.2} | {:.3} |", reply.steps, microseconds(alone), microseconds(among), ratio(among, alone));
     }
 }
 
@@ -625,7 +686,11 @@ fn once(name: &str, whose: &str) {
     let mut shares = [0u16; 256];
     black_box(match whose {
         "library" => library_search(&x.book, &x.sheet, &mut shares),
-        "table" => library_search_with(&x.book, &x.sheet, &counted(), &mut shares),
+        "table" => library_search_with(&x.book, &x.sheet, EVERY_BOAT, &counted(), &mut shares),
+        "half" => {
+            let (all, set) = half_released(&x, sizes[1]);
+            library_search_with(&all.book, &all.sheet, set, &[], &mut shares)
+        }
         "same" => remembered::search(&x.book, &x.sheet, &mut shares),
         _ => plain::search(&x.book, &x.sheet, &mut shares),
     });
@@ -668,6 +733,10 @@ fn main() {
     println!("The library's search and card check with the table of shares 1 to 360 beside those without a table:");
     println!();
     print_tables(&inputs, repeats);
+    println!();
+    println!("The library's search among the released half of a book beside that of a book of just those rows:");
+    println!();
+    print_sets(repeats);
     println!();
     println!("One book from two, 256 and 256 boats of 64 columns:");
     println!();
