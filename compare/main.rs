@@ -516,17 +516,14 @@ fn table_bytes(terms: &Option<Terms>) -> Vec<u8> {
     terms.as_ref().map_or(Vec::new(), Terms::bytes)
 }
 
-/// A call of the library on a book, and, where a set is handed in, on the book with other rows for the boats that are not released, which must
-/// make no difference: the second result where it is another one.
-fn called<T: PartialEq>(rng: &mut Random, terms: &Option<Terms>, book: &[u8], call: impl Fn(&[u8]) -> T) -> T {
-    let given = call(book);
-    match terms.as_ref().and_then(|terms| terms.other_book(rng, book)) {
-        Some(other) => {
-            let again = call(&other);
-            if again == given { given } else { again }
-        }
-        None => given,
-    }
+/// A call of the library on a book and a sheet; then on the sheet in its other edition, and, where a set is handed in, on the book with other
+/// rows for the boats that are not released. Neither may make a difference: a later result where it is another one.
+fn called<T: PartialEq>(rng: &mut Random, terms: &Option<Terms>, book: &[u8], sheet: &[u8], call: impl Fn(&[u8], &[u8]) -> T) -> T {
+    let given = call(book, sheet);
+    let mut edition = vec![0; sheet.len() + 64];
+    let converted = reference::other_edition(sheet, &mut edition).map(|(_, size)| call(book, &edition[..size]));
+    let other = terms.as_ref().and_then(|terms| terms.other_book(rng, book)).map(|other| call(&other, sheet));
+    converted.ok().into_iter().chain(other).find(|again| *again != given).unwrap_or(given)
 }
 
 /// With what a caller may hand in beside the files, or plain.
@@ -540,12 +537,12 @@ fn compare_search(rng: &mut Random, with: bool) -> Compared {
     let mut wanted = whole.clone();
     let before = (lent("book", &book), lent("sheet", &sheet), lent("table", &table_bytes(&terms)));
     let expected = reply_of(&reference::search(handed(&terms), &book, &sheet, &mut wanted[GUARD..GUARD + slots]));
-    let given = called(rng, &terms, &book, |book| {
+    let given = called(rng, &terms, &book, &sheet, |book, sheet| {
         let mut given = whole.clone();
         let list = &mut given[GUARD..GUARD + slots];
         let reply = match &terms {
-            None => library_search(book, &sheet, list),
-            Some(terms) => terms.search(book, &sheet, list),
+            None => library_search(book, sheet, list),
+            Some(terms) => terms.search(book, sheet, list),
         };
         (reply, given)
     });
@@ -567,12 +564,12 @@ fn compare_write_card(rng: &mut Random, with: bool) -> Compared {
     let mut wanted = whole.clone();
     let before = (lent("book", &book), lent("sheet", &sheet), lent("table", &table_bytes(&terms)));
     let outcome = reference::write_card(handed(&terms), &book, &sheet, &mut wanted[GUARD..GUARD + length]);
-    let given = called(rng, &terms, &book, |book| {
+    let given = called(rng, &terms, &book, &sheet, |book, sheet| {
         let mut given = whole.clone();
         let output = &mut given[GUARD..GUARD + length];
         let reply = match &terms {
-            None => library_write_card(book, &sheet, output),
-            Some(terms) => terms.write_card(book, &sheet, output),
+            None => library_write_card(book, sheet, output),
+            Some(terms) => terms.write_card(book, sheet, output),
         };
         (reply, given)
     });
@@ -653,12 +650,12 @@ fn compare_check_card(rng: &mut Random, with: bool) -> Compared {
     let mut wanted = whole.clone();
     let before = (lent("book", &book), lent("sheet", &sheet), lent("table", &table_bytes(&terms)), lent("card", &card));
     let expected = reply_of(&reference::check_card(handed(&terms), &book, &sheet, &card, &mut wanted[GUARD..GUARD + slots]));
-    let given = called(rng, &terms, &book, |book| {
+    let given = called(rng, &terms, &book, &sheet, |book, sheet| {
         let mut given = whole.clone();
         let list = &mut given[GUARD..GUARD + slots];
         let reply = match &terms {
-            None => library_check_card(book, &sheet, &card, list),
-            Some(terms) => terms.check_card(book, &sheet, &card, list),
+            None => library_check_card(book, sheet, &card, list),
+            Some(terms) => terms.check_card(book, sheet, &card, list),
         };
         (reply, given)
     });

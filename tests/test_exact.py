@@ -1057,7 +1057,11 @@ def released_books():
         best = min(plain_measure(rows, [int(i == j) for i in range(boats)], target, factors)[0] for j in members)
         spread = exact.squared_diameter([rows[i] for i in members], factors)
         agree(label + ", bounds", distance - best <= min(exact.step_bound(answer.steps, spread, table), 2 * gap), True)
-        # All boats released is no set; the bits of a set that is not given are not looked at.
+        # The sheet in its other edition, where it has one, gets the same under every table and set.
+        none, _, size, edition = exact.other_edition(sheet, bytes(len(sheet) + 64))
+        if not none:
+            agree(label + ", the other edition", exact.search(book, edition[:size], [7] * (boats + 1), table, released), (0, answer, slots))
+        # All boats released is no set.
         agree(label + ", all", exact.search(book, sheet, [7] * boats, table, exact.make_set(range(boats))), exact.search(book, sheet, [7] * boats, table))
         # Other rows for the other boats: the same answer, slots and card, the same number of a card that is refused.
         others = [row if i in members else [draw.randint(-2000, 2000) for _ in range(columns)] for i, row in enumerate(rows)]
