@@ -4,7 +4,8 @@
 docs/refusals.md has two tables: what each number means and what to do about it, and an index. A row of the index has a number and, each with its
 file, the definition that gives it, the function that returns it, the proof of that function and a test case. tests/check_names.py sees that these
 names stand in their files; here the number must stand in the definition and in the function, and the case must be refused by it. The numbers of
-both tables and of the header are the same. Of a card's numbers, each is given by one line of all the definitions.
+both tables and of the header are the same. Of a card's numbers, each is given by one line of all the definitions; 36 by two, one for the order of
+the boats and one for a boat that is not released.
 """
 import glob
 import os
@@ -68,7 +69,7 @@ def main():
             if not ok:
                 faults.append("docs/refusals.md, %d: %s" % (number, what))
     for number in range(31, 40):
-        if len(given(number)) != 1:
+        if len(given(number)) != (2 if number == 36 else 1):
             faults.append("crates/*/specs: %d lines give %d" % (len(given(number)), number))
     for fault in faults:
         print(fault)
