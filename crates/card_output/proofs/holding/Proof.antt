@@ -1,4 +1,6 @@
--- `card_output::holding` meets its contract; `Inv-loop` is what its loop keeps.
+-- `card_output::holding` meets its contract. The loop keeps `Counting`: n of the first i boats hold shares.
+-- A turn counts boat i if it holds shares.
+-- It ends: the boats that are left fall by one.
 use mathlib.Core.Path.{_≡_}
 use lib.ListN.{length}
 use borrow.Author.Needs.{needs}

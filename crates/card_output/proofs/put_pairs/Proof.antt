@@ -1,4 +1,6 @@
--- `card_output::put_pairs` meets its contract; `Inv-loop` is what its loop keeps.
+-- `card_output::put_pairs` meets its contract. The loop keeps `Pairing`: the pairs of the boats before i that hold shares stand before `at`, and those of the boats that are left complete the body.
+-- A turn writes the pair of boat i if it holds shares.
+-- It ends: the boats that are left fall by one.
 use borrow.Author.Needs.{needs}
 use mathlib.Core.Path.{_≡_}
 use lib.ListN.{length}

@@ -1,4 +1,6 @@
--- `card_pairs::pairs_in_order` meets its contract; `Inv-loop` is what its loop keeps.
+-- `card_pairs::pairs_in_order` meets its contract. The loop keeps `Ordering`: the first i pairs are in order, so the pairs that are left decide, with the least number that the next boat may have.
+-- A turn tests one pair: a fault ends the loop, else the pairs behind it decide.
+-- It ends: the pairs that are left fall by one.
 use borrow.Author.Needs.{needs}
 use Prim.Native.Nat.{_-_}
 use Rattle.card_pairs.proofs.Pairs.{Ordering, ordering-start, ordering-out, ordering-more, ordering-end}

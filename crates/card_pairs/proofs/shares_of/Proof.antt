@@ -1,4 +1,6 @@
--- `card_pairs::shares_of` meets its contract; `Inv-loop` is what its loop keeps.
+-- `card_pairs::shares_of` meets its contract. The loop keeps `Taking`: the shares of the first i pairs are in the list, and the pairs that are left complete it.
+-- A turn stores one share at its boat.
+-- It ends: the pairs that are left fall by one.
 use borrow.Author.Needs.{needs}
 use Prim.Native.Nat.{_-_}
 use Rattle.card_pairs.proofs.Pairs.{Taking, taking-start, taking-slot, taking-more, taking-end}

@@ -1,4 +1,6 @@
--- `card_pairs::total` meets its contract; `Inv-loop` is what its loop keeps.
+-- `card_pairs::total` meets its contract. The loop keeps `Totalling`: the sum is the total of the first i shares, small enough for its type.
+-- A turn adds one share.
+-- It ends: the shares that are left fall by one.
 use mathlib.Core.Path.{_≡_}
 use lib.ListN.{length}
 use borrow.Author.Needs.{needs}

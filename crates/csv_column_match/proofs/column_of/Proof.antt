@@ -1,4 +1,6 @@
--- `csv_column_match::column_of` meets its contract: the columns above j have not the name.
+-- `csv_column_match::column_of` meets its contract. The loop keeps this: the columns above j have another name, so those below j decide.
+-- A turn compares the name of column j - 1.
+-- It ends: j falls by one.
 use borrow.Author.Needs.{needs}
 use native.Mathlib.Omega.{arith}
 use mathlib.Core.Path.{_≡_, sym}

@@ -1,4 +1,6 @@
--- `csv_sheet::put_factors` meets its contract: `Factors-put` is the loop's invariant.
+-- `csv_sheet::put_factors` meets its contract. The loop keeps `Factors-put`: the factors of the first i columns are written, a byte each.
+-- A turn reads the factor of column i and writes it.
+-- It ends: the columns that are left fall by one.
 use borrow.Author.Needs.{needs}
 use Prim.Native.Nat.{_-_, _≤_}
 use native.Mathlib.Omega.{arith}

@@ -1,4 +1,6 @@
--- `csv_sheet::put_target` meets its contract: `Values-put` is the loop's invariant.
+-- `csv_sheet::put_target` meets its contract. The loop keeps `Values-put`: the values of the first i columns are written, two bytes each.
+-- A turn reads the cell of column i and writes its value.
+-- It ends: the columns that are left fall by one.
 use borrow.Author.Needs.{needs}
 use Prim.Native.Nat.{_-_}
 use native.Mathlib.Omega.{arith}

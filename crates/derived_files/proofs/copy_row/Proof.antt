@@ -1,4 +1,6 @@
--- `derived_files::copy_row` meets its contract; `Inv-loop` is what its loop keeps.
+-- `derived_files::copy_row` meets its contract. The loop keeps `Copying`: the cells of the first k places are written, and those of the places that are left complete the row.
+-- A turn writes the two bytes of the cell at place k.
+-- It ends: the places that are left fall by one.
 use native.Mathlib.Omega.{arith}
 use lib.ListN.{length, length-set}
 use Prim.Native.Nat.{_-_}

@@ -1,4 +1,6 @@
--- `derived_files::put_places` meets its contract; `Inv-loop` is what its loop keeps.
+-- `derived_files::put_places` meets its contract. The loop keeps `Placing`: the places of the columns before j are written, each as often as its factor says.
+-- A turn writes column j so often by `put_column`.
+-- It ends: the columns that are left fall by one.
 use native.Mathlib.Omega.{arith}
 use Prim.Native.Nat.{_-_}
 use lib.ListN.{length}

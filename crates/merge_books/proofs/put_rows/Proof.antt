@@ -1,4 +1,6 @@
--- `merge_books::put_rows` meets its contract; `Inv-loop` is what its loop keeps.
+-- `merge_books::put_rows` meets its contract. The loop keeps `Merging`: of the second book's first i rows those that are new stand behind the first book's, and the rows that are left decide the rest.
+-- A turn compares row i with every row so far and copies it if it is new, which is what `with-rows` does with the next row.
+-- It ends: the rows that are left, boats - i, fall by one.
 use native.Mathlib.Omega.{arith}
 use mathlib.Core.Path.{refl}
 use Prim.Native.Nat.{_+_, _*_, _-_, _<_}

@@ -1,4 +1,6 @@
--- `message_parts::with_shown` meets its contract.
+-- `message_parts::with_shown` meets its contract. The loop keeps `Copying`: the first i bytes of the name are written as they are shown.
+-- A turn writes one byte more.
+-- It ends: the bytes that are left fall by one.
 use borrow.Author.Needs.{needs}
 use mathlib.Core.List.{map}
 use Prim.Native.Nat.{_-_}

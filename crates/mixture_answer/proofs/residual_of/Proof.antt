@@ -1,4 +1,6 @@
--- `mixture_answer::residual_of` meets its contract; `Inv-loop` is what its loop keeps.
+-- `mixture_answer::residual_of` meets its contract. The loop keeps `Summing`: r is the sum over the boats before i of share times (row less target), no larger than the shares so far allow.
+-- A turn adds boat i by `moved`.
+-- It ends: the boats that are left fall by one.
 use borrow.Author.Needs.{needs}
 use mathlib.Core.Path.{_≡_}
 use Prim.Native.Nat.{_-_}

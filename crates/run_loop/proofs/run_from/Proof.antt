@@ -1,4 +1,6 @@
--- `run_loop::run_from` meets its contract; `Kept` is what its loop keeps.
+-- `run_loop::run_from` meets its contract. The loop keeps `Kept`: state, shares, scores and memory are those of the method after as many steps as the state says, and no step before stopped the run.
+-- A turn is one call of `step`, whose contract gives all of them after one step more; a verdict that does not stop leaves the run going.
+-- It ends: the steps that are left fall by one, and at the last the verdict stops.
 use mathlib.Core.Path.{sym}
 use Prim.Native.Nat.{_-_}
 use native.Mathlib.Omega.{arith}

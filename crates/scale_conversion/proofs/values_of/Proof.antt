@@ -1,4 +1,6 @@
--- `scale_conversion::values_of` meets its contract: `Converting` is the loop's invariant.
+-- `scale_conversion::values_of` meets its contract. The loop keeps `Converting`: the first i cells are converted and none of them refuses, so the cells that are left decide.
+-- A turn converts one cell: a refusal ends the loop, else its value is stored.
+-- It ends: the cells that are left fall by one.
 use borrow.Author.Needs.{needs}
 use Prim.Native.Nat.{_-_, _≤_}
 use Rattle.scale_conversion.proofs.Converting.{Converting, converting-start, converting-more, converting-refused, converting-end}

@@ -1,4 +1,6 @@
--- `scoring::least_product` meets its contract; `Inv-loop` is what its loop keeps.
+-- `scoring::least_product` meets its contract. The loop keeps `Scanned`: the least of the first i products and its boat are known, and it keeps to 32 bits.
+-- A turn looks at product i and keeps it where it is below the least so far.
+-- It ends: the boats that are left fall by one.
 use borrow.Author.Needs.{needs}
 use mathlib.Core.Logic.{⊎-elim}
 use mir.Facts.{toZ-ofZ}

@@ -1,4 +1,6 @@
--- `scoring::least_score` meets its contract; `Inv-loop` is what its loop keeps.
+-- `scoring::least_score` meets its contract. The loop keeps `Passed`: row i starts at p, and the least score of the boats before i and its boat are known.
+-- A turn makes the score of boat i and keeps it where it is below the least so far.
+-- It ends: the boats that are left fall by one.
 use borrow.Author.Needs.{needs, sfits-of}
 use mathlib.Core.Path.{refl}
 use mathlib.Core.Logic.{⊎-elim}

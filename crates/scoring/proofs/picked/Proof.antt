@@ -1,4 +1,6 @@
--- `scoring::picked` meets its contract; `Inv-loop` is what its loop keeps.
+-- `scoring::picked` meets its contract. The loop keeps `Looking`: no boat before i both holds shares and has the least score, so the boats from i on decide the pick.
+-- A turn looks at one boat: one that holds shares and has the least score is the pick, any other leaves the answer to those behind it.
+-- It ends: the boats that are left fall by one.
 use Prim.Native.Nat.{_-_}
 use native.Mathlib.Omega.{arith}
 use mathlib.Core.Logic.{⊎-elim}

@@ -1,4 +1,6 @@
--- `scoring::products` meets its contract; `Inv-loop` is what its loop keeps.
+-- `scoring::products` meets its contract. The loop keeps `Stored`: row i starts at the place kept, and the products of the rows before it are in the first i slots.
+-- A turn stores the product with row i.
+-- It ends: the boats that are left fall by one.
 use borrow.Author.Needs.{needs, sfits-of}
 use Prim.Native.Nat.{_-_}
 use lib.ListN.{take}

@@ -1,4 +1,6 @@
--- `scoring::rescored` meets its contract; `Inv-loop` is what its loop keeps.
+-- `scoring::rescored` meets its contract. The loop keeps `Rescored`: the first i scores are moved by k times their products, and the least of these and its boat are known.
+-- A turn moves score i and keeps it where it is below the least so far.
+-- It ends: the boats that are left fall by one.
 use mathlib.Core.Logic.{⊎-elim}
 use mir.Syntax.{w64}
 use mir.Facts.{toZ-ofZ}

@@ -1,4 +1,6 @@
--- `sheet_output::put_values` meets its contract: `Values-written` is the loop's invariant.
+-- `sheet_output::put_values` meets its contract. The loop keeps `Values-written`: the first i values are written, two bytes each.
+-- A turn writes one value more.
+-- It ends: the values that are left fall by one.
 use borrow.Author.Needs.{needs}
 use Prim.Native.Nat.{_-_}
 use Rattle.sheet_output.proofs.Writing.{Values-written, values-start, values-room, values-more, values-end, values-long}

@@ -1,4 +1,6 @@
--- `sums::difference` meets its contract; `Inv-loop` is what its loop keeps.
+-- `sums::difference` meets its contract. The loop keeps `Differing`: the first i slots hold the row less the target; the later ones are as they were.
+-- A turn stores one difference more.
+-- It ends: the columns that are left fall by one.
 use borrow.Author.Needs.{needs}
 use Prim.Native.Nat.{_-_}
 use native.Mathlib.Omega.{arith}

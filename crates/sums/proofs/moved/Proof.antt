@@ -1,4 +1,6 @@
--- `sums::moved` meets its contract; `Inv-loop` is what its loop keeps.
+-- `sums::moved` meets its contract. The loop keeps `Moving`: the first j entries are moved by k times the difference of row and target; the later ones are as they were.
+-- A turn moves entry j.
+-- It ends: the columns that are left fall by one.
 use borrow.Author.Needs.{needs}
 use Prim.Native.Nat.{_-_}
 use native.Mathlib.Omega.{arith}

@@ -1,4 +1,6 @@
--- `test_gap::follow` meets its contract; `Followed` is what its loop keeps.
+-- `test_gap::follow` meets its contract. The loop keeps `Followed`: state, shares, scores and memory are those of the method after as many steps as the state says.
+-- A turn is one call of `step`, whose contract gives all of them after one step more.
+-- It ends: the steps that are left fall by one.
 use mathlib.Core.Path.{refl, sym}
 use Prim.Native.Nat.{_-_}
 use native.Mathlib.Omega.{arith}
