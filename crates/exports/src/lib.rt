@@ -2,7 +2,7 @@
 //
 // Entries, which ask nothing of their caller: dofitrano_search, dofitrano_write_card, dofitrano_check_card, each also with a lent table
 // (dofitrano_search_with, ..), dofitrano_listing, dofitrano_sheet_values, dofitrano_scale_sheet, dofitrano_better_card,
-// dofitrano_other_edition, dofitrano_merge_books.
+// dofitrano_other_edition, dofitrano_merge_books, dofitrano_run_queue.
 // A slice passes as a pointer and a length; include/dofitrano.h declares the functions for C and says what a caller in another
 // language must see to. The first clause of a contract gives the reply, the second every slot or byte that was lent, the third
 // what the entry behind it promises of both.
@@ -34,6 +34,8 @@ ghost use Rattle.editions.specs.Promise.{Edition-right};
 ghost use Rattle.text.specs.Texts.{text-limit};
 ghost use Rattle.merged_book.specs.Merging.{merged-book, merge-refusal, merging};
 ghost use Rattle.merged_book.specs.Promise.{Merge-right};
+ghost use Rattle.sheet_queue.specs.Queue.{lengths, queue-refusal, records-after, queue-slots-after};
+ghost use Rattle.sheet_queue.specs.Promise.{Queue-right};
 use better_card_promise::Choice;
 use exported_types::CardReply;
 use exported_types::EditionReply;
@@ -42,6 +44,7 @@ use merged_book::Merged;
 use method::Released;
 use scale_cells::SheetValues;
 use scale_sheet::ScaleSheet;
+use sheet_queue::SheetRecord;
 
 // ENTRY. The search for other languages: the reply of `search` for these files and this share list, and its slots afterwards.
 #[no_mangle]
@@ -228,4 +231,19 @@ pub extern "C" fn dofitrano_merge_books(first: &[u8], second: &[u8], output: &mu
     ensures { λ r. ⌜ Merge-right (now (first .entry)) (now (second .entry)) r (now (output .exit)) ⌝ }
 {
     merge_books::merge_books(first, second, output)
+}
+
+// ENTRY. A queue of sheets on one allowance for other languages, as `run_queue` runs it: the number that refuses it or 0, the records and
+// the slots.
+#[no_mangle]
+pub extern "C" fn dofitrano_run_queue(
+    queue: &mut [SheetRecord],
+    book: &[u8],
+    sheets: &[u8],
+    allowance: u32,
+    shares: &mut [u16],
+) -> u32
+    ensures { λ r. ⌜ (r ≡ queue-refusal (now (book .entry)) (lengths (now (queue .entry))) (now (sheets .entry)) allowance (length (now (shares .entry)))) × (now (queue .exit) ≡ records-after r (now (book .entry)) (now (sheets .entry)) allowance (now (queue .entry))) × (now (shares .exit) ≡ queue-slots-after r (now (book .entry)) (now (sheets .entry)) allowance (now (queue .entry)) (now (shares .entry))) × Queue-right (now (book .entry)) (now (sheets .entry)) allowance (now (queue .entry)) (now (shares .entry)) r (now (queue .exit)) (now (shares .exit)) ⌝ }
+{
+    run_queue::run_queue(queue, book, sheets, allowance, shares)
 }

@@ -39,7 +39,7 @@ module _ (b s : List ℕ) (ok : files-refusal b s ≡ 0) where
   -- ---- Every factor 1
   module _ {t : Bool} (e : t ≡ all-ones (sheet s .factors)) where
     module _ (m : Terms) (h : t ≡ true) where
-      plain-is : plain-problem (m .schedule) b s ≡ call-problem (without-set m) b s
+      pub plain-is : plain-problem (m .schedule) b s ≡ call-problem (without-set m) b s
       unfolding call-problem plain-problem
       plain-is =
           let n : sheet s .factors ≡ ones (columns b) = all-ones-are (sheet s .factors) (sym e ∙ h) ∙ ap ones (g .factor-count) in
@@ -58,11 +58,11 @@ module _ (b s : List ℕ) (ok : files-refusal b s ≡ 0) where
     lettered h = second-edition s whole (sym e ∙ h)
 
   -- ---- Derived files
-  twin : Twin-files b s
+  pub twin : Twin-files b s
   unfolding Files-twin
   twin = files-twin b s ok
 
-  same : (m : Terms) → Same-runs (call-problem (without-set m) b s)
+  pub same : (m : Terms) → Same-runs (call-problem (without-set m) b s)
   unfolding call-problem Plain-twin
   same m = plain-twin (call-problem (without-set m) b s) (g .factor-count)
 
@@ -81,7 +81,7 @@ module _ (b s : List ℕ) (ok : files-refusal b s ≡ 0) where
       pub book-inside : n ≤ length own
       book-inside = front-inside (replicate 32780 0) (derived-book fs b) eo en room
 
-      book-is : take n own ≡ twin-book b s
+      pub book-is : take n own ≡ twin-book b s
       book-is = front-taken (replicate 32780 0) (derived-book fs b) eo en room ∙ rw ef
 
       module _ {own′ : List ℕ} (eo′ : own′ ≡ placed (replicate 144 0) 0 (derived-sheet fs s)) {k : ℕ} (ek : k ≡ length (derived-sheet fs s)) where
@@ -91,7 +91,7 @@ module _ (b s : List ℕ) (ok : files-refusal b s ≡ 0) where
         pub sheet-inside : k ≤ length own′
         sheet-inside = front-inside (replicate 144 0) (derived-sheet fs s) eo′ ek room′
 
-        sheet-is : take k own′ ≡ twin-sheet s
+        pub sheet-is : take k own′ ≡ twin-sheet s
         sheet-is = front-taken (replicate 144 0) (derived-sheet fs s) eo′ ek room′ ∙ rw ef
 
         pub derived-passed : files-refusal (take n own) (take k own′) ≡ 0

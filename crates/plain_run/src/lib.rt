@@ -1,6 +1,6 @@
 // The run of a fleet book and a sheet that counts every column once: its first step, and the memory that the others are lent.
 //
-// Helper for other crates, whose callers prove what it requires: run.
+// Helpers for other crates, whose callers prove what they require: clear, run.
 ghost use mathlib.Core.Path.{_≡_};
 ghost use mathlib.Core.List.{_++_};
 ghost use Prim.Native.Nat.{_≤_};
@@ -14,7 +14,7 @@ use iteration::State;
 use method::Answer;
 
 // Sets the first `count` slots to 0.
-fn clear(list: &mut [u16], count: usize)
+pub fn clear(list: &mut [u16], count: usize)
     requires { ⌜ count ≤ length (now list) ⌝ }
     ensures { λ _. ⌜ now (list .exit) ≡ replicate count 0 ++ drop count (now (list .entry)) ⌝ }
 {

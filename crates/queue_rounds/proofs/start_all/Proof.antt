@@ -1,0 +1,54 @@
+-- `queue_rounds::start_all` meets its contract; `Inv-loop` is what its loop keeps.
+use mathlib.Core.Path.{_≡_, refl, sym, _∙_}
+use native.Mathlib.Omega.{arith}
+use borrow.Author.Needs.{needs}
+use lib.ListN.{length}
+use Prim.Native.Nat.{_-_, _≤_}
+use lib.ListN.{length-replicate}
+use Rattle.queue_rounds.specs.Work.{no-state}
+use Rattle.queue_rounds.proofs.Ends.{Started-to, started-none, started-more, started-all}
+use Rattle.queue_rounds.proofs.start_all.Statement.{statement}
+use Rattle.queue_rounds.proofs.start_all.Tie as tie
+
+abbrev Inv-loop : tie.InvT-loop
+Inv-loop plan book sheets count states₀ i₀ states i = (i ≤ plan .count) × Started-to book plan sheets i states
+
+abbrev μ-loop : tie.MeasureT-loop
+μ-loop plan book sheets count states₀ i₀ states i = plan .count - i
+
+loop-holds : tie.Need-loop-holds Inv-loop μ-loop
+loop-holds c = (omega arith, started-none (length-replicate 16 no-state))
+
+sheet-at-requires : tie.Need-sheet-at-requires Inv-loop μ-loop
+sheet-at-requires c κs = ((c .loop-test .taken, c .before .before .before .before .pre .few), c .before .before .before .before .pre .total)
+
+start-requires : tie.Need-start-requires Inv-loop μ-loop
+start-requires c κs = rw (c .sheet-at .ensures) (c .before .before .before .before .before .pre .each _ (c .before .loop-test .taken))
+
+mul-states : tie.Need-mul-states Inv-loop μ-loop
+mul-states c = record { fits = omega (arith, c .before .before .before .before .before .before .pre .few, c .before .before .loop-test .taken) }
+
+array-set-from-states : tie.Need-array-set-from-states Inv-loop μ-loop
+array-set-from-states c = omega (arith, c .before .before .before .before .before .before .pre .few, c .before .before .loop-test .taken)
+
+loop-again : tie.Need-loop-again Inv-loop μ-loop
+loop-again c = (omega arith, started-more (c .before .before .before .loop .inv .1) (omega (arith, c .before .before .before .before .before .before .pre .few, c .before .before .loop-test .taken)) (c .before .sheet-at .ensures) (c .start .ensures))
+
+returns : tie.Need-returns Inv-loop μ-loop
+returns c = started-all (c .before .loop .inv .1) (c .loop-test .left)
+
+pub start-all-spec : {M : Type 1} → statement M
+start-all-spec =
+    tie.close
+    (tie.spec
+    Inv-loop
+    μ-loop
+    loop-holds
+    sheet-at-requires
+    start-requires
+    mul-states
+    array-set-from-states
+    (λ c. search needs)
+    (λ c. omega arith)
+    loop-again
+    returns)

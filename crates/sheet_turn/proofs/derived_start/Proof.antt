@@ -1,0 +1,51 @@
+-- `sheet_turn::derived_start` meets its contract: what holds on the files of the plain twin holds on the bytes that are derived.
+use borrow.Author.Needs.{needs}
+use mathlib.Core.Path.{sym}
+use lib.Seq.{length-take-le}
+use Rattle.factored_run.proofs.Factored.{whole, book-derivable, sheet-derivable, book-inside, sheet-inside, derived-passed}
+use Rattle.sheet_turn.proofs.Derived.{holds-there, holds-back, shares-there, shares-back, scores-there, scores-back}
+use Rattle.sheet_turn.proofs.derived_start.Statement.{statement}
+use Rattle.sheet_turn.proofs.derived_start.Tie as tie
+
+factors-of-requires : tie.Need-factors-of-requires
+factors-of-requires c κs = (whole _ _ (c .before .before .pre .0), c .before .before .pre .1)
+
+put-book-requires : tie.Need-put-book-requires
+put-book-requires c κs = let d = book-derivable _ _ (c .before .before .before .before .pre .0) (c .before .factors-of .ensures) in (d .0, (d .1 .0, (d .1 .1, search needs)))
+
+put-sheet-requires : tie.Need-put-sheet-requires
+put-sheet-requires c κs = let d = sheet-derivable _ _ (c .before .before .before .before .before .before .before .pre .0) (c .before .before .before .before .factors-of .ensures) in (d .0, (d .1 .0, (d .1 .1, search needs)))
+
+array-share-prefix-own-book : tie.Need-array-share-prefix-own-book
+array-share-prefix-own-book c = book-inside _ _ (c .before .before .before .before .before .before .before .before .before .pre .0) (c .before .before .before .before .before .before .factors-of .ensures) (c .before .before .before .before .put-book .ensures .1) (c .before .before .before .before .put-book .ensures .0)
+
+slice-aggregate-plain-start : tie.Need-slice-aggregate-plain-start
+slice-aggregate-plain-start c = sym (length-take-le _ _ (book-inside _ _ (c .before .before .before .before .before .before .before .before .before .before .pre .0) (c .before .before .before .before .before .before .before .factors-of .ensures) (c .before .before .before .before .before .put-book .ensures .1) (c .before .before .before .before .before .put-book .ensures .0)))
+
+array-share-prefix-own-sheet : tie.Need-array-share-prefix-own-sheet
+array-share-prefix-own-sheet c = sheet-inside _ _ (c .before .before .before .before .before .before .before .before .before .before .pre .0) (c .before .before .before .before .before .before .before .factors-of .ensures) (c .before .before .before .before .before .put-book .ensures .1) (c .before .before .before .before .before .put-book .ensures .0) (c .before .before .put-sheet .ensures .1) (c .before .before .put-sheet .ensures .0)
+
+slice-aggregate-plain-start-2 : tie.Need-slice-aggregate-plain-start-2
+slice-aggregate-plain-start-2 c = sym (length-take-le _ _ (sheet-inside _ _ (c .before .before .before .before .before .before .before .before .before .before .before .pre .0) (c .before .before .before .before .before .before .before .before .factors-of .ensures) (c .before .before .before .before .before .before .put-book .ensures .1) (c .before .before .before .before .before .before .put-book .ensures .0) (c .before .before .before .put-sheet .ensures .1) (c .before .before .before .put-sheet .ensures .0)))
+
+plain-start-requires : tie.Need-plain-start-requires
+plain-start-requires c κs = derived-passed _ _ (c .before .before .before .before .before .before .before .before .before .before .before .pre .0) (c .before .before .before .before .before .before .before .before .factors-of .ensures) (c .before .before .before .before .before .before .put-book .ensures .1) (c .before .before .before .before .before .before .put-book .ensures .0) (c .before .before .before .put-sheet .ensures .1) (c .before .before .before .put-sheet .ensures .0)
+
+returns : tie.Need-returns
+returns c = holds-back _ _ (c .before .before .before .before .before .before .before .before .before .before .before .before .pre .0) (c .before .before .before .before .before .before .before .before .before .factors-of .ensures) (c .before .before .before .before .before .before .before .put-book .ensures .1) (c .before .before .before .before .before .before .before .put-book .ensures .0) (c .before .before .before .before .put-sheet .ensures .1) (c .before .before .before .before .put-sheet .ensures .0) (c .plain-start .ensures)
+
+pub derived-start-spec : {M : Type 1} → statement M
+derived-start-spec =
+    tie.close
+    (tie.spec
+    factors-of-requires
+    (λ c. search needs)
+    put-book-requires
+    (λ c. search needs)
+    put-sheet-requires
+    array-share-prefix-own-book
+    slice-aggregate-plain-start
+    array-share-prefix-own-sheet
+    slice-aggregate-plain-start-2
+    plain-start-requires
+    returns)

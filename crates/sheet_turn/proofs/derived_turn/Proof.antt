@@ -1,0 +1,74 @@
+-- `sheet_turn::derived_turn` meets its contract: what holds on the files of the plain twin holds on the bytes that are derived.
+use borrow.Author.Needs.{needs}
+use mathlib.Core.Path.{sym}
+use lib.Seq.{length-take-le}
+use Rattle.factored_run.proofs.Factored.{whole, book-derivable, sheet-derivable, book-inside, sheet-inside, derived-passed}
+use Rattle.sheet_turn.proofs.Derived.{holds-there, holds-back, shares-there, shares-back, scores-there, scores-back}
+use Rattle.sheet_turn.proofs.derived_turn.Statement.{statement}
+use Rattle.sheet_turn.proofs.derived_turn.Tie as tie
+
+factors-of-requires : tie.Need-factors-of-requires
+factors-of-requires c κs = (whole _ _ (c .before .before .before .pre .0), c .before .before .before .pre .1 .0)
+
+put-book-requires : tie.Need-put-book-requires
+put-book-requires c κs = let d = book-derivable _ _ (c .before .before .before .before .before .pre .0) (c .before .factors-of .ensures) in (d .0, (d .1 .0, (d .1 .1, search needs)))
+
+put-sheet-requires : tie.Need-put-sheet-requires
+put-sheet-requires c κs = let d = sheet-derivable _ _ (c .before .before .before .before .before .before .before .before .pre .0) (c .before .before .before .before .factors-of .ensures) in (d .0, (d .1 .0, (d .1 .1, search needs)))
+
+array-share-prefix-own-book : tie.Need-array-share-prefix-own-book
+array-share-prefix-own-book c = book-inside _ _ (c .before .before .before .before .before .before .before .before .before .before .pre .0) (c .before .before .before .before .before .before .factors-of .ensures) (c .before .before .before .before .put-book .ensures .1) (c .before .before .before .before .put-book .ensures .0)
+
+slice-aggregate-plain-turn : tie.Need-slice-aggregate-plain-turn
+slice-aggregate-plain-turn c = sym (length-take-le _ _ (book-inside _ _ (c .before .before .before .before .before .before .before .before .before .before .before .pre .0) (c .before .before .before .before .before .before .before .factors-of .ensures) (c .before .before .before .before .before .put-book .ensures .1) (c .before .before .before .before .before .put-book .ensures .0)))
+
+array-share-prefix-own-sheet : tie.Need-array-share-prefix-own-sheet
+array-share-prefix-own-sheet c = sheet-inside _ _ (c .before .before .before .before .before .before .before .before .before .before .before .pre .0) (c .before .before .before .before .before .before .before .factors-of .ensures) (c .before .before .before .before .before .put-book .ensures .1) (c .before .before .before .before .before .put-book .ensures .0) (c .before .before .put-sheet .ensures .1) (c .before .before .put-sheet .ensures .0)
+
+slice-aggregate-plain-turn-2 : tie.Need-slice-aggregate-plain-turn-2
+slice-aggregate-plain-turn-2 c = sym (length-take-le _ _ (sheet-inside _ _ (c .before .before .before .before .before .before .before .before .before .before .before .before .pre .0) (c .before .before .before .before .before .before .before .before .factors-of .ensures) (c .before .before .before .before .before .before .put-book .ensures .1) (c .before .before .before .before .before .before .put-book .ensures .0) (c .before .before .before .put-sheet .ensures .1) (c .before .before .before .put-sheet .ensures .0)))
+
+plain-turn-requires : tie.Need-plain-turn-requires
+plain-turn-requires c κs =
+    let p = c .before .before .before .before .before .before .before .before .before .before .before .before .before .before .pre in
+    let ef = c .before .before .before .before .before .before .before .before .before .before .factors-of .ensures in
+    let eb = c .before .before .before .before .before .before .before .before .put-book .ensures in
+    let es = c .before .before .before .before .before .put-sheet .ensures in (
+      derived-passed _ _ (p .0) ef (eb .1) (eb .0) (es .1) (es .0),
+      (
+        holds-there _ _ (p .0) ef (eb .1) (eb .0) (es .1) (es .0) (p .1 .1 .0),
+        (
+          p .1 .1 .1 .0,
+          (shares-there _ _ (p .0) ef (eb .1) (eb .0) (es .1) (es .0) (p .1 .1 .1 .1 .0), scores-there _ _ (p .0) ef (eb .1) (eb .0) (es .1) (es .0) (p .1 .1 .1 .1 .1)),
+        ),
+      ),
+    )
+
+returns : tie.Need-returns
+returns c =
+    let p = c .before .before .before .before .before .before .before .before .before .before .before .before .before .before .before .before .before .before .pre in
+    let ef = c .before .before .before .before .before .before .before .before .before .before .before .before .before .before .factors-of .ensures in
+    let eb = c .before .before .before .before .before .before .before .before .before .before .before .before .put-book .ensures in
+    let es = c .before .before .before .before .before .before .before .before .before .put-sheet .ensures in
+    let h = c .before .before .before .plain-turn .ensures in (
+      holds-back _ _ (p .0) ef (eb .1) (eb .0) (es .1) (es .0) (h .0),
+      (shares-back _ _ (p .0) ef (eb .1) (eb .0) (es .1) (es .0) _ _ (h .1 .0), scores-back _ _ (p .0) ef (eb .1) (eb .0) (es .1) (es .0) (h .1 .1)),
+    )
+
+pub derived-turn-spec : {M : Type 1} → statement M
+derived-turn-spec =
+    tie.close
+    (tie.spec
+    factors-of-requires
+    (λ c. search needs)
+    put-book-requires
+    (λ c. search needs)
+    put-sheet-requires
+    array-share-prefix-own-book
+    slice-aggregate-plain-turn
+    array-share-prefix-own-sheet
+    slice-aggregate-plain-turn-2
+    plain-turn-requires
+    (λ c. search needs)
+    (λ c. search needs)
+    returns)

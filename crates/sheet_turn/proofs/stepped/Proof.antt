@@ -1,0 +1,49 @@
+-- `sheet_turn::stepped` meets its contract: the factors say which files serve.
+use Prim.Native.Nat.{ℕ}
+use mathlib.Core.List.{List}
+use borrow.Author.Needs.{needs}
+use Rattle.factored_run.proofs.Factored.{whole, lettered}
+use Rattle.sheet_turn.proofs.Plain.{asks-itself, asks-twin, gives-itself, gives-twin}
+use Rattle.sheet_turn.proofs.stepped.Statement.{statement}
+use Rattle.sheet_turn.proofs.stepped.Tie as tie
+
+is-plain-requires : tie.Need-is-plain-requires
+is-plain-requires c κs = whole _ _ (c .before .before .before .pre .0)
+
+plain-turn-requires : tie.Need-plain-turn-requires
+plain-turn-requires c κs =
+    let p = c .before .before .before .before .before .before .before .pre in
+    let a = asks-itself _ _ (p .0) (c .before .before .before .is-plain .ensures) (p .1 .0) (p .1 .1 .1 .0) (p .1 .1 .1 .1) (c .before .before .if1 .taken) in
+    (p .0, (a .0, (p .1 .1 .0, (a .1 .0, a .1 .1))))
+
+returns : tie.Need-returns
+returns c =
+    let p = c .before .before .before .before .before .before .before .before .before .before .before .pre in
+    let h = c .before .before .before .plain-turn .ensures in
+    gives-itself _ _ (p .0) (c .before .before .before .before .before .before .before .is-plain .ensures) _ (c .before .before .before .before .before .before .if1 .taken) (h .0, (h .1 .0, h .1 .1))
+
+derived-turn-requires : tie.Need-derived-turn-requires
+derived-turn-requires c κs =
+    let p = c .before .before .before .before .before .before .before .pre in
+    let a = asks-twin _ _ (p .0) (c .before .before .before .is-plain .ensures) (p .1 .0) (p .1 .1 .1 .0) (p .1 .1 .1 .1) (c .before .before .if1 .left) in
+    (p .0, (lettered _ _ (p .0) (c .before .before .before .is-plain .ensures) (c .before .before .if1 .left), (a .0, (p .1 .1 .0, (a .1 .0, a .1 .1)))))
+
+returns-2 : tie.Need-returns-2
+returns-2 c =
+    let p = c .before .before .before .before .before .before .before .before .before .before .before .pre in
+    let h = c .before .before .before .derived-turn .ensures in
+    gives-twin _ _ (p .0) (c .before .before .before .before .before .before .before .is-plain .ensures) _ (c .before .before .before .before .before .before .if1 .left) (h .0, (h .1 .0, h .1 .1))
+
+pub stepped-spec : {M : Type 1} → statement M
+stepped-spec =
+    tie.close
+    (tie.spec
+    is-plain-requires
+    plain-turn-requires
+    (λ c. search needs)
+    (λ c. search needs)
+    returns
+    derived-turn-requires
+    (λ c. search needs)
+    (λ c. search needs)
+    returns-2)
