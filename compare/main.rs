@@ -1,7 +1,7 @@
 //! The volume comparison: random and damaged files through the exported functions of the library and through the reference
 //! implementation in reference.rs. Replies, share lists, cards, listings and what must stay untouched are compared bit for bit;
 //! terms.rs has the calls that also take a released set and a table of shares; cells.rs does the same of scale cells, pairs.rs of two cards, editions.rs of
-//! a sheet's other edition, merges.rs of two books.
+//! a sheet's other edition, merges.rs of two books, queues.rs of sheets on one allowance.
 //!
 //! Use: compare [COUNT [SEED]]. The last line has the count; the exit status is 1 where a case differs, and the case is printed.
 
@@ -10,6 +10,7 @@ mod editions;
 mod encode;
 mod merges;
 mod pairs;
+mod queues;
 mod random;
 mod reference;
 mod terms;
@@ -688,7 +689,8 @@ fn compare_listing(rng: &mut Random) -> Compared {
 
 // ------------------------------------------------------------------ the command
 
-/// The refusals that each call can give, all of which the gate's comparison and a long one must meet.
+/// The refusals that each call can give, all of which the gate's comparison and a long one must meet; of a queue those of its own, of a
+/// damaged book and of a sheet.
 fn refusals(call: &str) -> Vec<u32> {
     let mut numbers: Vec<u32> = (1..=6).chain(11..=17).chain([46]).collect();
     match call {
@@ -696,6 +698,7 @@ fn refusals(call: &str) -> Vec<u32> {
         "scale_sheet" => return (1..=6).chain(41..=43).chain(14..=15).collect(),
         "other_edition" => return (11..=17).chain(46..=48).collect(),
         "merge_books" => return (1..=6).chain(55..=57).collect(),
+        "run_queue" => return vec![5, 44, 45, 46, 21],
         "search" | "search_with" => numbers.push(21),
         "write_card" | "write_card_with" => numbers.push(22),
         "check_card" | "check_card_with" => numbers.extend([21].into_iter().chain(31..=39)),
@@ -708,7 +711,7 @@ fn refusals(call: &str) -> Vec<u32> {
     numbers
 }
 
-const CALLS: [&str; 12] = [
+const CALLS: [&str; 13] = [
     "search",
     "write_card",
     "check_card",
@@ -721,6 +724,7 @@ const CALLS: [&str; 12] = [
     "scale_sheet",
     "other_edition",
     "merge_books",
+    "run_queue",
 ];
 
 /// How a call goes that is not refused.
@@ -730,12 +734,13 @@ fn answers(call: &str) -> &'static [&'static str] {
         "better_card" => &["first", "second"],
         "other_edition" => &["edition 1", "edition 2"],
         "merge_books" => &["some known", "all new"],
+        "run_queue" => &["some cut", "all finished"],
         _ => &["within", "beyond", "spent"],
     }
 }
 
 fn one_case(rng: &mut Random) -> Compared {
-    match rng.below(25) {
+    match rng.below(26) {
         0 | 1 => compare_search(rng, false),
         2 | 3 => compare_write_card(rng, false),
         4..=6 => compare_check_card(rng, false),
@@ -747,6 +752,7 @@ fn one_case(rng: &mut Random) -> Compared {
         9 => cells::compare_sheet(rng),
         10 => editions::compare_other_edition(rng),
         15 | 16 => merges::compare_merge_books(rng),
+        25 => queues::compare_run_queue(rng),
         _ => pairs::compare_better_card(rng),
     }
 }

@@ -100,6 +100,13 @@ def main():
     print("refusal %d, edition %d, bytes %d" % (refusal, edition, size))
     print(other.hex())
     print("refusal %d, edition %d, bytes %d" % exact.other_edition(exact.make_sheet([1, 1], 2, 1, factors=[1, 2]), bytes(22))[:3])
+    print("queue")
+    sheets = [exact.make_sheet([1, 1], 9, 1), exact.make_sheet([1, 1], 2, 1, factors=[1, 2])]
+    for allowance in (4, 1):
+        refusal, records, slots = exact.run_queue(book, [len(sheet) for sheet in sheets], b"".join(sheets), allowance, [0] * 512)
+        print("refusal", refusal)
+        for i, r in enumerate(records or []):
+            print("asked %d, used %d, finished %d, %s, %d %d, slots" % (r.asked, r.used, r.finished, NAMES[r.verdict], r.distance, r.gap), *slots[256 * i:256 * i + 3])
 
 
 main()

@@ -48,8 +48,10 @@ enum dofitrano_refusal {
     DOFITRANO_EDITION_FACTOR = 47,  /* a sheet WSH2 that is to be WSH1 has a factor other than 1 */
     DOFITRANO_EDITION_OUTPUT = 48,  /* output shorter than the other edition, or that longer than 40,000 bytes */
     /* the calling program */
-    DOFITRANO_SHARE_LIST = 21,  /* share list shorter than the number of boats */
+    DOFITRANO_SHARE_LIST = 21,  /* share list shorter than the number of boats; of a queue, than 256 slots a sheet */
     DOFITRANO_CARD_BUFFER = 22, /* card buffer shorter than the card */
+    DOFITRANO_QUEUE_SHEETS = 44,    /* sheets of a queue outside 1 to 16, or lengths that do not total the buffer */
+    DOFITRANO_QUEUE_ALLOWANCE = 45, /* an allowance below the number of sheets or above 5,760 */
     /* a table of shares that is lent */
     DOFITRANO_TABLE_LENGTH = 49, /* no entry, or more than 360 */
     DOFITRANO_TABLE_ENTRY = 50,  /* an entry of 0, or one whose square is above twice the running total that includes it */
@@ -263,6 +265,31 @@ typedef struct dofitrano_merged {
 dofitrano_merged dofitrano_merge_books(const uint8_t *first, size_t first_length,
                                        const uint8_t *second, size_t second_length,
                                        uint8_t *output, size_t output_length);
+
+/* What a queue says of one sheet. The caller gives `length`; the rest is written. */
+typedef struct dofitrano_sheet_record {
+    uint32_t asked;    /* the steps that the sheet asks for */
+    uint32_t used;     /* the steps that it took */
+    bool finished;     /* whether it has a verdict of its own, and not that of an allowance that was gone */
+    uint64_t distance; /* E after the steps that it took */
+    uint64_t gap;      /* G after them */
+    uint32_t verdict;  /* 1 Within, 2 Beyond, 3 Spent; 3 also where the allowance cut the sheet off */
+    uint32_t length;   /* the bytes of the sheet */
+} dofitrano_sheet_record;
+
+/* How many slots of the share list each sheet of a queue has. */
+#define DOFITRANO_QUEUE_SLOTS 256
+
+/* Runs 1 to 16 sheets, which stand back to back in `sheets`, on one allowance of steps: in each round every unfinished sheet, in queue
+ * order, takes one step, until all have a verdict or the allowance is gone. Sheet i has the slots from 256 i on, and the first of them get
+ * its shares, one a boat; other slots are as they were. What is written of a sheet is what dofitrano_search gives for it with its steps set
+ * to those that it used. Refuses by 1 to 6, 44, 45, then each sheet in order by 11 to 17 and 46, then 21, and gives back that number; every
+ * record and slot is then as it was. */
+uint32_t dofitrano_run_queue(dofitrano_sheet_record *queue, size_t sheet_count,
+                             const uint8_t *book, size_t book_length,
+                             const uint8_t *sheets, size_t sheets_length,
+                             uint32_t allowance,
+                             uint16_t *shares, size_t slots);
 
 #ifdef __cplusplus
 }

@@ -14,6 +14,7 @@ TYPES = {"u8": "uint8_t", "u16": "uint16_t", "u32": "uint32_t", "u64": "uint64_t
 # Sizes that the header names, with the file and the text that has each.
 SIZES = {"DOFITRANO_CARD_MOST": ("crates/card_listing/src/lib.rt", "pub const MOST_CARD: usize = %d;"),
          "DOFITRANO_BOOK_MOST": ("crates/merged_book/src/lib.rt", "pub const MOST_BYTES: usize = %d;"),
+         "DOFITRANO_QUEUE_SLOTS": ("crates/sheet_queue/src/lib.rt", "pub const SLOTS: usize = %d;"),
          "DOFITRANO_SHEET_MOST": ("crates/scale_sheet/src/lib.rt", "pub bytes: [u8; %d]"),
          "DOFITRANO_LISTING_MOST": ("crates/text/src/lib.rt", "pub const MOST_BYTES: usize = %d;")}
 
@@ -33,7 +34,7 @@ def c_types(rust):
     """What C has for a type of the code, one or two parameters."""
     slice_of = re.match(r"&(mut )?\[(\w+)\]$", rust)
     if slice_of:
-        return [("" if slice_of[1] else "const ") + TYPES[slice_of[2]] + " *", "size_t"]
+        return [("" if slice_of[1] else "const ") + (TYPES.get(slice_of[2]) or STRUCTS.get(slice_of[2], slice_of[2])) + " *", "size_t"]
     array = re.match(r"\[(\w+); (\d+)\]$", rust)
     if array:
         return ["%s[%s]" % (TYPES[array[1]], array[2])]
@@ -75,6 +76,11 @@ def main():
         if gives in homes and c_gives and gives not in STRUCTS:
             STRUCTS[gives] = c_gives
             struct(gives, homes[gives], c_gives)
+        # a list of structs: the pointer at its place in the prototype says which struct of C it is
+        for rust, c in zip(re.findall(r"&(?:mut )?\[(\w+)\]", parameters), re.findall(r"(\w+) \*", c_parameters)):
+            if rust in homes and rust not in STRUCTS:
+                STRUCTS[rust] = c
+                struct(rust, homes[rust], c)
         found = [re.sub(r"\w+$", "", p.strip()).strip() for p in c_parameters.split(",")]
         wanted = []
         for kind in re.findall(r"\w+: ([^,]+?)\s*(?:,|$)", parameters):

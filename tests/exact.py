@@ -149,6 +149,8 @@ MOST_FACTORS = 64
 MOST_TOTAL = 64980
 MOST_CARDS = 64
 STRETCH = 12
+MOST_SHEETS = 16
+SLOTS = 256  # of a share list, for each sheet of a queue
 MOST_KILOGRAMS = 1048576
 MOST_UNIT = 10000
 
@@ -639,6 +641,64 @@ def merge_books(first: bytes, second: bytes, buffer: bytes):
     if len(buffer) < len(book):
         return 57, 0, buffer
     return 0, len(book), book + buffer[len(book):]
+
+
+@dataclass(frozen=True)
+class SheetRecord:
+    """What a queue says of one sheet. The length is given, the rest written."""
+    length: int
+    asked: int = 0
+    used: int = 0
+    finished: bool = False
+    distance: int = 0
+    gap: int = 0
+    verdict: int = 0
+
+
+def queue_refusal(book: bytes, lengths, sheets: bytes, allowance: int, slots: int):
+    """The number that refuses a queue, or 0, and the sheets."""
+    refusal = book_refusal(book)
+    if refusal:
+        return refusal, []
+    if not 1 <= len(lengths) <= MOST_SHEETS or sum(lengths) != len(sheets):
+        return 44, []
+    if allowance < len(lengths) or allowance > MOST_SHEETS * MOST_STEPS:
+        return 45, []
+    parts, at = [], 0
+    for length in lengths:
+        parts.append(sheets[at:at + length])
+        at += length
+    for part in parts:
+        refusal = sheet_refusal(part, len(read_book(book)[0]))
+        if refusal:
+            return refusal, []
+    return (21 if slots < SLOTS * len(parts) else 0), parts
+
+
+def run_queue(book: bytes, lengths, sheets: bytes, allowance: int, slots: list[int]):
+    """Refusal, the records (None if refused) and the share list afterwards. In each round every unfinished sheet, in queue order, takes
+    one step of the published iteration, until all have a verdict or the allowance is gone.
+    """
+    refusal, parts = queue_refusal(book, lengths, sheets, allowance, len(slots))
+    if refusal:
+        return refusal, None, list(slots)
+    rows, wanted = read_book(book), [read_sheet(part) for part in parts]
+    runs = [iterates(rows, target, factors) for target, _, _, factors in wanted]
+    verdicts, last, left = [0] * len(parts), [None] * len(parts), allowance
+    while left and not all(verdicts):
+        for i, (_, steps, tolerance, _) in enumerate(wanted):
+            if left and not verdicts[i]:
+                last[i] = next(runs[i])
+                left -= 1
+                k, _, _, squared_distance, duality_gap = last[i]
+                verdicts[i] = judge(squared_distance, duality_gap, tolerance, k, steps)
+    records, shares = [], list(slots)
+    for i, (_, steps, tolerance, _) in enumerate(wanted):
+        k, weights, _, squared_distance, duality_gap = last[i]
+        answer = answer_of(k, squared_distance, duality_gap, verdicts[i] or SPENT, tolerance)
+        records.append(SheetRecord(lengths[i], steps, k, bool(verdicts[i]), answer.distance, answer.gap, answer.verdict))
+        shares[SLOTS * i:SLOTS * i + len(rows)] = [whole(weight * answer.weight) for weight in weights]
+    return 0, records, shares
 
 
 def merge_listing(first: bytes, second: bytes) -> bytes:

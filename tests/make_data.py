@@ -15,6 +15,7 @@ import csv_sheets  # noqa: E402
 import details  # noqa: E402
 import leanings  # noqa: E402
 import merges  # noqa: E402
+import queues  # noqa: E402
 import pairs  # noqa: E402
 import sheet_editions  # noqa: E402
 
@@ -173,7 +174,7 @@ def main():
     data = {"test_search": FILES, "test_better": {"pairs.dat": pairs.file_of(pairs.cases())}, **PROGRAMS}
     data["test_edition"] = {name: content for card, (book, rows, sheet) in FILED_BEFORE.items()
                             for name, content in ((book, rows), (card + ".wsh", sheet))}
-    for crate, cases in (("test_book", csv_books), ("test_sheet", csv_sheets), ("test_rewriting", sheet_editions), ("test_merge", merges), ("test_lean", leanings)):
+    for crate, cases in (("test_book", csv_books), ("test_sheet", csv_sheets), ("test_rewriting", sheet_editions), ("test_merge", merges), ("test_lean", leanings), ("test_queue", queues)):
         data[crate] = {os.path.join(name, file): content for name, files in cases.FOLDERS.items() for file, content in files.items()}
         data[crate]["cases.dat"] = cases.file_of(cases.cases())
     data["test_details"] = {"cases.dat": details.file_of(details.cases())}

@@ -1,5 +1,6 @@
 /* The library from C: a search and its refusal, a search with factors, one with a table of shares, one among released boats, a listing, a
- * card written and checked, a sheet of scale cells, a sheet in its other edition. Files are built in memory. */
+ * card written and checked, a sheet of scale cells, a sheet in its other edition, two sheets on one allowance.
+ * Files are built in memory. */
 #include <inttypes.h>
 #include <stdbool.h>
 #include <stdio.h>
@@ -160,6 +161,23 @@ static void convert(void)
     printf("refusal %" PRIu32 ", edition %" PRIu32 ", bytes %zu\n", made.refusal, made.edition, made.bytes);
 }
 
+/* The sheet and the one with factors back to back, on an allowance of 4 steps: two rounds. */
+static void share(void)
+{
+    uint8_t sheets[sizeof sheet + sizeof factored];
+    dofitrano_sheet_record queue[2] = { { .length = sizeof sheet }, { .length = sizeof factored } };
+    uint16_t shares[2 * DOFITRANO_QUEUE_SLOTS] = { 0 };
+    memcpy(sheets, sheet, sizeof sheet);
+    memcpy(sheets + sizeof sheet, factored, sizeof factored);
+    printf("refusal %" PRIu32 "\n", dofitrano_run_queue(queue, 2, book, sizeof book, sheets, sizeof sheets, 4, shares, sizeof shares / sizeof *shares));
+    for (int i = 0; i < 2; i++) {
+        const uint16_t *own = shares + i * DOFITRANO_QUEUE_SLOTS;
+        printf("asked %" PRIu32 ", used %" PRIu32 ", finished %d, %s, %" PRIu64 " %" PRIu64 ", slots %u %u %u\n",
+               queue[i].asked, queue[i].used, queue[i].finished, verdict_name(queue[i].verdict), queue[i].distance, queue[i].gap, own[0], own[1], own[2]);
+    }
+    printf("refusal %" PRIu32 "\n", dofitrano_run_queue(queue, 2, book, sizeof book, sheets, sizeof sheets, 1, shares, sizeof shares / sizeof *shares));
+}
+
 int main(void)
 {
     printf("search, 9 steps\n");
@@ -188,5 +206,7 @@ int main(void)
     weigh();
     printf("editions\n");
     convert();
+    printf("queue\n");
+    share();
     return 0;
 }

@@ -50,6 +50,11 @@ class Released(ctypes.Structure):
     _fields_ = [("limited", ctypes.c_bool), ("boats", ctypes.c_uint8 * 32)]
 
 
+class SheetRecord(ctypes.Structure):
+    _fields_ = [("asked", ctypes.c_uint32), ("used", ctypes.c_uint32), ("finished", ctypes.c_bool), ("distance", ctypes.c_uint64),
+                ("gap", ctypes.c_uint64), ("verdict", ctypes.c_uint32), ("length", ctypes.c_uint32)]
+
+
 class Sheet(ctypes.Structure):
     """dofitrano_sheet of include/dofitrano.h."""
 
@@ -90,6 +95,8 @@ def load(path):
     library.dofitrano_scale_sheet.argtypes = file + cells + [ctypes.c_uint32, ctypes.c_uint32]
     library.dofitrano_other_edition.restype = EditionReply
     library.dofitrano_other_edition.argtypes = file + buffer
+    library.dofitrano_run_queue.argtypes = [ctypes.POINTER(SheetRecord), ctypes.c_size_t] + file + file + [ctypes.c_uint32] + shares
+    library.dofitrano_run_queue.restype = ctypes.c_uint32
     return library
 
 
@@ -246,6 +253,16 @@ def main(path):
         print("refusal %d, edition %d, bytes %d" % (made.refusal, made.edition, made.bytes))
         if made.bytes:
             print(other.raw[:made.bytes].hex())
+    print("queue")
+    # Two sheets back to back, on an allowance of 4 steps, and on one that is too small.
+    sheets = [sheet_of((1, 1), 9, 1), sheet_of((1, 1), 2, 1, (1, 2))]
+    queue = (SheetRecord * 2)(*(SheetRecord(length=len(sheet)) for sheet in sheets))
+    slots = (ctypes.c_uint16 * 512)()
+    for allowance in (4, 1):
+        refusal = library.dofitrano_run_queue(queue, 2, book, len(book), b"".join(sheets), sum(map(len, sheets)), allowance, slots, 512)
+        print("refusal", refusal)
+        for i, r in enumerate(queue if not refusal else ()):
+            print("asked %d, used %d, finished %d, %s, %d %d, slots" % (r.asked, r.used, r.finished, VERDICT_NAMES[r.verdict], r.distance, r.gap), *slots[256 * i:256 * i + 3])
 
 
 if __name__ == "__main__":

@@ -1,0 +1,41 @@
+#!/usr/bin/env python3
+"""What test_queue prints: the number that refuses each queue, its records, and a sum of all slots."""
+import os
+import sys
+
+sys.path.insert(0, os.path.join(os.path.dirname(os.path.abspath(__file__)), ".."))
+import exact  # noqa: E402
+import queues  # noqa: E402
+from printing import checksum  # noqa: E402
+
+
+def queue(number, book, lengths, buffer, allowance, slots):
+    """The lines of one case: the call is lent `slots` slots of a longer list, which is checked whole."""
+    refusal, records, left = exact.run_queue(book, lengths, buffer, allowance, [queues.FILLED] * slots)
+    lines = ["case %d" % number, "refused %d" % refusal]
+    lines += ["record %d %d %d %d %d %d %d" % (r.asked, r.used, r.finished, r.distance, r.gap, r.verdict, r.length) for r in records or []]
+    return "\n".join(lines + ["sum %d\n" % checksum(left + [queues.FILLED] * (queues.SLOTS - slots))])
+
+
+def main():
+    found = queues.cases()
+    kinds = queues.kinds(found)
+    missing = [kind for kind in (0, 14, 21, 44, 45, 46, "cut", "finished") if kinds.get(kind, 0) < 3]
+    if missing:
+        sys.exit("queues.py has too few cases of: %s" % missing)
+    # a queue's sheet has what the sheet run alone has, with its steps set to those that it used
+    for book, lengths, buffer, allowance, slots in found:
+        refusal, records, left = exact.run_queue(book, lengths, buffer, allowance, [0] * slots)
+        at = 0
+        for i, record in enumerate(records or []):
+            rows, (target, steps, tolerance, factors) = exact.read_book(book), exact.read_sheet(buffer[at:at + record.length])
+            answer, shares = exact.run(rows, target, record.used, tolerance, factors)
+            at += record.length
+            if (answer.steps, answer.distance, answer.gap, answer.verdict) != (record.used, record.distance, record.gap, record.verdict):
+                sys.exit("a sheet run alone with its steps set to those that it used has another answer")
+            if shares != left[256 * i:256 * i + len(rows)]:
+                sys.exit("a sheet run alone with its steps set to those that it used has other shares")
+    sys.stdout.write("".join(queue(number, *case) for number, case in enumerate(found)))
+
+
+main()
