@@ -29,22 +29,22 @@ use Rattle.card_format.proofs.Counted.{counted-card, counted-writing}
 use Rattle.card_format.proofs.Isolated.{card-isolated, card-all}
 use Rattle.card_format.proofs.RunCards.{written-accepted, written-short}
 
-filing-number : (n : ℕ) (a : Answer) (k : ℕ) → writing-number (filing n a k) ≡ n
+pub filing-number : (n : ℕ) (a : Answer) (k : ℕ) → writing-number (filing n a k) ≡ n
 unfolding writing-number filing
 filing-number zero a k = refl
 filing-number (suc n) a k = refl
 
-filing-refused : (n m : ℕ) (a : Answer) (k : ℕ) → filing n a k ≡ Refused m → 1 ≤ m
+pub filing-refused : (n m : ℕ) (a : Answer) (k : ℕ) → filing n a k ≡ Refused m → 1 ≤ m
 unfolding filing
 filing-refused zero m a k e = absurd (let z : _≡_ {A = ℕ} 0 1 = cc in omega arith)
 filing-refused (suc n) m a k e = let q : suc n ≡ m = cc in omega arith
 
-filing-filed : (n : ℕ) (a x : Answer) (k m : ℕ) → filing n a k ≡ Filed x m → (n ≡ 0) × (a ≡ x)
+pub filing-filed : (n : ℕ) (a x : Answer) (k m : ℕ) → filing n a k ≡ Filed x m → (n ≡ 0) × (a ≡ x)
 unfolding filing
 filing-filed zero a x k m e = (refl, cc)
 filing-filed (suc n) a x k m e = absurd (let z : _≡_ {A = ℕ} 0 1 = cc in omega arith)
 
-filing-size : (a : Answer) (k : ℕ) → written-size (filing 0 a k) ≡ k
+pub filing-size : (a : Answer) (k : ℕ) → written-size (filing 0 a k) ≡ k
 unfolding written-size filing
 filing-size a k = refl
 

@@ -64,7 +64,7 @@ module _ (m : Terms) (b s : List ℕ) (ok : call-refusal m b s ≡ 0) where
 
 module _ (m : Terms) (b s : List ℕ) (test : Test) {a : Answer} (qs : List ℕ) (rests : Rests-on (m .released) qs) (own : a ≡ answer-of test (call-problem m b s) (gather (m .released) qs) (a .steps)) where
   -- it is true where the test ends a run, of shares that so many steps can give
-  answer-card-true : length qs ≡ boats b → sum qs ≡ weight (m .schedule) (a .steps) → support qs ≤ a .steps → 1 ≤ a .steps → a .steps ≤ call-steps m s → stops (call-steps m s) (a .steps) (a .verdict) ≡ true →
+  unfoldable pub answer-card-true : length qs ≡ boats b → sum qs ≡ weight (m .schedule) (a .steps) → support qs ≤ a .steps → 1 ≤ a .steps → a .steps ≤ call-steps m s → stops (call-steps m s) (a .steps) (a .verdict) ≡ true →
       (front : List ℕ) → length (front ++ card-bytes test a qs (sheet s .tolerance) (boats b) (columns b)) ≤ file-limit →
       Card-true-with m b s (front ++ card-bytes test a qs (sheet s .tolerance) (boats b) (columns b))
   unfolding call-problem card-bytes answer-fields

@@ -111,7 +111,7 @@ files-of : (b s : List ℕ) → files-refusal b s ≡ cond (eqb (book-refusal b)
 unfolding files-refusal
 files-of b s = refl
 
-rows-count : (b : List ℕ) → length (rows b) ≡ boats b
+pub rows-count : (b : List ℕ) → length (rows b) ≡ boats b
 unfolding rows
 rows-count b = length-rows-from (boats b) (columns b) _
 
