@@ -1,6 +1,6 @@
 // The answer of a list of shares, one a boat, which need not come from a run: its residual, and E, G and the verdict from it.
 //
-// Helper for other crates, whose callers prove what it requires: answer_of.
+// Helpers for other crates, whose callers prove what they require: residual_of, answer_of.
 ghost use mathlib.Core.Path.{_≡_};
 ghost use Prim.Native.Nat.{_≤_};
 ghost use lib.ListN.{take};
@@ -20,7 +20,7 @@ use method::Answer;
 use method::Test;
 
 // The residual of the first shares, one a boat: the sum over the boats of share × (row - target), one entry a column.
-fn residual_of(book: &[u8], sheet: &[u8], layout: Layout, shares: [u16; 256]) -> [i32; 64]
+pub fn residual_of(book: &[u8], sheet: &[u8], layout: Layout, shares: [u16; 256]) -> [i32; 64]
     requires { ⌜ files-refusal (now book) (now sheet) ≡ 0 ⌝ }
     requires { ⌜ layout ≡ file-layout (now book) (now sheet) ⌝ }
     requires { ⌜ sum (take (boats (now book)) shares) ≤ total-limit ⌝ }

@@ -80,7 +80,7 @@ pub fn least_product(products: &[i32], boats: usize) -> Least
 }
 
 // A score moved by k times a product.
-fn moved_score(score: i64, k: u32, product: i32) -> i64
+pub fn moved_score(score: i64, k: u32, product: i32) -> i64
     requires { ⌜ Score-sized score k product ⌝ }
     ensures { λ s. ⌜ s ≡ score +ℤ pos k *ℤ product ⌝ }
 {

@@ -1,0 +1,121 @@
+-- The numbers of a move as the machine has them: the slope, the squared distance of two rows, and the amount. Assumes nothing.
+use mathlib.Core.Path.{_≡_, refl, sym, ap, _∙_}
+use mathlib.Core.List.{List, [], _∷_}
+use Prim.Native.Nat.{ℕ, zero, suc, _+_, _*_, _-_, _/_, _≤_, _<_, min}
+use native.Mathlib.Omega.{arith}
+use borrow.Author.Tests.{eq-eqb, ne-eqb}
+use lib.Dec.{T}
+use lib.IntN.{ℤ, pos, negsuc, natAbs, _+ℤ_, _-ℤ_, _*ℤ_}
+use lib.ListN.{length, getD}
+use lib.Signed.{nonNeg, yes-nonNeg, pos-natAbs}
+use mir.Syntax.{w32, w64}
+use mir.Val.{SFits, Fits, toZ, ofZ}
+use mir.Facts.{toZ-ofZ}
+use Rattle.integers.proofs.Solver.{con, _⊕_, _⊗_, _⊝_, x₀, x₁, x₂, x₃, solve}
+use Rattle.integers.proofs.Bounds.{fits, read, abs-add, abs-sub}
+use Rattle.frank_wolfe.specs.Vectors.{subtract, inner, squared-norm}
+use Rattle.sums.specs.Operands.{Bounded, Multipliable}
+use Rattle.pairwise.specs.Moves.{nearest-down, amount-of}
+use Rattle.pairwise_moves.specs.Passes.{Slope-sized}
+
+-- ---- The slope
+
+module _ {a b : ℤ} (s : Slope-sized a b) where
+  abbrev difference : ℤ
+  difference = toZ w64 (ofZ w64 a) -ℤ toZ w64 (ofZ w64 b)
+
+  difference-is : difference ≡ a -ℤ b
+  difference-is = rw (read w64 {z = a} 33269760000000 (s .first) tt, read w64 {z = b} 33269760000000 (s .second) tt)
+
+  size : natAbs (a -ℤ b) ≤ 66539520000000
+  size = omega (arith, abs-sub a b, s .first, s .second)
+
+  pub slope-fits : SFits w64 difference
+  slope-fits = rw difference-is (fits w64 66539520000000 size tt)
+
+  slope-read : toZ w64 (ofZ w64 difference) ≡ a -ℤ b
+  slope-read = toZ-ofZ slope-fits ∙ difference-is
+
+  pub slope-cast : T (nonNeg (toZ w64 (ofZ w64 difference))) × Fits w64 (natAbs (toZ w64 (ofZ w64 difference)))
+  slope-cast = rw slope-read (yes-nonNeg (s .sign), record { fits = omega (arith, size) })
+
+  pub slope-result : pos (natAbs (toZ w64 (ofZ w64 difference))) ≡ a -ℤ b
+  slope-result = rw slope-read (pos-natAbs (a -ℤ b) (yes-nonNeg (s .sign)))
+
+-- ---- An inner product of few entries
+
+pub inner-size : (n : ℕ) (x y : List ℤ) → length x ≡ n → Multipliable n x y → natAbs (inner x y) ≤ n * 8000000
+unfolding inner
+inner-size n [] y e m = omega arith
+inner-size n (a ∷ x) [] e m = omega arith
+inner-size zero (a ∷ x) (b ∷ y) e m = absurd (omega arith)
+inner-size (suc n) (a ∷ x) (b ∷ y) e m =
+    let k : natAbs (inner x y) ≤ n * 8000000 = inner-size n x y (omega arith) (record { each = λ i h. m .each (suc i) (omega arith) }) in
+    let l : natAbs (a *ℤ b) ≤ 8000000 = m .each 0 (omega arith) in
+    omega (arith, abs-add (a *ℤ b) (inner x y))
+
+-- ---- |v - s|² = <d, s> - <d, v>, where d = s - v
+
+square-abs : (z : ℤ) → pos (natAbs z * natAbs z) ≡ z *ℤ z
+square-abs (pos n) = refl
+square-abs (negsuc n) = refl
+
+pub apart-is : (v s : List ℤ) → length v ≡ length s → inner (subtract s v) s -ℤ inner (subtract s v) v ≡ pos (squared-norm (subtract v s))
+unfolding inner subtract squared-norm
+apart-is [] [] e = refl
+apart-is [] (b ∷ s) e = absurd (omega arith)
+apart-is (a ∷ v) [] e = absurd (omega arith)
+apart-is (a ∷ v) (b ∷ s) e =
+    solve (a ∷ b ∷ inner (subtract s v) s ∷ inner (subtract s v) v ∷ []) ((x₁ ⊝ x₀) ⊗ x₁ ⊕ x₂ ⊝ ((x₁ ⊝ x₀) ⊗ x₀ ⊕ x₃)) ((x₀ ⊝ x₁) ⊗ (x₀ ⊝ x₁) ⊕ (x₂ ⊝ x₃)) tt
+    ∙ ap (λ z. (a -ℤ b) *ℤ (a -ℤ b) +ℤ z) (apart-is v s (omega arith))
+    ∙ ap (λ z. z +ℤ pos (squared-norm (subtract v s))) (sym (square-abs (a -ℤ b)))
+
+-- the products of d with both rows, in 32 bits, and their difference
+module _ (far near : ℤ) {n : ℕ} (hf : natAbs far ≤ 512000000) (hn : natAbs near ≤ 512000000) (e : far -ℤ near ≡ pos n) where
+  abbrev between : ℤ
+  between = toZ w32 (ofZ w32 far) -ℤ toZ w32 (ofZ w32 near)
+
+  between-is : between ≡ far -ℤ near
+  between-is = rw (read w32 {z = far} 512000000 hf tt, read w32 {z = near} 512000000 hn tt)
+
+  between-size : natAbs (far -ℤ near) ≤ 1024000000
+  between-size = omega (arith, abs-sub far near, hf, hn)
+
+  pub between-fits : SFits w32 between
+  between-fits = rw between-is (fits w32 1024000000 between-size tt)
+
+  between-read : toZ w32 (ofZ w32 between) ≡ pos n
+  between-read = toZ-ofZ between-fits ∙ between-is ∙ e
+
+  few : n ≤ 1024000000
+  few = rw e at between-size
+
+  pub between-cast : T (nonNeg (toZ w32 (ofZ w32 between))) × Fits w64 (natAbs (toZ w32 (ofZ w32 between)))
+  between-cast = rw between-read (tt, record { fits = omega (arith, few) })
+
+  pub between-result : natAbs (toZ w32 (ofZ w32 between)) ≡ n
+  between-result = rw between-read
+
+-- ---- The amount
+
+module _ (slope apart held : ℕ) where
+  pub amount-none : slope ≡ 0 → 0 ≡ amount-of slope apart held
+  unfolding amount-of
+  amount-none e = rw (eq-eqb slope 0 e)
+
+  module _ (some : slope ≡ 0 → ⊥) where
+    amount-least : min held ((2 * slope + apart - 1) / (2 * apart)) ≡ amount-of slope apart held
+    unfolding amount-of nearest-down
+    amount-least = rw (ne-eqb slope 0 some)
+
+    pub amount-nearest : (2 * slope + apart - 1) / (2 * apart) < held → (2 * slope + apart - 1) / (2 * apart) ≡ amount-of slope apart held
+    amount-nearest h = right held ((2 * slope + apart - 1) / (2 * apart)) h ∙ amount-least
+      where
+        right : (x y : ℕ) → y < x → y ≡ min x y
+        right x y l = omega arith
+
+    pub amount-held : held ≤ (2 * slope + apart - 1) / (2 * apart) → held ≡ amount-of slope apart held
+    amount-held h = left held ((2 * slope + apart - 1) / (2 * apart)) h ∙ amount-least
+      where
+        left : (x y : ℕ) → x ≤ y → x ≡ min x y
+        left x y l = omega arith
