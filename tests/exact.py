@@ -137,6 +137,8 @@ from dataclasses import dataclass
 from fractions import Fraction
 from itertools import accumulate, count, islice
 from math import gcd
+from itertools import islice
+from math import ceil, gcd
 from operator import mul
 
 MOST_BYTES = 40000
@@ -750,6 +752,80 @@ def lean_listing(book: bytes, pairs) -> bytes:
         entries = sum(bodies[first:first + STRETCH], [])
         lines.append(b"stretch %d %d\n" % (first + 1, max(boats, key=lambda boat: (entries.count(boat), -boat))))
     return b"".join(lines)
+# ---------------------------------------------------------- working over
+
+
+def best_move(rows, target, shares, factors=None):
+    """The boat that gives, the boat that takes, and the best number of shares as a fraction.
+
+    Both hold shares.  m shares of N that go from v to s move the point x by
+    m / N (s - v), which brings it nearest to u where m / N is
+    <x - u, v - s> / |v - s|^2.
+    """
+    factors = factors_or_ones(factors, len(target))
+    total = sum(shares)
+    point = [Fraction(sum(map(mul, shares, column)), total) for column in zip(*rows)]
+    gradient = [f * (x - u) for f, x, u in zip(factors, point, target)]
+    holding = [i for i, share in enumerate(shares) if share]
+    score = {i: sum(map(mul, gradient, rows[i])) for i in holding}
+    giver = max(holding, key=lambda i: (score[i], -i))
+    taker = min(holding, key=lambda i: (score[i], i))
+    if score[giver] == score[taker]:
+        return giver, taker, Fraction(0)
+    apart = sum(f * (v - s) ** 2 for f, v, s in zip(factors, rows[giver], rows[taker]))
+    return giver, taker, total * (score[giver] - score[taker]) / apart
+
+
+def moved_shares(rows, target, shares, moves, factors=None):
+    """The shares after at most so many moves, and how many are made."""
+    shares = list(shares)
+    for made in range(moves):
+        giver, taker, best = best_move(rows, target, shares, factors)
+        amount = min(shares[giver], ceil(best - Fraction(1, 2)))
+        if amount == 0:
+            return shares, made
+        shares[giver] -= amount
+        shares[taker] += amount
+    return shares, moves
+
+
+def work_over(book: bytes, sheet: bytes, moves: int, buffer: bytes, released=None):
+    """Refusal, answer, number of bytes written and the buffer afterwards.
+
+    `released` has the numbers of the boats that may be used; all may be where it is None.
+    """
+    def refused(number):
+        return number, None, 0, bytes(buffer)
+
+    refusal = book_refusal(book)
+    if refusal:
+        return refused(refusal)
+    rows = read_book(book)
+    used = list(range(len(rows))) if released is None else sorted(released)
+    if not used or used[-1] >= len(rows):
+        return refused(52)
+    refusal = files_refusal(book, sheet)
+    if refusal:
+        return refused(refusal)
+    target, steps, tolerance, factors = read_sheet(sheet)
+    own = [rows[i] for i in used]
+    run_answer, run_shares = run(own, target, steps, tolerance, factors)
+    if run_answer.verdict != SPENT:
+        return refused(53)
+    if not 1 <= moves <= 1000:
+        return refused(54)
+    shares, _ = moved_shares(own, target, run_shares, moves, factors)
+    point = [Fraction(sum(map(mul, shares, column)), sum(shares)) for column in zip(*own)]
+    squared_distance, duality_gap, _ = measure(point, own, target, factors)
+    verdict = judge(squared_distance, duality_gap, tolerance, steps, steps)
+    answer = answer_of(steps, squared_distance, duality_gap, verdict, tolerance)
+    slots = [0] * len(rows)
+    for boat, share in zip(used, shares):
+        slots[boat] = share
+    card = card_bytes(answer, slots, tolerance, len(rows), len(target))
+    if len(buffer) < len(card):
+        return refused(22)
+    return 0, answer, len(card), card + bytes(buffer[len(card):])
 
 
 # ---------------------------------------------------------- the scale cells
