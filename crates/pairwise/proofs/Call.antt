@@ -4,7 +4,7 @@ use mathlib.Core.Bool.{Bool, true, false, not, cond}
 use mathlib.Core.List.{List, [], _++_}
 use Prim.Native.Nat.{ℕ, zero, suc, _+_, _*_, _≤_, _<_}
 use native.Mathlib.Omega.{arith}
-use borrow.Author.Tests.{eqb-true, ltb-true, ltb-false}
+use borrow.Author.Tests.{eqb-true, ltb-false}
 use lib.Dec.{eqb, ltb}
 use lib.ListN.{length, getD, take, drop, length-append}
 use lib.Seq.{getD-drop}
@@ -17,24 +17,22 @@ use Rattle.files.specs.Limits.{file-limit}
 use Rattle.files.proofs.Accepted.{files-accepted}
 use Rattle.files.proofs.Editions.{editions-alike}
 use Rattle.files.proofs.Front.{files-front-unread}
-use Rattle.frank_wolfe.specs.Vectors.{sum}
 use Rattle.method.specs.declared.Test.the-variants.{Sharper}
 use Rattle.method.specs.declared.Answer.{Answer}
 use Rattle.method.specs.ReleasedBoats.{Usable, every, only, may-use, used-from, gather, scatter-from, scatter, Rests-on}
-use Rattle.method.specs.Problem.{Problem, Terms, call-steps, fleet-problem, call-problem, weight}
-use Rattle.method.specs.Calls.{before, call-refusal}
+use Rattle.method.specs.Problem.{Problem, Terms, fleet-problem, call-problem}
+use Rattle.method.specs.Calls.{call-refusal}
 use Rattle.method.specs.Iterates.{support}
 use Rattle.method.specs.Answers.{verdict-number, answer-at, run-iterate, run-answer, run-slots, slots-after}
-use Rattle.method.specs.Bounds.{answer-of, Answer-bounds}
-use Rattle.method.specs.BookNumbers.{Released-answer, Released-run, Same-released, All-boats}
+use Rattle.method.specs.Bounds.{answer-of}
+use Rattle.method.specs.BookNumbers.{Released-run, Same-released, All-boats}
 use Rattle.method.specs.Promise.{without-set}
 use Rattle.method.proofs.Shares.{share-most}
 use Rattle.method.proofs.Accepted.{both, files-ok, call-schedule, fleet-formed, well-formed, in-range, sized, vertex-count}
 use Rattle.method.proofs.ReleasedBoats.{length-scatter, scatter-outside, gather-scatter, scatter-whole}
 use Rattle.method.proofs.BookNumbers.{gathered-same, released-answer, run-count, rows-count, problem-isolated, call-isolated, call-all, problem-all}
-use Rattle.method.proofs.Promise.{run-share-count, same-call, same-problem, call-behind, problem-behind, length-after, slots-kept}
+use Rattle.method.proofs.Promise.{same-call, same-problem, call-behind, problem-behind, length-after, slots-kept}
 use Rattle.card_format.specs.declared.Written.{Written}
-use Rattle.card_format.specs.declared.Written.the-variants.{Filed}
 use Rattle.card_format.specs.Format.{card-limit, pairs, trailer-bytes, answer-fields, card-bytes}
 use Rattle.card_format.specs.Truth.{Card-true-with}
 use Rattle.card_format.specs.Filing.{writing-number, written-size, filing, Reads-back-with}
@@ -109,8 +107,12 @@ module _ (m : Terms) (b s : List ℕ) (n : ℕ) (ok : call-refusal m b s ≡ 0) 
   share-fits : (j : ℕ) → getD slots j 0 < 65536
   unfolding call-problem
   share-fits j =
-      omega (arith, share-most slots j, in-book .answer .total,
-      call-schedule m b s ok .most-total (a .steps) (omega (arith, call-schedule m b s ok .most-steps (sheet s .steps), right .answer .most-steps, files-accepted b s (files-ok m b s ok) .1 .most-steps)))
+      omega (
+        arith,
+        share-most slots j,
+        in-book .answer .total,
+        call-schedule m b s ok .most-total (a .steps) (omega (arith, call-schedule m b s ok .most-steps (sheet s .steps), right .answer .most-steps, files-accepted b s (files-ok m b s ok) .1 .most-steps)),
+      )
 
   -- 4 bytes for each boat that holds shares, and the trailer
   pub pairs-length : length (pairs 0 slots) ≡ 4 * support slots

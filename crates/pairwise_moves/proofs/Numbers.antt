@@ -6,15 +6,15 @@ use native.Mathlib.Omega.{arith}
 use borrow.Author.Tests.{eq-eqb, ne-eqb}
 use lib.Dec.{T}
 use lib.IntN.{ℤ, pos, negsuc, natAbs, _+ℤ_, _-ℤ_, _*ℤ_}
-use lib.ListN.{length, getD}
+use lib.ListN.{length}
 use lib.Signed.{nonNeg, yes-nonNeg, pos-natAbs}
 use mir.Syntax.{w32, w64}
 use mir.Val.{SFits, Fits, toZ, ofZ}
 use mir.Facts.{toZ-ofZ}
-use Rattle.integers.proofs.Solver.{con, _⊕_, _⊗_, _⊝_, x₀, x₁, x₂, x₃, solve}
+use Rattle.integers.proofs.Solver.{_⊕_, _⊗_, _⊝_, x₀, x₁, x₂, x₃, solve}
 use Rattle.integers.proofs.Bounds.{fits, read, abs-add, abs-sub}
 use Rattle.frank_wolfe.specs.Vectors.{subtract, inner, squared-norm}
-use Rattle.sums.specs.Operands.{Bounded, Multipliable}
+use Rattle.sums.specs.Operands.{Multipliable}
 use Rattle.pairwise.specs.Moves.{nearest-down, amount-of}
 use Rattle.pairwise_moves.specs.Passes.{Slope-sized}
 

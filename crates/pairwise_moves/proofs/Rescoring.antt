@@ -1,11 +1,11 @@
 -- The scores of the boats that hold shares, moved in their place. Assumes nothing.
 use mathlib.Core.Path.{_≡_, refl, sym, ap, _∙_}
-use mathlib.Core.Bool.{Bool, true, false, cond}
+use mathlib.Core.Bool.{cond}
 use mathlib.Core.List.{List, [], _∷_, _++_}
 use Prim.Native.Nat.{ℕ, zero, suc, _+_, _*_, _≤_, _<_}
 use native.Mathlib.Omega.{arith}
 use native.Mathlib.Numerals.{add-one}
-use native.Mathlib.Nat.{suc-mul, zero-mul}
+use native.Mathlib.Nat.{suc-mul}
 use borrow.Author.Tests.{eq-eqb, ne-eqb}
 use lib.Dec.{eqb}
 use lib.IntN.{ℤ, pos, natAbs, _+ℤ_, _*ℤ_}
@@ -19,7 +19,7 @@ use Rattle.frank_wolfe.specs.Vectors.{inner, ones}
 use Rattle.frank_wolfe.proofs.Vectors.{weighted-ones}
 use Rattle.method.specs.Iterates.{scores, row}
 use Rattle.method.proofs.Argmin.{length-scores, score-at}
-use Rattle.sums.specs.Operands.{Bounded, Padded, Span, Grid, Rows-bounded, Score-sized}
+use Rattle.sums.specs.Operands.{Bounded, Padded, Grid, Rows-bounded, Score-sized}
 use Rattle.sums.proofs.Blocks.{multipliable}
 use Rattle.scoring.proofs.Passes.{first-place, row-range}
 use Rattle.pairwise_moves.specs.Passes.{held-moved, Movable-scores}

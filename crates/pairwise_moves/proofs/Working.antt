@@ -2,25 +2,22 @@
 use mathlib.Core.Path.{_≡_, refl, sym, ap, _∙_}
 use mathlib.Core.Bool.{Bool, true, false, cond}
 use mathlib.Core.List.{List, [], _∷_, _++_}
-use Prim.Native.Nat.{ℕ, zero, suc, _+_, _*_, _-_, _≤_, _<_}
-use native.Mathlib.Nat.{le-trans}
+use Prim.Native.Nat.{ℕ, suc, _+_, _*_, _-_, _≤_, _<_}
 use native.Mathlib.Omega.{arith}
-use native.Mathlib.Numerals.{add-one}
-use borrow.Author.Tests.{ltb-true, ltb-false, eqb-true, eqb-false, eq-eqb, ne-eqb}
-use lib.Dec.{eqb, ltb}
+use borrow.Author.Tests.{eqb-false, ne-eqb}
+use lib.Dec.{eqb}
 use lib.IntN.{ℤ, pos, natAbs, _+ℤ_, _-ℤ_, _*ℤ_}
 use lib.ListN.{length, getD, take, drop, set, replicate, length-set, take-append-drop, List·getD-append}
 use lib.Seq.{length-take-le, length-front, getD-take, take-set-lt, drop-set-lt, getD-set-same}
-use lib.Signed.{_≤ℤ_}
 use mir.Syntax.{w64}
 use mir.Val.{toZ, ofZ}
 use Rattle.integers.proofs.Bounds.{read}
 use Rattle.integers.proofs.Solver.{con, _⊝_, x₀, x₁}
 use Rattle.integers.proofs.Facts.{_≼_, known, derive}
 use Rattle.files.specs.Bytes.{values}
-use Rattle.files.specs.Book.{boats, columns, rows, rows-from, rows-offset}
+use Rattle.files.specs.Book.{boats, columns, rows, rows-from}
 use Rattle.files.specs.Sheet.{sheet, files-refusal}
-use Rattle.files.specs.Limits.{step-limit, total-limit, entry-limit}
+use Rattle.files.specs.Limits.{total-limit, entry-limit}
 use Rattle.files.proofs.Access.{rows-at}
 use Rattle.files.proofs.Rows.{length-values}
 use Rattle.frank_wolfe.specs.Vectors.{subtract, scale, squared-norm, ones, sum, combination}
@@ -28,24 +25,22 @@ use Rattle.frank_wolfe.proofs.Vectors.{norm-ones, length-subtract}
 use Rattle.method.specs.Problem.{Problem, fixed, weight}
 use Rattle.method.specs.Plain.{plain-problem}
 use Rattle.method.specs.Iterates as M
-use Rattle.method.specs.Iterates.{row, natural, residual}
-use Rattle.method.specs.Bounds.{mixture-iterate}
+use Rattle.method.specs.Iterates.{row, natural}
 use Rattle.method.proofs.Weights.{fixed-fits, weight-positive, weight-most}
 use Rattle.method.proofs.Schedules.{fixed-sized}
 use Rattle.method.proofs.Argmin.{score-at, length-scores}
-use Rattle.method.proofs.Shares.{Mixed, shares-mixed, share-most}
-use Rattle.method.proofs.Mixtures.{residual-bounded}
+use Rattle.method.proofs.Shares.{share-most}
 use Rattle.method.proofs.Plain.{well-formed, in-range}
 use Rattle.sums.specs.Operands.{Bounded, Padded, Span, Grid, Rows-bounded}
 use Rattle.scoring.specs.Scores.{Pickable}
 use Rattle.iteration.specs.declared.Layout.{Layout}
 use Rattle.iteration.specs.States.{file-layout}
 use Rattle.iteration.proofs.States.{book-fits, sheet-fits, row-span, row-is, grid, rows-bounded, differable}
-use Rattle.pairwise.specs.Moves.{foremost, greater, less, shares-residual, shares-scores, giver, taker, slope, apart, amount-of, amount, exchange, moved, moves}
+use Rattle.pairwise.specs.Moves.{greater, less, shares-residual, shares-scores, giver, taker, slope, apart, amount-of, amount, exchange, moved, moves}
 use Rattle.pairwise.specs.Worked.{Move-right}
 use Rattle.pairwise.proofs.Foremost.{some-in, positive, foremost-agree}
-use Rattle.pairwise.proofs.Moves.{gives, takes, some-apart, amount-held, differ, score-moved, move-right}
-use Rattle.pairwise.proofs.Loop.{moves-stop, moves-next, residual-same, score-fits, slope-most, apart-most}
+use Rattle.pairwise.proofs.Moves.{gives, takes, some-apart, amount-held, score-moved, move-right}
+use Rattle.pairwise.proofs.Loop.{moves-stop, moves-next, score-fits, slope-most, apart-most}
 use Rattle.pairwise_moves.specs.declared.Pair.{Pair}
 use Rattle.pairwise_moves.specs.Passes.{pair-of, held-moved, Slope-sized, Divisible, Exchangeable, Movable-scores}
 use Rattle.mixture_answer.proofs.Answering.{all-rows, entries}

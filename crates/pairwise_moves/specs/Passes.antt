@@ -1,5 +1,4 @@
 -- What the passes over the boats give back, and what a move asks of its operands. Definitions only. Assumes nothing.
-use mathlib.Core.Path.{_≡_}
 use mathlib.Core.Bool.{cond}
 use mathlib.Core.List.{List, [], _∷_}
 use Prim.Native.Nat.{ℕ, _+_, _-_, _≤_, _<_}

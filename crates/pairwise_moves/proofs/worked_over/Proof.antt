@@ -1,5 +1,5 @@
 -- `pairwise_moves::worked_over` meets its contract; `Inv-loop` is what its loop keeps.
-use borrow.Author.Needs.{needs, sfits-of}
+use borrow.Author.Needs.{needs}
 use mathlib.Core.Path.{refl}
 use Prim.Native.Nat.{_-_}
 use native.Mathlib.Omega.{arith}
