@@ -136,8 +136,6 @@ import sys
 from dataclasses import dataclass
 from fractions import Fraction
 from itertools import accumulate, count, islice
-from math import gcd
-from itertools import islice
 from math import ceil, gcd
 from operator import mul
 
@@ -790,24 +788,16 @@ def moved_shares(rows, target, shares, moves, factors=None):
 
 
 def work_over(book: bytes, sheet: bytes, moves: int, buffer: bytes, released=None):
-    """Refusal, answer, number of bytes written and the buffer afterwards.
-
-    `released` has the numbers of the boats that may be used; all may be where it is None.
-    """
+    """Refusal, answer, number of bytes written and the buffer afterwards."""
     def refused(number):
         return number, None, 0, bytes(buffer)
 
-    refusal = book_refusal(book)
+    refusal = files_refusal(book, sheet, released=released)
     if refusal:
         return refused(refusal)
     rows = read_book(book)
-    used = list(range(len(rows))) if released is None else sorted(released)
-    if not used or used[-1] >= len(rows):
-        return refused(52)
-    refusal = files_refusal(book, sheet)
-    if refusal:
-        return refused(refusal)
     target, steps, tolerance, factors = read_sheet(sheet)
+    used = released_boats(released, len(rows))
     own = [rows[i] for i in used]
     run_answer, run_shares = run(own, target, steps, tolerance, factors)
     if run_answer.verdict != SPENT:

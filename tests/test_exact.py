@@ -1505,12 +1505,47 @@ def boats_leaned_on():
     agree("card order", exact.lean_listing(book, [on_0, (sheet, b""), (b"", on_0[1])]), b"refused 31\n")
 
 
+# rows, target, tolerance, steps, moves, then of the result: verdict, shares, E, G
+WORKED = [
+    (P, (1, 1), 1, 2, 1000, 3, [0, 1, 2], 26, 44),
+    (LINE, (0,), 0, 2, 1000, 3, [2, 1], 4000000, 16000000),
+    (P, (1, 1), 1, 1, 1000, 3, [0, 1, 0], 10, 16),
+    ([(6,), (-4,)], (4,), 0, 5, 1000, 1, [12, 3], 0, 0),
+    ([(1,), (-5,)], (-4,), 0, 2, 1000, 3, [1, 2], 9, 18),
+    ([(5,), (-6,)], (4,), 2, 2, 1000, 1, [3, 0], 9, 99),
+    ([(-8, 3), (4, -1), (10, 9)], (5, -1), 2, 6, 1, 3, [2, 18, 1], 1845, 2160),
+    ([(-8, 3), (4, -1), (10, 9)], (5, -1), 2, 6, 2, 3, [0, 18, 3], 909, 846),
+    ([(-8, 3), (4, -1), (10, 9)], (5, -1), 2, 6, 3, 1, [0, 20, 1], 325, 10),
+    ([(6, 6), (0, 4), (-2, -4)], (0, 5), 2, 5, 1000, 1, [1, 14, 0], 205, 10),
+    ([(1, -2), (3, 0)], (3, -1), 0, 2, 1000, 2, [1, 2], 5, 2),
+    ([(-3, -1), (3, -1), (-1, 1)], (-1, 1), 0, 2, 1000, 3, [2, 1, 0], 36, 36),
+    ([(-1, 0), (0, 0), (1, 1)], (0, 0), 0, 5, 1000, 3, [2, 11, 2], 4, 4),
+    ([(0, 1), (1, -1), (-1, 0)], (1, 0), 0, 2, 1000, 3, [1, 2, 0], 2, None),
+]
+
+
+def worked_over():
+    """Spent runs worked over, by hand: halves down, at most what is held, lowest number on ties, no boat joins, no stop at Within."""
+    for rows, target, tolerance, steps, moves, verdict, shares, distance, gap in WORKED:
+        book, sheet = make_book(rows), make_sheet(target, steps, tolerance)
+        refusal, answer, size, output = exact.work_over(book, sheet, moves, bytes(1060))
+        label = "worked over %r %r, %d moves" % (rows, target, moves)
+        agree(label, (refusal, answer.verdict, answer.distance), (0, verdict, distance))
+        if gap is not None:
+            agree(label + ": G", answer.gap, gap)
+        slots = [7] * len(rows)
+        agree(label + ": its card", exact.check_card(book, sheet, output[:size], slots), (0, answer, shares))
+    agree("Within is not worked over, before 54", exact.work_over(BOOK_A, SHEET_A, 0, b"")[0], 53)
+    for moves, number in ((0, 54), (1001, 54), (1, 22)):
+        agree("%d moves" % moves, exact.work_over(BOOK_A, make_sheet((1, 1), 2, 1), moves, b"")[0], number)
+
+
 def main():
     for part in (marked_sheets, readers, book_and_sheet_refusals, lent_lists, card_refusals,
                  two_tests, editions, filed_before, two_faults, ties_and_start, drawn_ties, random_books, factored_sheets, factored_cards, factored_books,
                  drawn_sheets_with_factors, tabled_sheets, tabled_cards, tabled_books, drawn_sheets_with_tables, released_sheets, released_books,
                  drawn_sheets_with_sets, full_size, damaged_files,
-                 from_a_shell, whole_numbers, scale_cells, subtractions, gap_bounds, better_of_two, other_editions, one_book_from_two, boats_leaned_on):
+                 from_a_shell, whole_numbers, scale_cells, subtractions, gap_bounds, better_of_two, other_editions, one_book_from_two, boats_leaned_on, worked_over):
         part()
     if differences:
         print("exact.py: %d of %d checks differ" % (differences, checks))
