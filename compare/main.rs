@@ -740,16 +740,16 @@ fn answers(call: &str) -> &'static [&'static str] {
 }
 
 fn one_case(rng: &mut Random) -> Compared {
-    match rng.below(26) {
+    match rng.below(29) {
         0 | 1 => compare_search(rng, false),
         2 | 3 => compare_write_card(rng, false),
         4..=6 => compare_check_card(rng, false),
         17 | 18 => compare_search(rng, true),
         19 | 20 => compare_write_card(rng, true),
         21..=24 => compare_check_card(rng, true),
-        7 => compare_listing(rng),
-        8 => cells::compare_values(rng),
-        9 => cells::compare_sheet(rng),
+        7 | 26 => compare_listing(rng),
+        8 | 27 => cells::compare_values(rng),
+        9 | 28 => cells::compare_sheet(rng),
         10 => editions::compare_other_edition(rng),
         15 | 16 => merges::compare_merge_books(rng),
         25 => queues::compare_run_queue(rng),
