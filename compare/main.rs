@@ -786,7 +786,7 @@ fn main() {
     }
     let ties = reference::TIES.load(Ordering::Relaxed);
     println!("picks of a boat that held shares before a lower-numbered one of the same score: {ties}");
-    // A comparison that never meets some outcome has lost its meaning. The gate's 5,000 cases of seed 1 meet each; those of another
+    // A comparison that never meets some outcome has lost its meaning. The gate's 20,000 cases of seed 1 meet each; those of another
     // seed need not, so there only a long one is held to it.
     if count >= 10_000 || (count >= 5_000 && seed == 1) {
         for call in CALLS {
