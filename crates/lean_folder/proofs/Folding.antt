@@ -5,19 +5,12 @@ use Prim.Native.Nat.{ℕ, suc, _+_, _-_, _≤_, _<_}
 use native.Mathlib.Numerals.{add-one}
 use native.Mathlib.Omega.{arith}
 use lib.ListN.{length, replicate, length-append, length-replicate}
-use Rattle.text.specs.Decimal.{decimal}
 use Rattle.text.specs.declared.Text.{Text}
-use Rattle.text.specs.Texts.{Holds, Adds}
-use Rattle.text.proofs.Texts.{adds-both, adds-to-empty}
 use Rattle.leaning.specs.Report.{Pair, pair-of, start-refusal}
 use Rattle.leaning.specs.Slots.{Checked, Starts}
 use Rattle.leaning.specs.Promise.{Reports-checked}
 use Rattle.leaning.proofs.Checking.{start-passed}
-use Rattle.lean_folder.specs.Folder.{numbered-name, Some-pair, Some-checked, Some-report}
-
-pub named : {t a b u : Text} {word ending : List ℕ} (k : ℕ) → Holds [] t → Adds t word a → Adds a (decimal (k + 1)) b × (b .len ≤ a .len + 20) → Adds b ending u → Holds (numbered-name word k ending) u
-unfolding numbered-name
-named k o p q r = adds-to-empty o (adds-both p (adds-both (rw add-one at (q .0)) r))
+use Rattle.lean_folder.specs.Folder.{Some-pair, Some-checked, Some-report}
 
 -- pairs that nobody looks at
 unread : ℕ → List Pair

@@ -1,17 +1,12 @@
--- The names of the files of a report, and what the work in a folder gives, whatever the system reads there. Definitions only.
+-- What the work of a report in a folder gives, whatever the system reads there. Definitions only.
 use mathlib.Core.Path.{_≡_}
 use mathlib.Core.List.{List, [], _++_}
-use Prim.Native.Nat.{ℕ, suc}
+use Prim.Native.Nat.{ℕ}
 use lib.ListN.{length}
-use Rattle.text.specs.Decimal.{decimal}
 use Rattle.text.specs.declared.Text.{Text}
 use Rattle.leaning.specs.Report.{Pair}
 use Rattle.leaning.specs.Slots.{Checked, Adds-pair}
 use Rattle.leaning.specs.Promise.{Reports}
-
--- the name of the file behind `before` others: they are counted from 1
-unfoldable pub numbered-name : (word : List ℕ) → (before : ℕ) → (ending : List ℕ) → List ℕ
-numbered-name word k ending = word ++ (decimal (suc k) ++ ending)
 
 -- a pair was read, and is checked as one of the report
 pub record Some-pair (b : List ℕ) (before : ℕ) (old : List ℕ) (refusal : ℕ) (new : List ℕ) : Type 0 where

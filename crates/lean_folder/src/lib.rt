@@ -2,65 +2,13 @@
 // book and of the pairs that were read, one after the other. test_lean holds what is printed to the reference.
 ghost use Prim.Native.Nat.{_*_, _≤_};
 ghost use lib.ListN.{length};
-ghost use Rattle.io.specs.Counts.{Counts};
-ghost use Rattle.text.specs.Texts.{Holds};
 ghost use Rattle.leaning.specs.Report.{most-cards};
 ghost use Rattle.leaning.specs.Slots.{card-slots};
-ghost use Rattle.lean_folder.specs.Folder.{numbered-name, Some-pair, Some-checked, Some-report};
+ghost use Rattle.lean_folder.specs.Folder.{Some-pair, Some-checked, Some-report};
+use numbered_files::name_of;
+use numbered_files::read_named;
+use numbered_files::tell_of;
 use text::Text;
-
-// The name of the file behind `before` others: a word, a number that counts from 1, an ending.
-fn numbered(word: &[u8], before: usize, ending: &[u8]) -> Text
-    requires { ⌜ (before ≤ most-cards) × (length (now word) ≤ 5) × (length (now ending) ≤ 4) ⌝ }
-    ensures { λ r. ⌜ Holds (numbered-name (now (word .entry)) before (now (ending .entry))) r ⌝ }
-{
-    let begun = Text::empty().with_bytes(word);
-    let counted = begun.with_number((before + 1) as u64);
-    counted.with_bytes(ending)
-}
-
-// Says on standard error what is wrong with a file of a folder.
-fn tell_of(folder: &[u8], name: Text, fault: &[u8]) {
-    let bytes = name.bytes;
-    let path = paths::path_in(folder, file_io::first_bytes(&bytes, name.len));
-    let place = path.bytes;
-    file_io::tell(file_io::first_bytes(&place, path.len), fault);
-}
-
-// Whether a file of a folder can be opened.
-fn opens(folder: &[u8], name: Text) -> bool {
-    let bytes = name.bytes;
-    let path = paths::path_in(folder, file_io::first_bytes(&bytes, name.len));
-    let place = path.bytes;
-    let fd = os::open_read(file_io::first_bytes(&place, path.len));
-    if fd < 0 {
-        return false;
-    }
-    libc::close(fd);
-    true
-}
-
-// How many cards of a folder can be opened, card1.wcd first, up to one that cannot; of more than 64 the 65th is the last that is tried.
-fn cards_in(folder: &[u8]) -> usize
-    ensures { λ r. ⌜ r ≤ 65 ⌝ }
-{
-    let mut k = 0;
-    while k <= leaning::MOST_CARDS {
-        if !opens(folder, numbered(b"card", k, b".wcd")) {
-            return k;
-        }
-        k += 1;
-    }
-    k
-}
-
-// Reads a file of a folder: how many of its bytes are in the buffer.
-fn read_named(folder: &[u8], name: Text, buffer: &mut [u8]) -> usize
-    ensures { λ r. ⌜ Counts r (now (buffer .exit)) ⌝ }
-{
-    let bytes = name.bytes;
-    file_io::read_in(folder, file_io::first_bytes(&bytes, name.len), buffer)
-}
 
 // Names the file that refuses a report before any sheet or card is read.
 fn tell_start(folder: &[u8], cards: usize, refusal: u32) {
@@ -68,13 +16,13 @@ fn tell_start(folder: &[u8], cards: usize, refusal: u32) {
         if cards == 0 {
             tell_of(
                 folder,
-                numbered(b"card", 0, b".wcd"),
+                name_of(b"card", 0, b".wcd"),
                 b": could not be opened\n",
             );
         } else {
             tell_of(
                 folder,
-                numbered(b"card", leaning::MOST_CARDS, b".wcd"),
+                name_of(b"card", leaning::MOST_CARDS, b".wcd"),
                 b": there are more than 64 cards\n",
             );
         }
@@ -96,7 +44,7 @@ fn tell_refused(folder: &[u8], before: usize, refusal: u32)
     if refusal < 31 {
         tell_of(
             folder,
-            numbered(b"sheet", before, b".wsh"),
+            name_of(b"sheet", before, b".wsh"),
             b": this sheet is refused\n",
         );
         return;
@@ -104,14 +52,14 @@ fn tell_refused(folder: &[u8], before: usize, refusal: u32)
     if refusal <= 39 {
         tell_of(
             folder,
-            numbered(b"card", before, b".wcd"),
+            name_of(b"card", before, b".wcd"),
             b": this card is refused\n",
         );
         return;
     }
     tell_of(
         folder,
-        numbered(b"sheet", before, b".wsh"),
+        name_of(b"sheet", before, b".wsh"),
         b": this sheet is refused\n",
     );
 }
@@ -124,8 +72,8 @@ fn check_pair(folder: &[u8], book: &[u8], before: usize, slots: &mut [u16]) -> u
 {
     let mut sheet = [0u8; 40001];
     let mut filed = [0u8; 40001];
-    let m = read_named(folder, numbered(b"sheet", before, b".wsh"), &mut sheet);
-    let l = read_named(folder, numbered(b"card", before, b".wcd"), &mut filed);
+    let m = read_named(folder, name_of(b"sheet", before, b".wsh"), &mut sheet);
+    let l = read_named(folder, name_of(b"card", before, b".wcd"), &mut filed);
     lean_cards::lean_card(book, &sheet[..m], &filed[..l], before, slots)
 }
 
@@ -162,9 +110,10 @@ fn report_of(folder: &[u8], book: &[u8], cards: usize) -> Text
 }
 
 // Prints which boats the cards of a folder rest on: card1.wcd checked with sheet1.wsh against fleet.wbk, and so on up to a card that cannot
-// be opened. The current folder has no name. A sheet that cannot be opened counts as empty. Standard error names the file that is refused.
+// be opened; of more than 64 the 65th is the last that is tried. The current folder has no name. A sheet that cannot be opened counts as empty. Standard error names the file that is refused.
 pub fn list_boats(folder: &[u8]) {
     let mut book = [0u8; 40001];
     let n = file_io::read_in(folder, b"fleet.wbk", &mut book);
-    file_io::print(report_of(folder, &book[..n], cards_in(folder)));
+    let cards = numbered_files::count_in(folder, b"card", b".wcd", leaning::MOST_CARDS + 1);
+    file_io::print(report_of(folder, &book[..n], cards));
 }

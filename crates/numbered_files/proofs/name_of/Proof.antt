@@ -1,8 +1,8 @@
--- `lean_folder::numbered` meets its contract.
-use Rattle.lean_folder.proofs.Folding.{named}
+-- `numbered_files::name_of` meets its contract.
+use Rattle.numbered_files.proofs.Names.{named}
 use borrow.Author.Needs.{needs}
-use Rattle.lean_folder.proofs.numbered.Statement.{statement}
-use Rattle.lean_folder.proofs.numbered.Tie as tie
+use Rattle.numbered_files.proofs.name_of.Statement.{statement}
+use Rattle.numbered_files.proofs.name_of.Tie as tie
 
 empty-requires : tie.Need-empty-requires
 empty-requires c κs = search needs
@@ -22,8 +22,8 @@ with-bytes-requires-2 c κs = search needs
 returns : tie.Need-returns
 returns c = named _ (c .before .before .before .empty .ensures) (c .before .before .with-bytes .ensures) (c .before .with-number .ensures) (c .with-bytes2 .ensures)
 
-pub numbered-spec : {M : Type 1} → statement M
-numbered-spec =
+pub name-of-spec : {M : Type 1} → statement M
+name-of-spec =
     tie.close
     (tie.spec
     empty-requires
