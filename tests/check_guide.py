@@ -1,6 +1,6 @@
 #!/usr/bin/env python3
 """See that docs/guide.md says what the reference gives: the table of tolerances for examples/yard, that of thousandths, the lines of faults, what mixbook, mixsheet,
-mixcard and leanlist print, and that the book and the sheet of examples/yard are those of its CSVs."""
+mixcard, leanlist and mixqueue print, and that the book and the sheet of examples/yard are those of its CSVs."""
 import os
 import re
 import sys
@@ -12,6 +12,7 @@ import csv_books  # noqa: E402
 import csv_sheets  # noqa: E402
 import exact  # noqa: E402
 import leanings  # noqa: E402
+import queues  # noqa: E402
 
 ROOT = os.path.join(HERE, "..")
 YARD = os.path.join(ROOT, "examples", "yard")
@@ -55,7 +56,7 @@ def examples(guide, fleet, data, book, sheet):
         weight, squared = int(lines[2].split()[2]), int(lines[3].split()[1])
         figures.append("%d / %d² = %.2f" % (squared, weight, squared / weight ** 2))
     wrong = [name for name, right in (("the book of examples/yard", made[4] == book), ("the sheet of examples/yard", asked[4] == sheet)) if not right]
-    wrong += ["the lines of a program: %r" % text for text in (made[3], asked[3], exact.listing(book, sheet), exact.listing(book, other), data, leanings.printed(leanings.FOLDERS[""]))
+    wrong += ["the lines of a program: %r" % text for text in (made[3], asked[3], exact.listing(book, sheet), exact.listing(book, other), data, leanings.printed(leanings.FOLDERS[""]), queues.printed(queues.FOLDERS[""], 7))
               if block(text) not in guide]
     return wrong + [figure for figure in figures if figure not in guide]
 

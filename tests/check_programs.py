@@ -2,7 +2,8 @@
 """See that each program is one call of a function that a test program drives through its folders.
 
 A program is run in one folder, where one that prints a constant text would pass. So its work is a function of a folder's name,
-and its main calls that function on the folder that its argument names, or on the current one, which has no name, and does nothing else.
+and its main calls that function on the folder that its argument names, or on the current one, which has no name, and does nothing else;
+a number that comes before the folder is passed on.
 The programs are those that tools/programs lists.
 """
 import os
@@ -20,12 +21,24 @@ PROGRAMS = {
     "mixbook": ("book_folder::file_book", "test_book", "name"),
     "mixmerge": ("merge_folder::file_merged", "test_merge", "name"),
     "leanlist": ("lean_folder::list_boats", "test_lean", "name"),
+    "mixqueue": ("queue_folder::list_queue", "test_queue", "name, allowance"),
     "mixsheet": ("sheet_folder::file_sheet", "test_sheet", "name"),
     "mixedition": ("edition_folder::file_other", "test_rewriting", "name"),
 }
 
 MAIN = ('fn main() { let mut name = [0u8; 4095]; let asked = arguments::folder(b"%s", &mut name); '
         'if asked.known { %s(file_io::first_bytes(&name, asked.len)); } }')
+
+# the programs that take a number before the folder, by the word that names it in the usage
+NUMBERS = {"mixqueue": "ALLOWANCE"}
+
+MAIN_WITH_NUMBER = ('fn main() { let mut name = [0u8; 4095]; let task = arguments::number_and_folder(b"%s", b"%s", &mut name); '
+                    'if task.known { %s(file_io::first_bytes(&name, task.len), task.number); } }')
+
+
+def main_of(program, function):
+    """The main that a program must have."""
+    return MAIN_WITH_NUMBER % (program, NUMBERS[program], function) if program in NUMBERS else MAIN % (program, function)
 
 
 def code(crate):
@@ -41,7 +54,7 @@ def main():
         print("%s: stands either here or among the programs of tools/programs, not in both" % program)
     faults = len(unlike)
     for program, (function, test, argument) in PROGRAMS.items():
-        if code(program) != MAIN % (program, function):
+        if code(program) != main_of(program, function):
             print("%s: crates/%s/src/main.rt is not one call of %s" % (program, program, function))
             faults += 1
         if "%s(%s);" % (function, argument) not in code(test):

@@ -701,6 +701,18 @@ def run_queue(book: bytes, lengths, sheets: bytes, allowance: int, slots: list[i
     return 0, records, shares
 
 
+VERDICT_WORDS = {WITHIN: b"within", BEYOND: b"beyond", SPENT: b"spent"}
+
+
+def queue_listing(book: bytes, sheets, allowance: int) -> bytes:
+    """A line a sheet of a queue that has slots enough, or the one line of its refusal."""
+    refusal, records, _ = run_queue(book, [len(sheet) for sheet in sheets], b"".join(sheets), allowance, [0] * (SLOTS * MOST_SHEETS))
+    if refusal:
+        return refused(refusal)
+    return b"".join(b"sheet %d %d %d %s %d %d\n" % (number, record.asked, record.used, VERDICT_WORDS[record.verdict] + (b"" if record.finished else b" cut"),
+                                                    record.distance, record.gap) for number, record in enumerate(records, 1))
+
+
 def merge_listing(first: bytes, second: bytes) -> bytes:
     """The line of one book from two: boats and columns, or the number that refuses; a buffer of 40,000 bytes serves."""
     refusal, length, written = merge_books(first, second, bytes(MOST_BYTES))

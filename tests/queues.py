@@ -127,5 +127,52 @@ def kinds(found):
     return counts
 
 
-# test_queue: folders by their names. None yet.
-FOLDERS = {}
+def folder(sheets, book=exact.make_book(P), without=()):
+    """The files of a folder, the sheets numbered from 1."""
+    files = {"fleet.wbk": book, **{"sheet%d.wsh" % number: sheet for number, sheet in enumerate(sheets, 1)}}
+    return {name: content for name, content in files.items() if name not in without}
+
+
+FRONT = exact.make_sheet([1, 1], 9, 1, b"front text of a sheet")
+EDITIONS = [FRONT, FACTORS, exact.make_sheet([3, -2], 30, 2, b"WSH1", factors=[1, 1]), exact.make_sheet([1, 1], 20, 0, factors=[0, 2])]
+SIXTEEN = [[Z, A, D, C, Z5, FRONT, FACTORS][k % 7] for k in range(16)]
+
+# test_queue: folders by their names. The current folder has no name.
+FOLDERS = {
+    "": folder([Z, A, D]),
+    "none": folder([]),
+    "one": folder([C]),
+    "sixteen": folder(SIXTEEN),
+    "seventeen": folder(SIXTEEN + [A]),
+    "no_third": folder([Z, A, D, C], without=("sheet3.wsh",)),
+    "counted_from_0": dict(folder([A, D]), **{"sheet0.wsh": NO_STEPS}),
+    "editions": folder(EDITIONS, exact.make_book(P, b"front text")),
+    "second_refused": folder([A, NO_STEPS, b""]),
+    "empty": folder([A, b"", NO_STEPS]),
+    "seventeenth_empty": folder([A] * 16 + [b""]),
+    "book_refused": folder([A, NO_STEPS], exact.make_book(P)[:-1]),
+    "book_before_44": folder([], exact.make_book(P)[:-1]),
+    "no_book": folder([A], without=("fleet.wbk",)),
+    "longest": folder([Z, A.rjust(40000, b"x"), D]),
+    "too_long": folder([Z, A.rjust(40001, b"x"), D]),
+}
+
+# What mixqueue is run on: a folder and an allowance.
+RUNS = [
+    ("", 3), ("", 6), ("", 7), ("", 5760), ("", 2), ("", 5761), ("none", 1), ("none", 0), ("one", 1), ("one", 2), ("one", 0), ("sixteen", 16), ("sixteen", 15),
+    ("sixteen", 70), ("sixteen", 5760), ("seventeen", 17), ("seventeen", 0), ("no_third", 9), ("counted_from_0", 9), ("editions", 4), ("editions", 41), ("editions", 60),
+    ("second_refused", 3), ("second_refused", 2), ("empty", 9), ("seventeenth_empty", 17), ("book_refused", 2), ("book_before_44", 1), ("no_book", 1), ("longest", 7),
+    ("too_long", 7), ("one", 4294967295),
+]
+
+
+def sheets_in(files):
+    """The sheets of a folder up to one that is not there."""
+    sheets = []
+    while "sheet%d.wsh" % (len(sheets) + 1) in files:
+        sheets.append(files["sheet%d.wsh" % (len(sheets) + 1)])
+    return sheets
+
+
+def printed(files, allowance):
+    return exact.queue_listing(files.get("fleet.wbk", b""), sheets_in(files), allowance)

@@ -21,6 +21,7 @@ import details  # noqa: E402
 import exact  # noqa: E402
 import leanings  # noqa: E402
 import merges  # noqa: E402
+import queues  # noqa: E402
 import sheet_editions  # noqa: E402
 
 P = [[0, 0], [4, 0], [0, 4]]
@@ -146,7 +147,10 @@ READ = {
     "mixedition": ("sheet.wsh",),
     "mixmerge": ("fleet.wbk", "bought.wbk"),
     "leanlist": ("fleet.wbk",),
+    "mixqueue": ("fleet.wbk",),
 }
+# The number that comes before the folder, as the usage names it and as it is tried, where a program takes one.
+NUMBERS = {"mixqueue": (b"ALLOWANCE", 9)}
 FILED = {"mixcard": "card.wcd", "mixbetter": "better.wcd", "mixedition": "other.wsh", "mixmerge": "merged.wbk"}
 
 
@@ -185,10 +189,47 @@ def lean_told(files, folder=""):
     return b"".join(lines)
 
 
+def sheets_in(files):
+    """How many sheets can be opened before one that cannot, 17 where there are more."""
+    return next(count for count in range(18) if count == 17 or "sheet%d.wsh" % (count + 1) not in files)
+
+
+def queue_told(files, allowance, folder=""):
+    """What standard error says of the files of mixqueue: those that it cannot read, and what is refused."""
+    lines = []
+
+    def say(name, fault):
+        lines.append(name + b": " + fault + b"\n")
+
+    def read(name):
+        if name not in files:
+            say((folder + name).encode(), b"not found in this folder")
+        elif files[name] is FOLDER:
+            say((folder + name).encode(), b"could not be read whole")
+        return content(files, name)[:40001]
+
+    book, count = read("fleet.wbk"), sheets_in(files)
+    sheets = [read("sheet%d.wsh" % number) for number in range(1, count + 1)]
+    refusal = exact.queue_refusal(book, list(map(len, sheets)), b"".join(sheets), allowance, 4096)[0]
+    place = folder.encode()
+    if 1 <= refusal <= 6:
+        say(place + b"fleet.wbk", b"this book is refused")
+    elif refusal == 44:
+        say(*((place + b"sheet17.wsh", b"there are more than 16 sheets") if count else (place + b"sheet1.wsh", b"could not be opened")))
+    elif refusal == 45:
+        say(b"ALLOWANCE", b"not from the number of sheets to 5760")
+    elif refusal:
+        first = next(number for number, sheet in enumerate(sheets, 1) if exact.files_refusal(book, sheet))
+        say(place + b"sheet%d.wsh" % first, b"this sheet is refused")
+    return b"".join(lines)
+
+
 def told(program, files, refused=False, folder=""):
     """What standard error says of files that are not there or cannot be read, of a refusal, and of an older file that stays."""
     if program == "leanlist":
         return lean_told(files, folder)
+    if program == "mixqueue":
+        return queue_told(files, NUMBERS[program][1], folder)
     lines = []
     for name in READ[program]:
         if name not in files:
@@ -206,12 +247,18 @@ def told(program, files, refused=False, folder=""):
     return b"".join(lines)
 
 
+def number_of(name):
+    """The arguments that come before the folder."""
+    return (str(NUMBERS[name][1]),) if name in NUMBERS else ()
+
+
 def check_output(program, files, runs):
     """Standard output takes no byte: standard error says so, and what is filed is filed all the same."""
+    number = number_of(os.path.basename(program))
     with open("/dev/full", "wb") as full:
-        _, err, left = run(program, files, output=full)
+        _, err, left = run(program, files, arguments=number, output=full)
     runs.expect("%s, no standard output" % os.path.basename(program),
-                (err, left) == (b"standard output: could not be written whole\n", run(program, files)[2]))
+                (err, left) == (b"standard output: could not be written whole\n", run(program, files, arguments=number)[2]))
 
 
 def check_mixlist(program, runs):
@@ -401,6 +448,26 @@ def check_leanlist(program, runs):
         runs.expect("leanlist, " + name, run(program, files) == (exact.lean_listing(content(files, "fleet.wbk"), pairs), lean_told(files), files))
 
 
+def check_mixqueue(program, runs):
+    """The folders of test_queue, then files that are missing, empty, cut or folders, on allowances at every border."""
+    tried = [(name or "three sheets", queues.FOLDERS[name], allowance) for name, allowance in queues.RUNS]
+    tried += [("no file", {}, 1), ("20 sheets", queues.folder([queues.A] * 20), 20), ("17 sheets, the first refused", queues.folder([b""] + [queues.A] * 16), 17)]
+    for count in (1, 3, 16):
+        files = queues.folder(queues.SIXTEEN[:count])
+        for name in files:
+            if name in ("fleet.wbk", "sheet1.wsh", "sheet3.wsh", "sheet16.wsh"):
+                for fault, data in (("empty", b""), ("a folder", FOLDER), ("cut", files[name][:-1]), ("a byte more", files[name] + b"x"), ("90,000 bytes", files[name].rjust(90000, b"x"))):
+                    tried += [("%d sheets, %s %s" % (count, name, fault), dict(files, **{name: data}), allowance) for allowance in (count - 1, count)]
+                tried.append(("%d sheets, no %s" % (count, name), {other: data for other, data in files.items() if other != name}, 16))
+    for name, files, allowance in tried:
+        sheets = [content(files, "sheet%d.wsh" % number)[:40001] for number in range(1, sheets_in(files) + 1)]
+        expected = exact.queue_listing(content(files, "fleet.wbk"), sheets, allowance), queue_told(files, allowance), files
+        runs.expect("mixqueue %d, %s" % (allowance, name), run(program, files, arguments=(str(allowance),)) == expected)
+    files = queues.FOLDERS[""]
+    for number in ("7", "07", "0000000007"):
+        runs.expect("mixqueue %s" % number, run(program, files, arguments=(number,)) == (queues.printed(files, 7), b"", files))
+
+
 CARD = exact.write_card(BOOK, SHEET, bytes(1060))
 # files on which every program does its work
 ARGUMENT_FILES = {"fleet.csv": b"a,b,c\nd,0,0\ne,4,0\nf,0,4\n", "sheet.csv": b",c,b\nnew,1,1\nsteps,9\ntolerance,1\n",
@@ -410,23 +477,28 @@ ARGUMENT_FILES = {"fleet.csv": b"a,b,c\nd,0,0\ne,4,0\nf,0,4\n", "sheet.csv": b",
 
 def check_arguments(name, program, files, runs):
     """A folder that is named does as the current one; anything else prints the usage and does nothing."""
-    usage = b"usage: %s [FOLDER]\n" % name.encode()
-    for arguments in (("--help",), ("-",), ("",), ("a", "b"), ("x" * 4096,)):
+    number = number_of(name)
+    usage = b"usage: %s %s[FOLDER]\n" % (name.encode(), NUMBERS[name][0] + b" " if number else b"")
+    wrong = [(*number, *folder) for folder in (("--help",), ("-",), ("",), ("a", "b"), ("x" * 4096,))]
+    if number:
+        wrong += [(), *((text,) for text in ("", "-", "--help", "x", "-9", "+9", " 9", "9 ", "9.", "0x9", "9a", "4294967296", "9999999999", "00000000009", "18446744073709551625"))]
+        wrong += [("there", *number), ("9:",), ("/9",), ("9" * 5000,)]
+    for arguments in wrong:
         runs.expect("%s %s" % (name, arguments), run(program, files, arguments=arguments) == (b"", usage, files))
-    out, err, left = run(program, files)
-    inside = run(program, {}, arguments=("there",), folders={"there": files})
+    out, err, left = run(program, files, arguments=number)
+    inside = run(program, {}, arguments=(*number, "there"), folders={"there": files})
     runs.expect("%s of a folder" % name, inside[0] == out and inside[1] == err and inside[2] == {"there": left})
-    outside = run(program, files, arguments=("missing",))
+    outside = run(program, files, arguments=(*number, "missing"))
     runs.expect("%s of a folder that is missing" % name, outside[1:] == (told(name, {}, True, "missing/"), files))
     # a file in the place of the folder
-    inside = run(program, files, arguments=("sheet.wsh",))
+    inside = run(program, files, arguments=(*number, "sheet.wsh"))
     runs.expect("%s of a file" % name, inside[1:] == (told(name, {}, True, "sheet.wsh/").replace(b"not found in this folder", b"could not be opened"), files))
 
 
 # What is tried of each program.
 CHECKS = {"mixlist": (check_mixlist,), "mixcard": (check_mixcard,), "mixcheck": (check_mixcheck, check_report), "mixbetter": (check_mixbetter,),
           "mixbook": (check_mixbook,), "mixsheet": (check_mixsheet,), "mixedition": (check_mixedition,), "mixmerge": (check_mixmerge,),
-          "leanlist": (check_leanlist,)}
+          "leanlist": (check_leanlist,), "mixqueue": (check_mixqueue,)}
 
 
 def check_programs(place, names, runs):
@@ -475,6 +547,10 @@ STATUSES = [
     ("leanlist", leanings.FOLDERS[""], 0, []),
     ("leanlist", {"fleet.wbk": BOOK}, 1, []),
     ("leanlist >/dev/full", leanings.FOLDERS[""], 2, []),
+    ("mixqueue 7", queues.FOLDERS[""], 0, []),
+    ("mixqueue 2", queues.FOLDERS[""], 1, []),
+    ("mixqueue", queues.FOLDERS[""], 2, []),
+    ("mixqueue 7 >/dev/full", queues.FOLDERS[""], 2, []),
     ("mixreport", {"fleet.wbk": BOOK, "sheet.wsh": SHEET}, 1, []),
     ("mixreport --other", {"fleet.wbk": BOOK, "sheet.wsh": SHEET}, 2, []),
     ("mixcard && mixreport --mixcheck missing", {"fleet.wbk": BOOK, "sheet.wsh": SHEET}, 2, ["card.wcd"]),

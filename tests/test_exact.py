@@ -1487,6 +1487,23 @@ def one_book_from_two():
     agree("the line of a refusal", exact.merge_listing(book, b""), b"refused 1\n")
 
 
+def lines_of_a_queue():
+    """Listings of queues on fleet P, worked out by hand: a sheet cut off, one that spent its own steps, verdicts, the order of the refusals."""
+    book = make_book(P)
+    zero, near, far, short = make_sheet((1, 1), 9, 0), make_sheet((1, 1), 9, 1), make_sheet((5, 5), 9, 1), make_sheet((1, 1), 2, 1)
+    agree("three sheets on 7 steps", exact.queue_listing(book, [zero, near, far], 7),
+          b"sheet 1 9 3 spent cut 8 56\nsheet 2 9 3 within 8 56\nsheet 3 9 1 beyond 26 16\n")
+    agree("a step each", exact.queue_listing(book, [zero, near, far], 3), b"sheet 1 9 1 spent cut 10 16\nsheet 2 9 1 spent cut 10 16\nsheet 3 9 1 beyond 26 16\n")
+    agree("its own steps", exact.queue_listing(book, [short], 2), b"sheet 1 2 2 spent 26 44\n")
+    agree("one step too few", exact.queue_listing(book, [short], 1), b"sheet 1 2 1 spent cut 10 16\n")
+    agree("no sheet", exact.queue_listing(book, [], 1), b"refused 44\n")
+    agree("17 sheets, the first empty", exact.queue_listing(book, [b""] + 16 * [near], 0), b"refused 44\n")
+    agree("16 sheets on 15 steps, one empty", exact.queue_listing(book, [b""] + 15 * [near], 15), b"refused 45\n")
+    agree("5,761 steps", exact.queue_listing(book, [near], 5761), b"refused 45\n")
+    agree("the first refused sheet", exact.queue_listing(book, [near, make_sheet((1, 1), 0, 1), b""], 3), b"refused 14\n")
+    agree("the book first", exact.queue_listing(book[:-1], [], 0), b"refused 2\n")
+
+
 def boats_leaned_on():
     """Reports of cards on fleet P at (1, 1), worked out by hand: ties, both sides of 12 and of 64 cards, the order of the refusals."""
     book, sheet = make_book(P), make_sheet((1, 1), 9, 100)
@@ -1545,7 +1562,7 @@ def main():
                  two_tests, editions, filed_before, two_faults, ties_and_start, drawn_ties, random_books, factored_sheets, factored_cards, factored_books,
                  drawn_sheets_with_factors, tabled_sheets, tabled_cards, tabled_books, drawn_sheets_with_tables, released_sheets, released_books,
                  drawn_sheets_with_sets, full_size, damaged_files,
-                 from_a_shell, whole_numbers, scale_cells, subtractions, gap_bounds, better_of_two, other_editions, one_book_from_two, boats_leaned_on, worked_over):
+                 from_a_shell, whole_numbers, scale_cells, subtractions, gap_bounds, better_of_two, other_editions, one_book_from_two, lines_of_a_queue, boats_leaned_on, worked_over):
         part()
     if differences:
         print("exact.py: %d of %d checks differ" % (differences, checks))

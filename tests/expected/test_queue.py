@@ -1,6 +1,7 @@
 #!/usr/bin/env python3
-"""What test_queue prints: the number that refuses each queue, its records, and a sum of all slots."""
+"""What test_queue prints: the number that refuses each queue, its records, and a sum of all slots; then mixqueue in one folder after another."""
 import os
+import re
 import sys
 
 sys.path.insert(0, os.path.join(os.path.dirname(os.path.abspath(__file__)), ".."))
@@ -35,7 +36,13 @@ def main():
                 sys.exit("a sheet run alone with its steps set to those that it used has another answer")
             if shares != left[256 * i:256 * i + len(rows)]:
                 sys.exit("a sheet run alone with its steps set to those that it used has other shares")
+    # each kind of line, and each refusal that a folder can have
+    lines = [queues.printed(queues.FOLDERS[name], allowance) for name, allowance in queues.RUNS]
+    for pattern in (rb" within \d", rb" beyond \d", rb" spent cut \d", rb" spent \d", rb"refused 2$", rb"refused 11$", rb"refused 14$", rb"refused 44$", rb"refused 45$"):
+        if not any(re.search(pattern, line) for line in lines):
+            sys.exit("queues.py has no folder for: %s" % pattern)
     sys.stdout.write("".join(queue(number, *case) for number, case in enumerate(found)))
+    sys.stdout.write("".join("%s\nallowance %d\n%s" % (name, allowance, line.decode()) for (name, allowance), line in zip(queues.RUNS, lines)))
 
 
 main()

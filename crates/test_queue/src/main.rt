@@ -1,5 +1,5 @@
-// Queues of sheets on one allowance, for queues written by hand and drawn, through run_plan, on which run_queue stands. The cases are made
-// by tests/queues.py, the expected output by tests/expected/test_queue.py.
+// Queues of sheets on one allowance, for queues written by hand and drawn, through run_plan, on which run_queue stands; then mixqueue in one
+// folder after another. The cases are made by tests/queues.py, the expected output by tests/expected/test_queue.py.
 ghost use Prim.Native.Nat.{_<_};
 use queue_rounds::Outcome;
 use queue_rounds::Plan;
@@ -119,8 +119,52 @@ fn each(cases: &[u8], count: u64) {
     }
 }
 
+// mixqueue in a folder.
+fn folder(name: &[u8], allowance: u32) {
+    test_printing::title(name);
+    test_printing::line(b"allowance", allowance as u64);
+    queue_folder::list_queue(name, allowance);
+}
+
+// mixqueue in all folders.
+fn folders() {
+    folder(b"", 3);
+    folder(b"", 6);
+    folder(b"", 7);
+    folder(b"", 5760);
+    folder(b"", 2);
+    folder(b"", 5761);
+    folder(b"none", 1);
+    folder(b"none", 0);
+    folder(b"one", 1);
+    folder(b"one", 2);
+    folder(b"one", 0);
+    folder(b"sixteen", 16);
+    folder(b"sixteen", 15);
+    folder(b"sixteen", 70);
+    folder(b"sixteen", 5760);
+    folder(b"seventeen", 17);
+    folder(b"seventeen", 0);
+    folder(b"no_third", 9);
+    folder(b"counted_from_0", 9);
+    folder(b"editions", 4);
+    folder(b"editions", 41);
+    folder(b"editions", 60);
+    folder(b"second_refused", 3);
+    folder(b"second_refused", 2);
+    folder(b"empty", 9);
+    folder(b"seventeenth_empty", 17);
+    folder(b"book_refused", 2);
+    folder(b"book_before_44", 1);
+    folder(b"no_book", 1);
+    folder(b"longest", 7);
+    folder(b"too_long", 7);
+    folder(b"one", 4294967295);
+}
+
 fn main() {
     let mut cases = [0u8; 400000];
     let n = file_io::read_file(b"cases.dat", &mut cases);
     each(&cases[..n], 240);
+    folders();
 }

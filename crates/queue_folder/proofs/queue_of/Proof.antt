@@ -1,0 +1,57 @@
+-- `queue_folder::queue_of` meets its contract.
+use mathlib.Core.Path.{sym}
+use native.Mathlib.Omega.{arith}
+use lib.Seq.{length-take-le}
+use Rattle.queue_folder.proofs.Reading.{all-room, some-queue}
+use borrow.Author.Needs.{needs}
+use Rattle.queue_folder.proofs.queue_of.Statement.{statement}
+use Rattle.queue_folder.proofs.queue_of.Tie as tie
+
+slice-aggregate-read-sheets : tie.Need-slice-aggregate-read-sheets
+slice-aggregate-read-sheets c = search needs
+
+read-sheets-requires : tie.Need-read-sheets-requires
+read-sheets-requires c κs = (c .before .before .before .pre, all-room 680017)
+
+array-share-prefix-lengths : tie.Need-array-share-prefix-lengths
+array-share-prefix-lengths c =
+    let at = c .before .before in
+    omega (arith, at .before .before .before .before .pre, at .read-sheets .ensures .0 .long)
+
+slice-aggregate-queue-text : tie.Need-slice-aggregate-queue-text
+slice-aggregate-queue-text c =
+    let at = c .before .before .before in
+    sym (length-take-le _ _ (omega (arith, at .before .before .before .before .pre, at .read-sheets .ensures .0 .long)))
+
+array-share-prefix-buffer : tie.Need-array-share-prefix-buffer
+array-share-prefix-buffer c = search needs
+
+slice-aggregate-queue-text-2 : tie.Need-slice-aggregate-queue-text-2
+slice-aggregate-queue-text-2 c = sym (length-take-le _ _ (c .before .before .before .before .read-sheets .ensures .0 .fits))
+
+queue-text-requires : tie.Need-queue-text-requires
+queue-text-requires c κs = search needs
+
+tell-refused-requires : tie.Need-tell-refused-requires
+tell-refused-requires c κs =
+    let at = c .before .before .before .before .before in
+    omega (arith, at .before .before .before .before .pre, at .read-sheets .ensures .1)
+
+returns : tie.Need-returns
+returns c =
+    let listed = c .before .before .queue-text .ensures in
+    some-queue (c .before .before .before .before .before .before .before .read-sheets .ensures .0) (listed .1 .0) (listed .1 .1)
+
+pub queue-of-spec : {M : Type 1} → statement M
+queue-of-spec =
+    tie.close
+    (tie.spec
+    slice-aggregate-read-sheets
+    read-sheets-requires
+    array-share-prefix-lengths
+    slice-aggregate-queue-text
+    array-share-prefix-buffer
+    slice-aggregate-queue-text-2
+    queue-text-requires
+    tell-refused-requires
+    returns)
