@@ -58,6 +58,19 @@ struct Released {
 /// No set: every boat may be used.
 const EVERY_BOAT: Released = Released { limited: false, boats: [0; 32] };
 
+/// dofitrano_sheet_record of include/dofitrano.h.
+#[repr(C)]
+#[derive(Clone, Copy, PartialEq, Debug, Default)]
+struct SheetRecord {
+    asked: u32,
+    used: u32,
+    finished: bool,
+    distance: u64,
+    gap: u64,
+    verdict: u32,
+    length: u32,
+}
+
 /// float_answer of float.c.
 #[repr(C)]
 #[derive(Clone, Copy)]
@@ -109,6 +122,17 @@ extern "C" {
     ) -> Reply;
     fn dofitrano_listing(b: *const u8, bn: usize, s: *const u8, sn: usize, t: *mut u8, tn: usize) -> usize;
     fn dofitrano_merge_books(a: *const u8, an: usize, b: *const u8, bn: usize, c: *mut u8, cn: usize) -> Merged;
+    fn dofitrano_run_queue(
+        r: *mut SheetRecord,
+        rn: usize,
+        b: *const u8,
+        bn: usize,
+        s: *const u8,
+        sn: usize,
+        allowance: u32,
+        q: *mut u16,
+        qn: usize,
+    ) -> u32;
     fn plain_c_search(b: *const u8, bn: usize, s: *const u8, sn: usize, q: *mut u16, qn: usize) -> Reply;
     fn float_search(b: *const u8, bn: usize, s: *const u8, sn: usize, weights: *mut f64) -> FloatAnswer;
     fn stack_of(call: extern "C" fn(*mut c_void), argument: *mut c_void) -> usize;
@@ -148,6 +172,11 @@ fn library_listing(book: &[u8], sheet: &[u8], text: &mut [u8]) -> usize {
 
 fn library_merge_books(first: &[u8], second: &[u8], output: &mut [u8]) -> Merged {
     unsafe { dofitrano_merge_books(first.as_ptr(), first.len(), second.as_ptr(), second.len(), output.as_mut_ptr(), output.len()) }
+}
+
+fn library_run_queue(queue: &mut [SheetRecord], book: &[u8], sheets: &[u8], allowance: u32, shares: &mut [u16]) -> u32 {
+    let (r, b, s, q) = (queue.as_mut_ptr(), book.as_ptr(), sheets.as_ptr(), shares.as_mut_ptr());
+    unsafe { dofitrano_run_queue(r, queue.len(), b, book.len(), s, sheets.len(), allowance, q, shares.len()) }
 }
 
 fn c_search(book: &[u8], sheet: &[u8], shares: &mut [u16]) -> Reply {
@@ -641,6 +670,79 @@ fn print_merges(repeats: u32) {
     }
 }
 
+/// A book and 16 sheets for it with so many steps each, which all go on to the last: the targets are drawn, so that few boats are picked, or
+/// lie near the mean of all boats, so that many are.
+struct Queue {
+    book: Vec<u8>,
+    sheets: Vec<Vec<u8>>,
+    buffer: Vec<u8>,
+    records: Vec<SheetRecord>,
+    allowance: u32,
+}
+
+fn queue(boats: usize, columns: usize, steps: u16, many: bool, factors: Option<&[u8]>) -> Queue {
+    let mut rng = Random(11);
+    let rows = random_rows(&mut rng, boats, columns);
+    let counted = factors.map_or(vec![1; columns], <[u8]>::to_vec);
+    let mut sheets = Vec::new();
+    for k in 0..16 {
+        let mean = |c: usize| (rows.iter().map(|row| i32::from(row[c])).sum::<i32>() / boats as i32) as i16;
+        let target: Vec<i16> = (0..columns).map(|c| if many { mean(c) + k } else { rng.value() }).collect();
+        let tolerance = if many { 0 } else { nearest(&rows, &target, &counted, steps).saturating_sub(1) };
+        let sheet = input(&rows, &target, steps, tolerance);
+        sheets.push(if factors.is_some() { factored(&sheet, &counted) } else { sheet }.sheet);
+    }
+    let records = sheets.iter().map(|sheet| SheetRecord { length: sheet.len() as u32, ..Default::default() }).collect();
+    Queue { book: book_of(&rows), buffer: sheets.concat(), sheets, records, allowance: 16 * u32::from(steps) }
+}
+
+/// A queue of 16 sheets that all get the steps they ask for beside the searches of its sheets one after the other, in turn.
+fn print_queues(repeats: u32) {
+    println!("| 16 sheets | steps in all | one by one | queue | queue / one by one |");
+    println!("|---|---|---|---|---|");
+    let half = every_other(64);
+    let queues = [
+        ("40 x 20 x 60, few boats picked", queue(40, 20, 60, false, None)),
+        ("40 x 20 x 60, many boats picked", queue(40, 20, 60, true, None)),
+        ("full size, 256 x 64 x 360, few boats picked", queue(256, 64, 360, false, None)),
+        ("full size, many boats picked", queue(256, 64, 360, true, None)),
+        ("full size, many boats picked, factors 2 and 0 by turns", queue(256, 64, 360, true, Some(&half))),
+    ];
+    for (name, mut x) in queues {
+        let (mut shares, mut own) = (vec![0u16; 4096], vec![0u16; 4096]);
+        assert_eq!(library_run_queue(&mut x.records, &x.book, &x.buffer, x.allowance, &mut shares), 0);
+        for (i, sheet) in x.sheets.iter().enumerate() {
+            let reply = library_search(&x.book, sheet, &mut own[256 * i..256 * i + 256]);
+            let record = x.records[i];
+            assert!(record.finished && (record.used, record.distance, record.gap) == (reply.steps, reply.distance, reply.gap), "the answers differ");
+        }
+        assert!(shares == own, "the shares differ");
+        let steps: u32 = x.records.iter().map(|record| record.used).sum();
+        let mut times = [const { Vec::new() }; 2];
+        let calls = batch(|| {
+            black_box(library_run_queue(&mut x.records, black_box(&x.book), black_box(&x.buffer), x.allowance, &mut shares));
+        });
+        for _ in 0..repeats {
+            times[0].push(time(calls, || {
+                for (i, sheet) in x.sheets.iter().enumerate() {
+                    black_box(library_search(black_box(&x.book), black_box(sheet), &mut own[256 * i..256 * i + 256]));
+                }
+            }));
+            times[1].push(time(calls, || {
+                black_box(library_run_queue(&mut x.records, black_box(&x.book), black_box(&x.buffer), x.allowance, &mut shares));
+            }));
+        }
+        let [alone, queued] = &times;
+        println!("| {name} | {steps} | {:.2} | {:.2} | {:.2} |", microseconds(alone), microseconds(queued), ratio(queued, alone));
+    }
+}
+
+extern "C" fn queue_once(input: *mut c_void) {
+    let x = unsafe { &mut *input.cast::<Queue>() };
+    let mut shares = [0u16; 4096];
+    black_box(library_run_queue(&mut x.records, &x.book, &x.buffer, x.allowance, &mut shares));
+}
+
 extern "C" fn search_once(input: *mut c_void) {
     // `print_stack` passes an input that outlives the call.
     let x = unsafe { &*input.cast::<Input>() };
@@ -672,6 +774,9 @@ fn print_stack() {
         let [without, with] = [&raw mut x, &raw mut y].map(|input| unsafe { stack_of(call, input.cast()) });
         println!("stack of {name} at full size: {without} bytes, with factors {with}");
     }
+    let half = every_other(64);
+    let [without, with] = [None, Some(&half[..])].map(|factors| unsafe { stack_of(queue_once, (&raw mut queue(256, 64, 20, true, factors)).cast()) });
+    println!("stack of run_queue with 16 sheets of full size: {without} bytes, with factors {with}");
 }
 
 /// One call on an input: `few` or `many` with boats, columns and steps, as few-256-64-360, or `one` with boats and columns.
@@ -741,6 +846,10 @@ fn main() {
     println!("One book from two, 256 and 256 boats of 64 columns:");
     println!();
     print_merges(repeats);
+    println!();
+    println!("A queue of 16 sheets on an allowance that lets all of them finish, beside its sheets run one by one:");
+    println!();
+    print_queues(repeats);
     println!();
     print_stack();
 }
