@@ -6,5 +6,6 @@ pub mod Alone
 pub mod Parts
 pub mod Refusals
 pub mod Records
+pub mod Alike
 pub mod Promise
 pub mod Marked

@@ -21,6 +21,9 @@ use Rattle.method.proofs.Promise.{slots-kept}
 use Rattle.method.proofs.Running.{stopped}
 use Rattle.sheet_queue.specs.declared.SheetRecord.{SheetRecord}
 use Rattle.sheet_queue.specs.Rounds.{steps-got}
+use Rattle.files.specs.Front.{Same-book, Same-sheet}
+use Rattle.sheet_queue.specs.Alike.{Same-or-edition, Exchanged, Same-queue}
+use Rattle.sheet_queue.proofs.Alike.{same-queue, of-edition, book-alike, of-front}
 use Rattle.sheet_queue.specs.Queue.{blank, lengths, sheets-of, problems, with-steps, own-steps, queue-steps, queue-refusal, record-of, records-of, shares-of, filled, records-after, queue-slots-after}
 use Rattle.sheet_queue.specs.Promise.{Fair, Sheet-right, used-steps, part, Served, Queue-right}
 use Rattle.sheet_queue.proofs.Fair.{fair, everyone-starts}
@@ -180,6 +183,13 @@ module _ (b bs : List ℕ) (a : ℕ) (queue : List SheetRecord) (slots : List �
 
 -- ---- A call
 
+module _ (b bs : List ℕ) (a : ℕ) (queue : List SheetRecord) (slots : List ℕ) where
+  same-editions : (other : List SheetRecord) (bs′ : List ℕ) → Exchanged Same-or-edition queue bs other bs′ → Same-queue b bs a queue b bs′ other slots
+  same-editions other bs′ x = same-queue b b refl refl (of-edition b) a x slots
+
+  same-fronts : (b′ : List ℕ) (other : List SheetRecord) (bs′ : List ℕ) → Same-book b b′ → Exchanged Same-sheet queue bs other bs′ → Same-queue b bs a queue b′ bs′ other slots
+  same-fronts b′ other bs′ d x = let f = book-alike b b′ d in same-queue b b′ (f .0) (f .1) (of-front b b′ d) a x slots
+
 pub queue-right : (b bs : List ℕ) (a : ℕ) (queue : List SheetRecord) (slots : List ℕ) (refusal : ℕ) (queue′ : List SheetRecord) (slots′ : List ℕ) →
     refusal ≡ queue-refusal b (lengths queue) bs a (length slots) → queue′ ≡ records-after refusal b bs a queue → slots′ ≡ queue-slots-after refusal b bs a queue slots →
     Queue-right b bs a queue slots refusal queue′ slots′
@@ -193,6 +203,8 @@ queue-right b bs a queue slots (suc n) queue′ slots′ e f g =
       served = λ h. absurd (omega arith);
       other-slots = λ i j h l m. ap (λ (z : List ℕ). getD z (256 * i + j) 0) g;
       later-slots = ap (drop (256 * length queue)) g;
+      editions = same-editions b bs a queue slots;
+      fronts = same-fronts b bs a queue slots;
     }
 queue-right b bs a queue slots zero queue′ slots′ e f g =
     let P = passes (length (lengths queue)) b (lengths queue) bs a (length slots) (sym e) in
@@ -207,4 +219,6 @@ queue-right b bs a queue slots zero queue′ slots′ e f g =
       served = λ _. rw (f, g) (served b bs a queue slots P);
       other-slots = λ i j h l m. rw g (other b bs a queue slots P i j (omega (arith, n)) l m);
       later-slots = rw (g, ← n, ← shares-number b bs a queue slots P) (filled-rest (shares-of (problems b ss) ks) slots (roomy b bs a queue slots P));
+      editions = same-editions b bs a queue slots;
+      fronts = same-fronts b bs a queue slots;
     }

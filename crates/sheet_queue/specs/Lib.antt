@@ -1,4 +1,5 @@
 -- The definitions of this crate.
 pub mod Rounds
 pub mod Queue
+pub mod Alike
 pub mod Promise

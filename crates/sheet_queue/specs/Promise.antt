@@ -7,10 +7,12 @@ use Prim.Native.Nat.{ℕ, _+_, _*_, _/_, _≤_, _<_, min}
 use lib.ListN.{length, getD, take, drop}
 use Rattle.frank_wolfe.specs.Vectors.{sum}
 use Rattle.files.specs.Book.{boats}
+use Rattle.files.specs.Front.{Same-book, Same-sheet}
 use Rattle.method.specs.Problem.{Problem, problem}
 use Rattle.method.specs.Answers.{verdict-number, steps-used, run-iterate, run-answer}
 use Rattle.method.specs.Promise.{Run-right}
 use Rattle.sheet_queue.specs.declared.SheetRecord.{SheetRecord}
+use Rattle.sheet_queue.specs.Alike.{Same-or-edition, Exchanged, Same-queue}
 use Rattle.sheet_queue.specs.Queue.{blank, lengths, sheets-of, problems, with-steps, own-steps, queue-refusal}
 
 -- sheets whose runs alone take the steps `ts` get the steps `ks` of the allowance `a`
@@ -74,3 +76,7 @@ pub record Queue-right (b bs : List ℕ) (a : ℕ) (queue : List SheetRecord) (s
   -- every slot that no sheet has is as it was: behind a sheet's shares, and behind the last sheet
   pub other-slots : (i j : ℕ) → i < length queue → boats b ≤ j → j < 256 → getD slots′ (256 * i + j) 0 ≡ getD slots (256 * i + j) 0
   pub later-slots : drop (256 * length queue) slots′ ≡ drop (256 * length queue) slots
+  -- sheets of the other edition that ask for the same, every factor 1, give the same but for the lengths
+  pub editions : (other : List SheetRecord) (bs′ : List ℕ) → Exchanged Same-or-edition queue bs other bs′ → Same-queue b bs a queue b bs′ other slots
+  -- front text is never read
+  pub fronts : (b′ : List ℕ) (other : List SheetRecord) (bs′ : List ℕ) → Same-book b b′ → Exchanged Same-sheet queue bs other bs′ → Same-queue b bs a queue b′ bs′ other slots
