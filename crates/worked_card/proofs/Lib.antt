@@ -1,0 +1,2 @@
+-- The laws behind the proof of this crate.
+pub mod Working
