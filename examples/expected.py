@@ -60,6 +60,20 @@ def print_among(book, sheet, released):
     print("no boat released, refusal %d" % exact.search(book, sheet, [7] * 4, None, exact.make_set([]))[0])
 
 
+def print_worked(book, sheet, released, factored):
+    """A Spent search among released boats worked over, the factored sheet's, no move allowed, and a search that ends Within."""
+    refusal, answer, size, buffer = exact.work_over(book, sheet, 10, bytes(1060), released)
+    print_reply(refusal, answer)
+    print("bytes %d" % size)
+    print(buffer[:size].hex())
+    refusal, answer, slots = exact.check_card(book, sheet, buffer[:size], [7] * 4, None, released)
+    print("checked, refusal %d, %s, slots" % (refusal, NAMES[answer.verdict]), *slots)
+    refusal, answer, size, _ = exact.work_over(book, factored, 10, bytes(1060))
+    print("factors 1 2, 4 steps, refusal %d, %s, %d %d, bytes %d" % (refusal, NAMES[answer.verdict], answer.distance, answer.gap, size))
+    print("no move, refusal %d" % exact.work_over(book, sheet, 0, bytes(1060), released)[0])
+    print("the whole book, refusal %d" % exact.work_over(book, sheet, 10, bytes(1060))[0])
+
+
 def main():
     book = exact.make_book([[0, 0], [4, 0], [0, 4]])
     for words, sheet in (("9 steps", exact.make_sheet([1, 1], 9, 1)), ("0 steps", exact.make_sheet([1, 1], 0, 1)),
@@ -73,6 +87,8 @@ def main():
     print_tabled(book, sheet, [2, 1, 1])
     print("released 1 2")
     print_among(book, sheet, exact.make_set([1, 2]))
+    print("work over")
+    print_worked(book, sheet, exact.make_set([1, 2]), exact.make_sheet([1, 1], 4, 0, factors=[1, 2]))
     print("listing")
     print(exact.listing(book, sheet).decode("ascii"), end="")
     print("card")

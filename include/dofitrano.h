@@ -72,6 +72,9 @@ enum dofitrano_refusal {
     DOFITRANO_CELL_UNIT = 43,      /* kilograms per unit outside 1 to 10,000, or a value outside -2,000 to 2,000 */
     /* the released set */
     DOFITRANO_RELEASED_SET = 52, /* empty, or names a boat that the book does not have; tested after 6 */
+    /* a Spent run worked over */
+    DOFITRANO_WORK_VERDICT = 53, /* the search does not end Spent */
+    DOFITRANO_WORK_MOVES = 54,   /* moves allowed outside 1 to 1,000 */
     /* one book from two */
     DOFITRANO_MERGE_COLUMNS = 55, /* the books' columns differ */
     DOFITRANO_MERGE_BOATS = 56,   /* a merged book of more than 256 boats */
@@ -169,6 +172,16 @@ dofitrano_reply dofitrano_check_card_with(const uint8_t *book, size_t book_lengt
                                           bool lent, const uint16_t *table, size_t entries,
                                           const uint8_t *card, size_t card_length,
                                           uint16_t *shares, size_t slots);
+
+/* Makes the search and, where it ends Spent, works its mixture over by at most so many moves: each takes the best whole number of shares
+ * from the boat of greatest score to the boat of least, both of those that hold some, and lowers E. It stops where that number is 0 or the
+ * moves are made. W stays and no boat joins. Writes the card of the result, of the edition WCD2, to the first bytes of `output`; later bytes
+ * are as they were. The reply is the answer of the result, E, G and verdict taken anew. dofitrano_check_card_with accepts the card with the
+ * same set. Refuses by 1 to 17 and 46, with 52 of a set after 6, then by 53, 54 and 22. Use it after Spent, before asking for more steps. */
+dofitrano_card_reply dofitrano_work_over(const uint8_t *book, size_t book_length,
+                                         const uint8_t *sheet, size_t sheet_length,
+                                         dofitrano_released released, uint32_t moves,
+                                         uint8_t *output, size_t output_length);
 
 /* A part of one of two cards: its body and trailer, without front text. Where the call is refused, an empty part of the first. */
 typedef struct dofitrano_choice {

@@ -1,5 +1,5 @@
-/* The library from C: a search and its refusal, a search with factors, one with a table of shares, one among released boats, a listing, a
- * card written and checked, a sheet of scale cells, a sheet in its other edition, two sheets on one allowance.
+/* The library from C: a search and its refusal, a search with factors, one with a table of shares, one among released boats, a Spent
+ * one worked over, a listing, a card written and checked, a sheet of scale cells, a sheet in its other edition, two sheets on one allowance.
  * Files are built in memory. */
 #include <inttypes.h>
 #include <stdbool.h>
@@ -129,6 +129,36 @@ static void search_among(void)
     printf("no boat released, refusal %" PRIu32 "\n", refused.refusal);
 }
 
+/* Boats 1 and 2 are released, and their search ends Spent: up to 10 moves. Then a sheet with factors, of 4 steps and tolerance 0; no move
+ * allowed; and the whole book, whose search ends Within. */
+static void work_over(void)
+{
+    const dofitrano_released two = { true, { 6 } };
+    const uint16_t table[] = { 0 };
+    uint16_t shares[4] = { 7, 7, 7, 7 };
+    uint8_t card[DOFITRANO_CARD_MOST], longer[sizeof factored];
+    dofitrano_card_reply worked = dofitrano_work_over(book, sizeof book, sheet, sizeof sheet, two, 10, card, sizeof card);
+    print_reply(worked.reply);
+    printf("bytes %zu\n", worked.bytes);
+    for (size_t i = 0; i < worked.bytes; i++)
+        printf("%02x", card[i]);
+    printf("\n");
+    dofitrano_reply checked = dofitrano_check_card_with(book, sizeof book, sheet, sizeof sheet, two, false, table, 0,
+                                                        card, worked.bytes, shares, 4);
+    printf("checked, refusal %" PRIu32 ", %s, slots %u %u %u %u\n", checked.refusal, verdict_name(checked.verdict),
+           shares[0], shares[1], shares[2], shares[3]);
+    memcpy(longer, factored, sizeof factored);
+    longer[STEPS_AT + 2] = 4;
+    longer[STEPS_AT + 4] = 0;
+    worked = dofitrano_work_over(book, sizeof book, longer, sizeof longer, every_boat, 10, card, sizeof card);
+    printf("factors 1 2, 4 steps, refusal %" PRIu32 ", %s, %" PRIu64 " %" PRIu64 ", bytes %zu\n", worked.reply.refusal,
+           verdict_name(worked.reply.verdict), worked.reply.distance, worked.reply.gap, worked.bytes);
+    worked = dofitrano_work_over(book, sizeof book, sheet, sizeof sheet, two, 0, card, sizeof card);
+    printf("no move, refusal %" PRIu32 "\n", worked.reply.refusal);
+    worked = dofitrano_work_over(book, sizeof book, sheet, sizeof sheet, every_boat, 10, card, sizeof card);
+    printf("the whole book, refusal %" PRIu32 "\n", worked.reply.refusal);
+}
+
 /* A weighing in units of 10 kilograms and a net in units of 4: the cells of the two columns. */
 static void weigh(void)
 {
@@ -197,6 +227,9 @@ int main(void)
 
     printf("released 1 2\n");
     search_among();
+
+    printf("work over\n");
+    work_over();
 
     printf("listing\n");
     list();

@@ -1,5 +1,5 @@
 """The library from Python by ctypes: a search and its refusal, a search with factors, one with a table of shares,
-one among released boats, a listing, a card written and checked, a sheet of scale cells, a sheet in its other edition.
+one among released boats, a Spent one worked over, a listing, a card written and checked, a sheet of scale cells, a sheet in its other edition.
 
 Files are built in memory.
 
@@ -85,6 +85,8 @@ def load(path):
     library.dofitrano_write_card_with.argtypes = file + file + terms + buffer
     library.dofitrano_check_card_with.restype = Reply
     library.dofitrano_check_card_with.argtypes = file + file + terms + file + shares
+    library.dofitrano_work_over.restype = CardReply
+    library.dofitrano_work_over.argtypes = file + file + [Released, ctypes.c_uint32] + buffer
     library.dofitrano_listing.restype = ctypes.c_size_t
     library.dofitrano_listing.argtypes = file + file + buffer
     doubles = [ctypes.POINTER(ctypes.c_double), ctypes.c_size_t]
@@ -171,6 +173,29 @@ def search_among(library, book, sheet, boats):
     print("no boat released, refusal %d" % reply.refusal)
 
 
+def work_over(library, book, sheet, terms, moves):
+    """The reply of a Spent search worked over, and the card of the result."""
+    output = ctypes.create_string_buffer(CARD_MOST)
+    reply = library.dofitrano_work_over(book, len(book), sheet, len(sheet), terms, moves, output, CARD_MOST)
+    return reply, output.raw[:reply.bytes]
+
+
+def work_over_some(library, book, sheet, boats, factored):
+    """A Spent search among these boats worked over, the factored sheet's, no move allowed, and a search that ends Within."""
+    worked, card = work_over(library, book, sheet, released(boats), 10)
+    print_reply(worked.reply)
+    print("bytes %d" % worked.bytes)
+    print(card.hex())
+    shares, slots = numbers([7, 7, 7, 7])
+    reply = library.dofitrano_check_card_with(book, len(book), sheet, len(sheet), released(boats), False, *numbers([]), card, len(card), shares, slots)
+    print("checked, refusal %d, %s, slots" % (reply.refusal, VERDICT_NAMES[reply.verdict]), *shares)
+    worked, _ = work_over(library, book, factored, EVERY_BOAT, 10)
+    reply = worked.reply
+    print("factors 1 2, 4 steps, refusal %d, %s, %d %d, bytes %d" % (reply.refusal, VERDICT_NAMES[reply.verdict], reply.distance, reply.gap, worked.bytes))
+    print("no move, refusal %d" % work_over(library, book, sheet, released(boats), 0)[0].reply.refusal)
+    print("the whole book, refusal %d" % work_over(library, book, sheet, EVERY_BOAT, 10)[0].reply.refusal)
+
+
 def listing(library, book, sheet):
     """The listing of a search as text. The buffer is long enough for any, so that 0, one too short, is never given back."""
     output = ctypes.create_string_buffer(LISTING_MOST)
@@ -224,6 +249,9 @@ def main(path):
     lend_a_table(library, book, sheet, [2, 1, 1])
     print("released 1 2")
     search_among(library, book, sheet, [1, 2])
+    # Up to 10 moves, after 9 steps among boats 1 and 2 and after 4 steps with factors.
+    print("work over")
+    work_over_some(library, book, sheet, [1, 2], sheet_of((1, 1), 4, 0, (1, 2)))
     print("listing")
     print(listing(library, book, sheet), end="")
     print("card")

@@ -8,6 +8,7 @@ use Rattle.method.specs.Promise.{Outcome-right-with}
 use Rattle.card_format.specs.declared.Written.{Written}
 use Rattle.card_format.specs.Checking.{Check-right-with}
 use Rattle.card_format.specs.Filing.{Filing-right-with}
+use Rattle.pairwise.specs.Call.{Working-right}
 use Rattle.editions.specs.declared.Rewritten.{Rewritten}
 use Rattle.editions.specs.Promise.{Edition-right}
 use Rattle.scale_cells.specs.declared.ScaleCell.{ScaleCell}
@@ -26,6 +27,9 @@ checked-right m b s w {slots = q} e f h = subst (λ x. Check-right-with m b s w 
 
 pub filed-right : (m : Terms) (b s : List ℕ) {r o : Written} {output after : List ℕ} → r ≡ o → output ≡ after → Filing-right-with m b s r output → Filing-right-with m b s o output
 filed-right m b s {output = q} e f h = subst (λ x. Filing-right-with m b s x q) e h
+
+pub worked-right : (m : Terms) (b s : List ℕ) (n : ℕ) {r o : Written} {output after : List ℕ} → r ≡ o → output ≡ after → Working-right m b s n r output → Working-right m b s n o output
+worked-right m b s n {output = q} e f h = subst (λ x. Working-right m b s n x q) e h
 
 pub edition-right : (s : List ℕ) {r o : Rewritten} {output after : List ℕ} → r ≡ o → output ≡ after → Edition-right s r output → Edition-right s o output
 edition-right s {output = q} e f h = subst (λ x. Edition-right s x q) e h

@@ -2,7 +2,7 @@
 //
 // Entries, which ask nothing of their caller: dofitrano_search, dofitrano_write_card, dofitrano_check_card, each also with a lent table
 // (dofitrano_search_with, ..), dofitrano_listing, dofitrano_sheet_values, dofitrano_scale_sheet, dofitrano_better_card,
-// dofitrano_other_edition, dofitrano_merge_books, dofitrano_run_queue.
+// dofitrano_other_edition, dofitrano_merge_books, dofitrano_run_queue, dofitrano_work_over.
 // A slice passes as a pointer and a length; include/dofitrano.h declares the functions for C and says what a caller in another
 // language must see to. The first clause of a contract gives the reply, the second every slot or byte that was lent, the third
 // what the entry behind it promises of both.
@@ -36,6 +36,8 @@ ghost use Rattle.merged_book.specs.Merging.{merged-book, merge-refusal, merging
 ghost use Rattle.merged_book.specs.Promise.{Merge-right};
 ghost use Rattle.sheet_queue.specs.Queue.{lengths, queue-refusal, records-after, queue-slots-after};
 ghost use Rattle.sheet_queue.specs.Promise.{Queue-right};
+ghost use Rattle.pairwise.specs.Moves.{worked-answer};
+ghost use Rattle.pairwise.specs.Call.{set-terms, worked-card, work-refusal, Working-right};
 use better_card_promise::Choice;
 use exported_types::CardReply;
 use exported_types::EditionReply;
@@ -246,4 +248,21 @@ pub extern "C" fn dofitrano_run_queue(
     ensures { λ r. ⌜ (r ≡ queue-refusal (now (book .entry)) (lengths (now (queue .entry))) (now (sheets .entry)) allowance (length (now (shares .entry)))) × (now (queue .exit) ≡ records-after r (now (book .entry)) (now (sheets .entry)) allowance (now (queue .entry))) × (now (shares .exit) ≡ queue-slots-after r (now (book .entry)) (now (sheets .entry)) allowance (now (queue .entry)) (now (shares .entry))) × Queue-right (now (book .entry)) (now (sheets .entry)) allowance (now (queue .entry)) (now (shares .entry)) r (now (queue .exit)) (now (shares .exit)) ⌝ }
 {
     run_queue::run_queue(queue, book, sheets, allowance, shares)
+}
+
+// ENTRY. A Spent search worked over and filed for other languages: the reply of `work_over`, and the buffer's bytes afterwards.
+#[no_mangle]
+pub extern "C" fn dofitrano_work_over(
+    book: &[u8],
+    sheet: &[u8],
+    released: Released,
+    moves: u32,
+    output: &mut [u8],
+) -> CardReply
+    ensures { λ r. ⌜ r ≡ card-reply-of (filing (work-refusal (set-terms released) (now (book .entry)) (now (sheet .entry)) moves (length (now (output .entry)))) (worked-answer (call-problem (set-terms released) (now (book .entry)) (now (sheet .entry))) moves) (length (worked-card (set-terms released) (now (book .entry)) (now (sheet .entry)) moves))) ⌝ }
+    ensures { λ _. ⌜ now (output .exit) ≡ slots-after (work-refusal (set-terms released) (now (book .entry)) (now (sheet .entry)) moves (length (now (output .entry)))) (worked-card (set-terms released) (now (book .entry)) (now (sheet .entry)) moves) (now (output .entry)) ⌝ }
+    ensures { λ _. ⌜ Working-right (set-terms released) (now (book .entry)) (now (sheet .entry)) moves (filing (work-refusal (set-terms released) (now (book .entry)) (now (sheet .entry)) moves (length (now (output .entry)))) (worked-answer (call-problem (set-terms released) (now (book .entry)) (now (sheet .entry))) moves) (length (worked-card (set-terms released) (now (book .entry)) (now (sheet .entry)) moves))) (now (output .exit)) ⌝ }
+{
+    let written = worked_card::work_over(book, sheet, released, moves, &mut *output);
+    exported_types::card_reply_of(written)
 }
