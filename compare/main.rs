@@ -1,7 +1,7 @@
 //! The volume comparison: random and damaged files through the exported functions of the library and through the reference
 //! implementation in reference.rs. Replies, share lists, cards, listings and what must stay untouched are compared bit for bit;
 //! terms.rs has the calls that also take a released set and a table of shares; cells.rs does the same of scale cells, pairs.rs of two cards, editions.rs of
-//! a sheet's other edition, merges.rs of two books, queues.rs of sheets on one allowance.
+//! a sheet's other edition, merges.rs of two books, queues.rs of sheets on one allowance, moves.rs of Spent runs worked over.
 //!
 //! Use: compare [COUNT [SEED]]. The last line has the count; the exit status is 1 where a case differs, and the case is printed.
 
@@ -9,6 +9,7 @@ mod cells;
 mod editions;
 mod encode;
 mod merges;
+mod moves;
 mod pairs;
 mod queues;
 mod random;
@@ -703,6 +704,7 @@ fn refusals(call: &str) -> Vec<u32> {
         "write_card" | "write_card_with" => numbers.push(22),
         "check_card" | "check_card_with" => numbers.extend([21].into_iter().chain(31..=39)),
         "better_card" => numbers.extend(31..=39),
+        "work_over" => numbers.extend([22, 52, 53, 54]),
         _ => {}
     }
     if call.ends_with("_with") {
@@ -711,7 +713,7 @@ fn refusals(call: &str) -> Vec<u32> {
     numbers
 }
 
-const CALLS: [&str; 13] = [
+const CALLS: [&str; 14] = [
     "search",
     "write_card",
     "check_card",
@@ -725,6 +727,7 @@ const CALLS: [&str; 13] = [
     "other_edition",
     "merge_books",
     "run_queue",
+    "work_over",
 ];
 
 /// How a call goes that is not refused.
@@ -740,7 +743,7 @@ fn answers(call: &str) -> &'static [&'static str] {
 }
 
 fn one_case(rng: &mut Random) -> Compared {
-    match rng.below(29) {
+    match rng.below(31) {
         0 | 1 => compare_search(rng, false),
         2 | 3 => compare_write_card(rng, false),
         4..=6 => compare_check_card(rng, false),
@@ -753,6 +756,7 @@ fn one_case(rng: &mut Random) -> Compared {
         10 => editions::compare_other_edition(rng),
         15 | 16 => merges::compare_merge_books(rng),
         25 => queues::compare_run_queue(rng),
+        29 | 30 => moves::compare_work_over(rng),
         _ => pairs::compare_better_card(rng),
     }
 }

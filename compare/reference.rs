@@ -258,6 +258,18 @@ impl Problem {
         (self.inner(&r, &r), gap.max().unwrap())
     }
 
+    /// The boats that may be used, ascending, each with its score under the residual of some shares.
+    pub fn scores(&self, shares: &[u16]) -> Vec<(usize, i128)> {
+        let residual = self.point_and_residual(shares).1;
+        self.usable.iter().map(|boat| (*boat, self.inner(&residual, &self.rows[*boat]))).collect()
+    }
+
+    /// The squared distance of two boats.
+    pub fn squared_distance(&self, one: usize, other: usize) -> i128 {
+        let apart: Vec<i128> = self.rows[one].iter().zip(&self.rows[other]).map(|(v, s)| v - s).collect();
+        self.inner(&apart, &apart)
+    }
+
     /// Of the boats of least score in some direction the lowest-numbered that holds shares, else the lowest-numbered.
     fn pick(&self, direction: &[i128], shares: &[u16]) -> usize {
         let score = |boat: &usize| self.inner(direction, &self.rows[*boat]);

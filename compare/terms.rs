@@ -44,6 +44,16 @@ extern "C" {
         shares: *mut u16,
         slots: usize,
     ) -> Reply;
+    fn dofitrano_work_over(
+        book: *const u8,
+        book_length: usize,
+        sheet: *const u8,
+        sheet_length: usize,
+        released: Released,
+        moves: u32,
+        output: *mut u8,
+        output_length: usize,
+    ) -> CardReply;
 }
 
 /// dofitrano_released of include/dofitrano.h: a set of boats, and whether it counts.
@@ -138,6 +148,11 @@ impl Terms {
         Terms { released, lent: !rng.one_in(3), table: table(rng) }
     }
 
+    /// A set alone, for a call that takes no table.
+    pub fn drawn_without_table(rng: &mut Random, boats: usize) -> Terms {
+        Terms { lent: false, table: Vec::new(), ..Terms::drawn(rng, boats) }
+    }
+
     /// What the reference is given.
     pub fn handed(&self) -> Handed<'_> {
         Handed { table: self.lent.then_some(&self.table), released: self.released.limited.then_some(&self.released.boats) }
@@ -213,6 +228,21 @@ impl Terms {
                 card.len(),
                 shares.as_mut_ptr(),
                 shares.len(),
+            )
+        }
+    }
+
+    pub fn work_over(&self, book: &[u8], sheet: &[u8], moves: u32, output: &mut [u8]) -> CardReply {
+        unsafe {
+            dofitrano_work_over(
+                book.as_ptr(),
+                book.len(),
+                sheet.as_ptr(),
+                sheet.len(),
+                self.released,
+                moves,
+                output.as_mut_ptr(),
+                output.len(),
             )
         }
     }
