@@ -18,6 +18,7 @@ import merges  # noqa: E402
 import queues  # noqa: E402
 import pairs  # noqa: E402
 import sheet_editions  # noqa: E402
+import workings  # noqa: E402
 
 CRATES = os.path.join(HERE, "..", "crates")
 
@@ -175,7 +176,7 @@ def main():
     data = {"test_search": FILES, "test_better": {"pairs.dat": pairs.file_of(pairs.cases())}, **PROGRAMS}
     data["test_edition"] = {name: content for card, (book, rows, sheet) in FILED_BEFORE.items()
                             for name, content in ((book, rows), (card + ".wsh", sheet))}
-    for crate, cases in (("test_book", csv_books), ("test_sheet", csv_sheets), ("test_rewriting", sheet_editions), ("test_merge", merges), ("test_lean", leanings), ("test_queue", queues)):
+    for crate, cases in (("test_book", csv_books), ("test_sheet", csv_sheets), ("test_rewriting", sheet_editions), ("test_merge", merges), ("test_lean", leanings), ("test_queue", queues), ("test_worked", workings)):
         data[crate] = {os.path.join(name, file): content for name, files in cases.FOLDERS.items() for file, content in files.items()}
         data[crate]["cases.dat"] = cases.file_of(cases.cases())
     data["test_details"] = {"cases.dat": details.file_of(details.cases())}
