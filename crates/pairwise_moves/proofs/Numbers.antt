@@ -6,8 +6,8 @@ use native.Mathlib.Omega.{arith}
 use borrow.Author.Tests.{eq-eqb, ne-eqb}
 use lib.Dec.{T}
 use lib.IntN.{ℤ, pos, negsuc, natAbs, _+ℤ_, _-ℤ_, _*ℤ_}
-use lib.ListN.{length}
-use lib.Signed.{nonNeg, yes-nonNeg, pos-natAbs}
+use lib.ListN.{length, getD}
+use lib.Signed.{_≤ℤ_, nonNeg, yes-nonNeg, pos-natAbs}
 use mir.Syntax.{w32, w64}
 use mir.Val.{SFits, Fits, toZ, ofZ}
 use mir.Facts.{toZ-ofZ}
@@ -16,7 +16,7 @@ use Rattle.integers.proofs.Bounds.{fits, read, abs-add, abs-sub}
 use Rattle.frank_wolfe.specs.Vectors.{subtract, inner, squared-norm}
 use Rattle.sums.specs.Operands.{Multipliable}
 use Rattle.pairwise.specs.Moves.{nearest-down, amount-of}
-use Rattle.pairwise_moves.specs.Passes.{Slope-sized}
+use Rattle.pairwise_moves.specs.Passes.{Slope-sized, Differ, Apart-sized}
 
 -- ---- The slope
 
@@ -70,31 +70,62 @@ apart-is (a ∷ v) (b ∷ s) e =
     ∙ ap (λ z. (a -ℤ b) *ℤ (a -ℤ b) +ℤ z) (apart-is v s (omega arith))
     ∙ ap (λ z. z +ℤ pos (squared-norm (subtract v s))) (sym (square-abs (a -ℤ b)))
 
--- the products of d with both rows, in 32 bits, and their difference
-module _ (far near : ℤ) {n : ℕ} (hf : natAbs far ≤ 512000000) (hn : natAbs near ≤ 512000000) (e : far -ℤ near ≡ pos n) where
-  abbrev between : ℤ
-  between = toZ w32 (ofZ w32 far) -ℤ toZ w32 (ofZ w32 near)
+-- ---- Products of rows in 32 bits
 
-  between-is : between ≡ far -ℤ near
-  between-is = rw (read w32 {z = far} 512000000 hf tt, read w32 {z = near} 512000000 hn tt)
+-- the difference of two
+module _ (x y : ℤ) (hx : natAbs x ≤ 512000000) (hy : natAbs y ≤ 512000000) where
+  abbrev apart-by : ℤ
+  apart-by = toZ w32 (ofZ w32 x) -ℤ toZ w32 (ofZ w32 y)
 
-  between-size : natAbs (far -ℤ near) ≤ 1024000000
-  between-size = omega (arith, abs-sub far near, hf, hn)
+  apart-by-is : apart-by ≡ x -ℤ y
+  apart-by-is = rw (read w32 {z = x} 512000000 hx tt, read w32 {z = y} 512000000 hy tt)
 
-  pub between-fits : SFits w32 between
-  between-fits = rw between-is (fits w32 1024000000 between-size tt)
+  apart-by-size : natAbs (x -ℤ y) ≤ 1024000000
+  apart-by-size = omega (arith, abs-sub x y, hx, hy)
 
-  between-read : toZ w32 (ofZ w32 between) ≡ pos n
-  between-read = toZ-ofZ between-fits ∙ between-is ∙ e
+  apart-by-fits : SFits w32 apart-by
+  apart-by-fits = rw apart-by-is (fits w32 1024000000 apart-by-size tt)
 
-  few : n ≤ 1024000000
-  few = rw e at between-size
+  apart-by-read : toZ w32 (ofZ w32 apart-by) ≡ x -ℤ y
+  apart-by-read = toZ-ofZ apart-by-fits ∙ apart-by-is
 
-  pub between-cast : T (nonNeg (toZ w32 (ofZ w32 between))) × Fits w64 (natAbs (toZ w32 (ofZ w32 between)))
-  between-cast = rw between-read (tt, record { fits = omega (arith, few) })
+  -- where it is not below 0
+  module _ (sign : pos 0 ≤ℤ (x -ℤ y)) where
+    between-cast : T (nonNeg (toZ w32 (ofZ w32 apart-by))) × Fits w64 (natAbs (toZ w32 (ofZ w32 apart-by)))
+    between-cast = rw apart-by-read (yes-nonNeg sign, record { fits = omega (arith, apart-by-size) })
 
-  pub between-result : natAbs (toZ w32 (ofZ w32 between)) ≡ n
-  between-result = rw between-read
+    between-result : pos (natAbs (toZ w32 (ofZ w32 apart-by))) ≡ x -ℤ y
+    between-result = rw apart-by-read (pos-natAbs (x -ℤ y) (yes-nonNeg sign))
+
+-- how far a boat's product is above another's
+module _ {mem : List ℤ} {tk gv i : ℕ} (d : Differ mem tk gv i) where
+  pub above-fits : SFits w32 (toZ w32 (ofZ w32 (getD mem (tk + i) (pos 0))) -ℤ toZ w32 (ofZ w32 (getD mem (gv + i) (pos 0))))
+  above-fits = apart-by-fits (getD mem (tk + i) (pos 0)) (getD mem (gv + i) (pos 0)) (d .take-size) (d .give-size)
+
+  pub above-read : toZ w32 (ofZ w32 (toZ w32 (ofZ w32 (getD mem (tk + i) (pos 0))) -ℤ toZ w32 (ofZ w32 (getD mem (gv + i) (pos 0))))) ≡ getD mem (tk + i) (pos 0) -ℤ getD mem (gv + i) (pos 0)
+  above-read = apart-by-read (getD mem (tk + i) (pos 0)) (getD mem (gv + i) (pos 0)) (d .take-size) (d .give-size)
+
+-- and by how much more at `to` than at `from`
+module _ {mem : List ℤ} {tk gv from to : ℕ} (z : Apart-sized mem tk gv from to) {far near : ℤ} (ef : far ≡ getD mem (tk + to) (pos 0) -ℤ getD mem (gv + to) (pos 0))
+    (en : near ≡ getD mem (tk + from) (pos 0) -ℤ getD mem (gv + from) (pos 0)) where
+  far-size : natAbs far ≤ 512000000
+  far-size = rw ef (z .at-to .size)
+
+  near-size : natAbs near ≤ 512000000
+  near-size = rw en (z .at-from .size)
+
+  sign : pos 0 ≤ℤ (far -ℤ near)
+  sign = rw (ef, en) (z .sign)
+
+  pub apart-fits : SFits w32 (toZ w32 (ofZ w32 far) -ℤ toZ w32 (ofZ w32 near))
+  apart-fits = apart-by-fits far near far-size near-size
+
+  pub apart-cast : T (nonNeg (toZ w32 (ofZ w32 (toZ w32 (ofZ w32 far) -ℤ toZ w32 (ofZ w32 near))))) × Fits w64 (natAbs (toZ w32 (ofZ w32 (toZ w32 (ofZ w32 far) -ℤ toZ w32 (ofZ w32 near)))))
+  apart-cast = between-cast far near far-size near-size sign
+
+  pub apart-result : pos (natAbs (toZ w32 (ofZ w32 (toZ w32 (ofZ w32 far) -ℤ toZ w32 (ofZ w32 near))))) ≡
+      (getD mem (tk + to) (pos 0) -ℤ getD mem (gv + to) (pos 0)) -ℤ (getD mem (tk + from) (pos 0) -ℤ getD mem (gv + from) (pos 0))
+  apart-result = between-result far near far-size near-size sign ∙ rw (ef, en)
 
 -- ---- The amount
 

@@ -1,29 +1,28 @@
--- The scores of the boats that hold shares, moved in their place. Assumes nothing.
+-- A pass over the listed boats: the scores of those that hold shares are moved, and the greatest and the least are found. Assumes nothing.
 use mathlib.Core.Path.{_≡_, refl, sym, ap, _∙_}
-use mathlib.Core.Bool.{cond}
+use mathlib.Core.Bool.{Bool, true, false, cond}
 use mathlib.Core.List.{List, [], _∷_, _++_}
-use Prim.Native.Nat.{ℕ, zero, suc, _+_, _*_, _≤_, _<_}
+use Prim.Native.Nat.{ℕ, zero, suc, _+_, _-_, _≤_, _<_}
 use native.Mathlib.Omega.{arith}
 use native.Mathlib.Numerals.{add-one}
-use native.Mathlib.Nat.{suc-mul}
 use borrow.Author.Tests.{eq-eqb, ne-eqb}
 use lib.Dec.{eqb}
-use lib.IntN.{ℤ, pos, natAbs, _+ℤ_, _*ℤ_}
-use lib.ListN.{length, getD, take, drop, set}
-use lib.Seq.{length-take-le, getD-take, set-getD}
+use lib.IntN.{ℤ, pos, negsuc, natAbs, _+ℤ_, _-ℤ_, _*ℤ_}
+use lib.ListN.{length, getD, take, drop, set, length-drop}
+use lib.Seq.{length-take-le, getD-take, getD-drop, set-getD, take-at}
+use Rattle.integers.proofs.Bounds.{abs-add, abs-mul-le}
 use Rattle.integers.proofs.Filling.{Filled, filled-start, filled-long, filled-later, filled-more, filled-end}
-use Rattle.files.specs.Bytes.{values}
-use Rattle.files.specs.Book.{rows-from}
-use Rattle.files.proofs.Rows.{length-rows-from, row-of-rows}
-use Rattle.frank_wolfe.specs.Vectors.{inner, ones}
-use Rattle.frank_wolfe.proofs.Vectors.{weighted-ones}
-use Rattle.method.specs.Iterates.{scores, row}
-use Rattle.method.proofs.Argmin.{length-scores, score-at}
-use Rattle.sums.specs.Operands.{Bounded, Padded, Grid, Rows-bounded, Score-sized}
-use Rattle.sums.proofs.Blocks.{multipliable}
-use Rattle.scoring.proofs.Passes.{first-place, row-range}
-use Rattle.pairwise_moves.specs.Passes.{held-moved, Movable-scores}
-use Rattle.pairwise_moves.proofs.Numbers.{inner-size}
+use Rattle.files.specs.Limits.{total-limit}
+use Rattle.frank_wolfe.specs.Vectors.{subtract}
+use Rattle.frank_wolfe.proofs.Vectors.{length-subtract}
+use Rattle.sums.specs.Operands.{Score-sized}
+use Rattle.pairwise.specs.Moves.{foremost, greater, less}
+use Rattle.pairwise.proofs.Foremost.{positive}
+use Rattle.pairwise_moves.specs.declared.Pair.{Pair}
+use Rattle.pairwise_moves.specs.declared.Found.{Found}
+use Rattle.pairwise_moves.specs.Passes.{pair-of, ahead, held-moved, Idle, Lists, Listed, Differ, Movable-scores}
+use Rattle.pairwise_moves.proofs.Listing.{Opened, opened}
+use Rattle.pairwise_moves.proofs.Leading.{Leading, leading-start, leading-idle, leading-held, above-edge, below-edge, foremost-take}
 
 pub length-moved : (m : ℕ) (qs : List ℕ) (xs ps : List ℤ) → length (held-moved m qs xs ps) ≡ length ps
 unfolding held-moved
@@ -41,21 +40,56 @@ moved-at m (q ∷ qs) (x ∷ xs) [] i a b c = absurd (omega arith)
 moved-at m (q ∷ qs) (x ∷ xs) (p ∷ ps) zero a b c = refl
 moved-at m (q ∷ qs) (x ∷ xs) (p ∷ ps) (suc i) a b c = moved-at m qs xs ps i (omega arith) (omega arith) (omega arith)
 
--- row i stands at p, and the scores of the boats before i are moved
-pub record Rescoring (old : List ℤ) (sh : List ℕ) (m : ℕ) (d : List ℤ) (bs : List ℕ) (at n c : ℕ) (new : List ℤ) (p i : ℕ) : Type 0 where
-  pub filled : Filled old (held-moved m (take n sh) (scores (ones c) (take c d) (rows-from n c (drop at bs))) (take n old)) i new
-  pub place : p ≡ at + 2 * (i * c)
+pub subtract-at : (x y : List ℤ) (i : ℕ) → i < length x → i < length y → getD (subtract x y) i (pos 0) ≡ getD x i (pos 0) -ℤ getD y i (pos 0)
+unfolding subtract
+subtract-at [] y i a b = absurd (omega arith)
+subtract-at (p ∷ x) [] i a b = absurd (omega arith)
+subtract-at (p ∷ x) (q ∷ y) zero a b = refl
+subtract-at (p ∷ x) (q ∷ y) (suc i) a b = subtract-at x y i (omega arith) (omega arith)
 
-module _ {old : List ℤ} {sh : List ℕ} {m : ℕ} {d : List ℤ} {bs : List ℕ} {at n c : ℕ} (g : Grid bs at n c) (pd : Padded c d)
-    (rb : Rows-bounded (rows-from n c (drop at bs)) c) (z : Movable-scores old sh n m) where
-  abbrev products : List ℤ
-  products = scores (ones c) (take c d) (rows-from n c (drop at bs))
+-- what passes from each boat to the next passes on to any later boat
+onward : (P : ℕ → Type 0) (g k i : ℕ) → k + g ≡ i → ((x : ℕ) → k ≤ x → x < i → P x → P (suc x)) → P k → P i
+onward P zero k i e f p = let z : k ≡ i = omega arith in rw z at p
+onward P (suc g) k i e f p = onward P g (suc k) i (omega arith) (λ x a b. f x (omega arith) b) (f k (omega arith) (omega arith) p)
 
-  abbrev whole : List ℤ
-  whole = held-moved m (take n sh) products (take n old)
+-- the edges that no score reaches
+abbrev pub lowest : Found
+lowest = record { boat = 0; score = negsuc 999999999999999999 }
 
-  product-count : length products ≡ n
-  product-count = length-scores (ones c) (take c d) (rows-from n c (drop at bs)) ∙ length-rows-from n c (drop at bs)
+abbrev pub highest : Found
+highest = record { boat = 0; score = pos 1000000000000000000 }
+
+module _ (old : List ℤ) (sh : List ℕ) (n m : ℕ) (mem : List ℤ) (tk gv : ℕ) where
+  abbrev pub products : List ℤ
+  products = subtract (take n (drop tk mem)) (take n (drop gv mem))
+
+  abbrev pub whole : List ℤ
+  whole = held-moved m (take n sh) (subtract (take n (drop tk mem)) (take n (drop gv mem))) (take n old)
+
+-- the boats before i are passed
+pub record Passing (old : List ℤ) (sh : List ℕ) (n m : ℕ) (mem : List ℤ) (tk gv : ℕ) (new : List ℤ) (most least : Found) (i : ℕ) : Type 0 where
+  pub filled : Filled old (held-moved m (take n sh) (subtract (take n (drop tk mem)) (take n (drop gv mem))) (take n old)) i new
+  pub most-is : Leading greater (negsuc 999999999999999999) sh (held-moved m (take n sh) (subtract (take n (drop tk mem)) (take n (drop gv mem))) (take n old)) i most
+  pub least-is : Leading less (pos 1000000000000000000) sh (held-moved m (take n sh) (subtract (take n (drop tk mem)) (take n (drop gv mem))) (take n old)) i least
+
+-- boat i is in slot j of the list
+pub record Walking (old : List ℤ) (sh list : List ℕ) (n m : ℕ) (mem : List ℤ) (tk gv : ℕ) (new : List ℤ) (most least : Found) (j i : ℕ) : Type 0 where
+  pub passing : Passing old sh n m mem tk gv new most least i
+  pub inside : j < length list
+  pub most-boats : i ≤ n
+  pub rest : i < n → Lists sh n (suc i) (drop (suc j) list)
+
+module _ {old : List ℤ} {sh : List ℕ} {n m : ℕ} {mem : List ℤ} {tk gv : ℕ} (z : Movable-scores old sh n m mem tk gv) where
+  row-long : (at : ℕ) → at + n ≤ length mem → length (take n (drop at mem)) ≡ n
+  row-long at h = length-take-le n (drop at mem) (rw length-drop (omega arith))
+
+  product-count : length (products old sh n m mem tk gv) ≡ n
+  product-count = length-subtract (take n (drop tk mem)) (take n (drop gv mem)) (row-long tk (z .takes-room) ∙ sym (row-long gv (z .gives-room))) ∙ row-long tk (z .takes-room)
+
+  pub product-at : (i : ℕ) → i < n → getD (products old sh n m mem tk gv) i (pos 0) ≡ getD mem (tk + i) (pos 0) -ℤ getD mem (gv + i) (pos 0)
+  product-at i h =
+      subtract-at (take n (drop tk mem)) (take n (drop gv mem)) i (rw (row-long tk (z .takes-room)) h) (rw (row-long gv (z .gives-room)) h)
+      ∙ rw (getD-take n (drop tk mem) i (pos 0) h, getD-take n (drop gv mem) i (pos 0) h, getD-drop tk mem i (pos 0), getD-drop gv mem i (pos 0))
 
   old-front : length (take n old) ≡ n
   old-front = length-take-le n old (z .score-sizes .long)
@@ -63,56 +97,108 @@ module _ {old : List ℤ} {sh : List ℕ} {m : ℕ} {d : List ℤ} {bs : List �
   share-front : length (take n sh) ≡ n
   share-front = length-take-le n sh (z .in-shares)
 
-  count : length whole ≡ n
-  count = length-moved m (take n sh) products (take n old) ∙ old-front
+  count : length (whole old sh n m mem tk gv) ≡ n
+  count = length-moved m (take n sh) (products old sh n m mem tk gv) (take n old) ∙ old-front
 
-  room : length whole ≤ length old
+  room : length (whole old sh n m mem tk gv) ≤ length old
   room = rw count (z .score-sizes .long)
 
-  whole-at : (i : ℕ) → i < n → getD whole i (pos 0) ≡ cond (eqb (getD sh i 0) 0) (getD old i (pos 0)) (getD old i (pos 0) +ℤ pos m *ℤ getD products i (pos 0))
+  whole-at : (i : ℕ) → i < n → getD (whole old sh n m mem tk gv) i (pos 0) ≡ cond (eqb (getD sh i 0) 0) (getD old i (pos 0)) (getD old i (pos 0) +ℤ pos m *ℤ (getD mem (tk + i) (pos 0) -ℤ getD mem (gv + i) (pos 0)))
   whole-at i h =
-      moved-at m (take n sh) products (take n old) i (rw share-front h) (rw product-count h) (rw old-front h)
-      ∙ rw (getD-take n sh i 0 h, getD-take n old i (pos 0) h)
+      moved-at m (take n sh) (products old sh n m mem tk gv) (take n old) i (rw share-front h) (rw product-count h) (rw old-front h)
+      ∙ rw (getD-take n sh i 0 h, getD-take n old i (pos 0) h, product-at i h)
 
-  pub rescoring-start : Rescoring old sh m d bs at n c old at 0
-  rescoring-start = record { filled = filled-start; place = first-place g }
+  pub passing-start : Passing old sh n m mem tk gv old lowest highest 0
+  passing-start =
+      record {
+        filled = filled-start;
+        most-is = leading-start greater (negsuc 999999999999999999) sh (whole old sh n m mem tk gv);
+        least-is = leading-start less (pos 1000000000000000000) sh (whole old sh n m mem tk gv);
+      }
 
-  module _ {new : List ℤ} {p i : ℕ} (r : Rescoring old sh m d bs at n c new p i) where
-    pub rescoring-long : length new ≡ length old
-    rescoring-long = filled-long (r .filled) room
+  module _ {new : List ℤ} {most least : Found} where
+    module _ {i : ℕ} (p : Passing old sh n m mem tk gv new most least i) where
+      pub passing-long : length new ≡ length old
+      passing-long = filled-long (p .filled) room
 
-    pub rescoring-end : n ≤ i → new ≡ whole ++ drop n old
-    rescoring-end h = let f = filled-end (r .filled) (rw count h) in rw count at f
+      module _ (h : i < n) where
+        later : getD new i (pos 0) ≡ getD old i (pos 0)
+        later = filled-later (p .filled) room (pos 0) i (omega arith)
 
-    module _ (h : i < n) where
-      next-place : p + 2 * c ≡ at + 2 * ((i + 1) * c)
-      next-place = let k = add-one i in rw (k, suc-mul, r .place) (omega arith)
+        pub passing-idle : getD sh i 0 ≡ 0 → Passing old sh n m mem tk gv new most least (suc i)
+        passing-idle e =
+            record {
+              filled = rw (set-getD, add-one) at (filled-more (p .filled) room (pos 0) (rw count h) {x = getD new i (pos 0)} (later ∙ sym (whole-at i h ∙ rw (eq-eqb (getD sh i 0) 0 e))));
+              most-is = leading-idle greater (negsuc 999999999999999999) sh (whole old sh n m mem tk gv) i most (p .most-is) e;
+              least-is = leading-idle less (pos 1000000000000000000) sh (whole old sh n m mem tk gv) i least (p .least-is) e;
+            }
 
-      later : getD new i (pos 0) ≡ getD old i (pos 0)
-      later = filled-later (r .filled) room (pos 0) i (omega arith)
+        -- the score that is moved, and its product
+        pub score-sized : {x : ℤ} → x ≡ getD mem (tk + i) (pos 0) -ℤ getD mem (gv + i) (pos 0) → Score-sized (getD new i (pos 0)) m x
+        score-sized e = record { few-shares = z .few-shares; score-size = rw later (z .score-sizes .each i h); product-size = rw e (z .products i h .size) }
 
-      stored : {x : ℤ} → x ≡ getD whole i (pos 0) → Rescoring old sh m d bs at n c (set new i x) (p + 2 * c) (i + 1)
-      stored e = record { filled = filled-more (r .filled) room (pos 0) (rw count h) e; place = next-place }
+        module _ (some : getD sh i 0 ≡ 0 → ⊥) {x y : ℤ} (ex : x ≡ getD mem (tk + i) (pos 0) -ℤ getD mem (gv + i) (pos 0)) (ey : y ≡ getD new i (pos 0) +ℤ pos m *ℤ x) where
+          moved-is : y ≡ getD (whole old sh n m mem tk gv) i (pos 0)
+          moved-is = ey ∙ rw (later, ex) (sym (whole-at i h ∙ rw (ne-eqb (getD sh i 0) 0 some)))
 
-      pub rescoring-idle : getD sh i 0 ≡ 0 → Rescoring old sh m d bs at n c new (p + 2 * c) (i + 1)
-      rescoring-idle e =
-          rw set-getD at (stored {x = getD new i (pos 0)} (later ∙ sym (whole-at i h ∙ rw (eq-eqb (getD sh i 0) 0 e))))
+          moved-size : natAbs y ≤ 66539520000000
+          moved-size =
+              rw (ey, later, ex)
+              (omega (
+                arith,
+                abs-add (getD old i (pos 0)) (pos m *ℤ (getD mem (tk + i) (pos 0) -ℤ getD mem (gv + i) (pos 0))),
+                z .score-sizes .each i h,
+                abs-mul-le (pos m) (getD mem (tk + i) (pos 0) -ℤ getD mem (gv + i) (pos 0)) total-limit 512000000 (z .few-shares) (z .products i h .size),
+              ))
 
-      module _ {x : ℤ} (ex : x ≡ inner (take c d) (values c (drop p bs))) where
-        product-is : x ≡ getD products i (pos 0)
-        unfolding row
-        product-is =
-            ex ∙ sym (score-at (ones c) (take c d) (rows-from n c (drop at bs)) i
-            ∙ rw (row-of-rows n c i at bs h, ← r .place) (weighted-ones c (take c d) (values c (drop p bs)) (length-take-le c d (pd .entries .long))))
+          pub passing-held : Passing old sh n m mem tk gv (set new i y) (ahead greater most i y) (ahead less least i y) (suc i)
+          passing-held =
+              record {
+                filled = rw add-one at (filled-more (p .filled) room (pos 0) (rw count h) moved-is);
+                most-is = leading-held greater (negsuc 999999999999999999) sh (whole old sh n m mem tk gv) i most (p .most-is) (positive (getD sh i 0) some) y moved-is (above-edge y moved-size);
+                least-is = leading-held less (pos 1000000000000000000) sh (whole old sh n m mem tk gv) i least (p .least-is) (positive (getD sh i 0) some) y moved-is (below-edge y moved-size);
+              }
 
-        pub product-size : natAbs x ≤ 512000000
-        product-size = rw ex (omega (arith, inner-size c (take c d) (values c (drop p bs)) (length-take-le c d (pd .entries .long)) (multipliable front (row-range g h (r .place) rb)), g .few-columns))
-          where
-            front : Bounded 4000 c (take c d)
-            front = record { long = omega (arith, length-take-le c d (pd .entries .long)); each = λ j k. rw (getD-take c d j (pos 0) k) (pd .entries .each j k) }
+    -- as the code has it: the score stored, and the boats found by it
+    pub passing-moved : {i : ℕ} (p : Passing old sh n m mem tk gv new most least i) (h : i < n) → (getD sh i 0 ≡ 0 → ⊥) → {x y v : ℤ} → x ≡ getD mem (tk + i) (pos 0) -ℤ getD mem (gv + i) (pos 0) →
+        y ≡ getD new i (pos 0) +ℤ pos m *ℤ x → v ≡ y → {next : List ℤ} → next ≡ set new i v → {most′ least′ : Found} → most′ ≡ ahead greater most i v → least′ ≡ ahead less least i v →
+        Passing old sh n m mem tk gv next most′ least′ (suc i)
+    passing-moved p h some ex ey ev en em el = rw (en, em, el) (passing-held p h some ex (ev ∙ ey))
 
-        pub score-sized : Score-sized (getD new i (pos 0)) m x
-        score-sized = record { few-shares = z .few-shares; score-size = rw later (z .score-sizes .each i h); product-size = product-size }
+    passing-on : (k i : ℕ) → k ≤ i → i ≤ n → Idle sh k i → Passing old sh n m mem tk gv new most least k → Passing old sh n m mem tk gv new most least i
+    passing-on k i a b idle p = onward (λ x. Passing old sh n m mem tk gv new most least x) (i - k) k i (omega arith) (λ x c d q. passing-idle q (omega arith) (idle x c d)) p
 
-        pub rescoring-held : (getD sh i 0 ≡ 0 → ⊥) → {y w : ℤ} → y ≡ getD new i (pos 0) +ℤ pos m *ℤ x → w ≡ y → Rescoring old sh m d bs at n c (set new i w) (p + 2 * c) (i + 1)
-        rescoring-held some ey ew = stored (ew ∙ ey ∙ rw (later, product-is) (sym (whole-at i h ∙ rw (ne-eqb (getD sh i 0) 0 some))))
+    -- ---- The walk along the list
+
+    arrives : (list : List ℕ) (k j : ℕ) → Lists sh n k (drop j list) → Passing old sh n m mem tk gv new most least k → Walking old sh list n m mem tk gv new most least j (getD list j 0)
+    arrives list k j l p =
+        let o = opened sh n k list j l in
+        record { passing = passing-on k (getD list j 0) (o .later) (o .most) (o .idle) p; inside = o .inside; most-boats = o .most; rest = o .rest }
+
+  pub walking-start : {list : List ℕ} → Listed sh n list → Walking old sh list n m mem tk gv old lowest highest 0 (getD list 0 0)
+  walking-start {list} l = arrives list 0 0 (l .all) passing-start
+
+  pub list-starts : {list : List ℕ} → Listed sh n list → 0 < length list
+  list-starts {list} l = opened sh n 0 list 0 (l .all) .inside
+
+  module _ {list : List ℕ} {new : List ℤ} {most least : Found} {j i : ℕ} (w : Walking old sh list n m mem tk gv new most least j i) (h : i < n) where
+    pub list-goes-on : j + 1 < length list
+    list-goes-on = let k = add-one j in rw k (opened sh n (suc i) list (suc j) (w .rest h) .inside)
+
+    pub walking-later : i < getD list (j + 1) 0
+    walking-later = let k = add-one j in rw k (opened sh n (suc i) list (suc j) (w .rest h) .later)
+
+    pub walking-most : getD list (j + 1) 0 ≤ n
+    walking-most = let k = add-one j in rw k (opened sh n (suc i) list (suc j) (w .rest h) .most)
+
+    pub walking-next : {next : List ℤ} {most′ least′ : Found} → Passing old sh n m mem tk gv next most′ least′ (suc i) → Walking old sh list n m mem tk gv next most′ least′ (j + 1) (getD list (j + 1) 0)
+    walking-next p = let k = add-one j in rw k (arrives list (suc i) (suc j) (w .rest h) p)
+
+  pub walking-end : {list : List ℕ} {new : List ℤ} {most least : Found} {j i : ℕ} → Walking old sh list n m mem tk gv new most least j i → n ≤ i →
+      (new ≡ whole old sh n m mem tk gv ++ drop n old) × (_≡_ {A = Pair} (record { from = most .boat; to = least .boat }) (pair-of (take n sh) (take n new)))
+  unfolding pair-of
+  walking-end {new = new} {i = i} w h =
+      let f = filled-end (w .passing .filled) (rw count h) in
+      let g : new ≡ whole old sh n m mem tk gv ++ drop n old = rw count at f in
+      let e : i ≡ n = omega (arith, w .most-boats) in
+      (g, rw (g, take-at (whole old sh n m mem tk gv) (drop n old) n count, share-front, foremost-take greater n n sh (whole old sh n m mem tk gv) (omega arith), foremost-take less n n sh (whole old sh n m mem tk gv) (omega arith), w .passing .most-is .boat-is, w .passing .least-is .boat-is, e))

@@ -1,26 +1,25 @@
 -- The loop of the moves: what is kept of shares and scores from one move to the next, over an accepted fleet book b and sheet s. Assumes nothing.
-use mathlib.Core.Path.{_≡_, refl, sym, ap, _∙_}
+use mathlib.Core.Path.{_≡_, refl, sym, ap, ap₂, _∙_}
 use mathlib.Core.Bool.{Bool, true, false, cond}
 use mathlib.Core.List.{List, [], _∷_, _++_}
-use Prim.Native.Nat.{ℕ, suc, _+_, _*_, _-_, _≤_, _<_}
+use Prim.Native.Nat.{ℕ, zero, suc, _+_, _*_, _-_, _≤_, _<_}
+use native.Mathlib.Nat.{mul-le-mul-right}
 use native.Mathlib.Omega.{arith}
 use borrow.Author.Tests.{eqb-false, ne-eqb}
 use lib.Dec.{eqb}
 use lib.IntN.{ℤ, pos, natAbs, _+ℤ_, _-ℤ_, _*ℤ_}
 use lib.ListN.{length, getD, take, drop, set, replicate, length-set, take-append-drop, List·getD-append}
-use lib.Seq.{length-take-le, length-front, getD-take, take-set-lt, drop-set-lt, getD-set-same}
+use lib.Seq.{length-take-le, length-front, getD-take, take-set-lt, drop-set-lt, getD-set-same, getD-set-other}
 use mir.Syntax.{w64}
-use mir.Val.{toZ, ofZ}
+use mir.Val.{Fits, toZ, ofZ}
 use Rattle.integers.proofs.Bounds.{read}
-use Rattle.integers.proofs.Solver.{con, _⊝_, x₀, x₁}
+use Rattle.integers.proofs.Solver.{con, _⊕_, _⊗_, _⊝_, x₀, x₁, solve}
 use Rattle.integers.proofs.Facts.{_≼_, known, derive}
-use Rattle.files.specs.Bytes.{values}
 use Rattle.files.specs.Book.{boats, columns, rows, rows-from}
 use Rattle.files.specs.Sheet.{sheet, files-refusal}
 use Rattle.files.specs.Limits.{total-limit, entry-limit}
 use Rattle.files.proofs.Access.{rows-at}
-use Rattle.files.proofs.Rows.{length-values}
-use Rattle.frank_wolfe.specs.Vectors.{subtract, scale, squared-norm, ones, sum, combination}
+use Rattle.frank_wolfe.specs.Vectors.{subtract, scale, squared-norm, weighted, ones, sum, combination}
 use Rattle.frank_wolfe.proofs.Vectors.{norm-ones, length-subtract}
 use Rattle.method.specs.Problem.{Problem, fixed, weight}
 use Rattle.method.specs.Plain.{plain-problem}
@@ -31,21 +30,22 @@ use Rattle.method.proofs.Schedules.{fixed-sized}
 use Rattle.method.proofs.Argmin.{score-at, length-scores}
 use Rattle.method.proofs.Shares.{share-most}
 use Rattle.method.proofs.Plain.{well-formed, in-range}
-use Rattle.sums.specs.Operands.{Bounded, Padded, Span, Grid, Rows-bounded}
-use Rattle.scoring.specs.Scores.{Pickable}
+use Rattle.sums.specs.Operands.{Bounded, Grid}
 use Rattle.iteration.specs.declared.Layout.{Layout}
-use Rattle.iteration.specs.States.{file-layout}
-use Rattle.iteration.proofs.States.{book-fits, sheet-fits, row-span, row-is, grid, rows-bounded, differable}
+use Rattle.iteration.specs.States.{file-layout, boat-products}
+use Rattle.iteration.proofs.States.{book-fits, sheet-fits, product-count}
 use Rattle.pairwise.specs.Moves.{greater, less, shares-residual, shares-scores, giver, taker, slope, apart, amount-of, amount, exchange, moved, moves}
 use Rattle.pairwise.specs.Worked.{Move-right}
 use Rattle.pairwise.proofs.Foremost.{some-in, positive, foremost-agree}
 use Rattle.pairwise.proofs.Moves.{gives, takes, some-apart, amount-held, score-moved, move-right}
 use Rattle.pairwise.proofs.Loop.{moves-stop, moves-next, score-fits, slope-most, apart-most}
 use Rattle.pairwise_moves.specs.declared.Pair.{Pair}
-use Rattle.pairwise_moves.specs.Passes.{pair-of, held-moved, Slope-sized, Divisible, Exchangeable, Movable-scores}
+use Rattle.pairwise_moves.specs.Passes.{pair-of, held-moved, Listed, Held-products, Slope-sized, Differ, Apart-sized, Divisible, Exchangeable, Movable-scores}
 use Rattle.mixture_answer.proofs.Answering.{all-rows, entries}
-use Rattle.pairwise_moves.proofs.Apart.{front, apart-padded}
-use Rattle.pairwise_moves.proofs.Rescoring.{moved-at, length-moved}
+use Rattle.pairwise_moves.proofs.Listing.{fewer-hold}
+use Rattle.pairwise_moves.proofs.Remembering.{row-room, row-at}
+use Rattle.pairwise_moves.proofs.Rows.{products-differ, memory-differ, memory-apart, memory-sized}
+use Rattle.pairwise_moves.proofs.Rescoring.{moved-at, length-moved, subtract-at}
 
 -- ---- An exchange among the first slots
 
@@ -67,10 +67,33 @@ module _ (n from to m : ℕ) (l : List ℕ) (hf : from < n) (ht : to < n) where
   unfolding exchange
   exchange-slots = length-set (set l from (getD l from 0 - m)) to (getD (set l from (getD l from 0 - m)) to 0 + m) ∙ length-set l from (getD l from 0 - m)
 
+-- what held none holds none after an exchange between two that hold some
+exchange-none : (from to m : ℕ) (l : List ℕ) → 1 ≤ getD l from 0 → 1 ≤ getD l to 0 → (x : ℕ) → getD l x 0 ≡ 0 → getD (exchange from to m l) x 0 ≡ 0
+unfolding exchange
+exchange-none from to m l hf ht x e =
+    getD-set-other (set l from (getD l from 0 - m)) to x (getD (set l from (getD l from 0 - m)) to 0 + m) 0 (other to ht)
+    ∙ getD-set-other l from x (getD l from 0 - m) 0 (other from hf) ∙ e
+  where
+    other : (k : ℕ) → 1 ≤ getD l k 0 → x ≡ k → ⊥
+    other k h f = let g : getD l k 0 ≡ 0 = rw f at e in omega (arith, g, h)
+
+-- a move of no shares
+still : (qs : List ℕ) (xs ps : List ℤ) → held-moved 0 qs xs ps ≡ ps
+unfolding held-moved
+still [] xs ps = refl
+still (q ∷ qs) [] ps = refl
+still (q ∷ qs) (x ∷ xs) [] = refl
+still (q ∷ qs) (x ∷ xs) (p ∷ ps) = ap₂ _∷_ (by (eqb q 0)) (still qs xs ps)
+  where
+    by : (t : Bool) → cond t p (p +ℤ pos 0 *ℤ x) ≡ p
+    by true = refl
+    by false = solve (p ∷ x ∷ []) (x₀ ⊕ con (pos 0) ⊗ x₁) x₀ tt
+
 -- ---- The loop
 
--- after so many moves: the moves left lead to where all lead, and the scores of the boats that hold shares are those of the shares
-pub record Working (b s : List ℕ) (start : List ℕ) (allowed made : ℕ) (held : List ℕ) (scores : List ℤ) : Type 0 where
+-- after so many moves: the moves left lead to where all lead, the scores of the boats that hold shares are those of the shares, these boats
+-- are in the list and their products in the memory, and the next move's two boats are known
+pub record Working (b s : List ℕ) (start : List ℕ) (allowed : ℕ) (list : List ℕ) (memory : List ℤ) (made : ℕ) (held : List ℕ) (scores : List ℤ) (pr : Pair) : Type 0 where
   pub within : made ≤ allowed
   pub later : moves (allowed - made) (plain-problem fixed b s) (take (boats b) held) ≡ moves allowed (plain-problem fixed b s) (take (boats b) start)
   pub rest : drop (boats b) held ≡ drop (boats b) start
@@ -79,6 +102,10 @@ pub record Working (b s : List ℕ) (start : List ℕ) (allowed made : ℕ) (hel
   pub score-slots : length scores ≡ 256
   pub scored : (i : ℕ) → 1 ≤ getD (take (boats b) held) i 0 → getD scores i (pos 0) ≡ getD (shares-scores (plain-problem fixed b s) (take (boats b) held)) i (pos 0)
   pub sizes : (i : ℕ) → i < boats b → natAbs (getD scores i (pos 0)) ≤ 33269760000000
+  pub list-slots : length list ≡ 257
+  pub listed : Listed held (boats b) list
+  pub remembered : Held-products b s held memory
+  pub pair : pr ≡ pair-of (take (boats b) held) (take (boats b) scores)
 
 module _ (b s : List ℕ) (ok : files-refusal b s ≡ 0) where
   abbrev p : Problem
@@ -112,7 +139,7 @@ module _ (b s : List ℕ) (ok : files-refusal b s ≡ 0) where
 
   -- ---- A turn of the loop
 
-  module _ {start : List ℕ} {allowed made : ℕ} {held : List ℕ} {scores : List ℤ} (w : Working b s start allowed made held scores) where
+  module _ {start : List ℕ} {allowed : ℕ} {list : List ℕ} {memory : List ℤ} {made : ℕ} {held : List ℕ} {scores : List ℤ} {pr : Pair} (w : Working b s start allowed list memory made held scores pr) where
     abbrev qs : List ℕ
     qs = take (boats b) held
 
@@ -133,20 +160,11 @@ module _ (b s : List ℕ) (ok : files-refusal b s ≡ 0) where
     score-read : (i : ℕ) → i < boats b → toZ w64 (ofZ w64 (getD scores i (pos 0))) ≡ getD scores i (pos 0)
     score-read i h = read w64 33269760000000 (w .sizes i h) tt
 
-    pickable : Pickable scores held (boats b)
-    pickable =
-        record {
-          some-boats = book-fits b s ok .some-boats;
-          score-sizes = record { long = omega (arith, w .score-slots, book-fits b s ok .most-boats); each = w .sizes };
-          in-shares = omega (arith, w .slots, book-fits b s ok .most-boats);
-        }
+    bounded : Bounded 33269760000000 (boats b) scores
+    bounded = record { long = omega (arith, w .score-slots, book-fits b s ok .most-boats); each = w .sizes }
 
     module _ {l : Layout} (e : l ≡ file-layout b s) where
-      pub chosen-asks : Pickable scores held (l .boats)
-      unfolding file-layout
-      chosen-asks = rw e pickable
-
-      module _ {pr : Pair} (ep : pr ≡ pair-of (take (l .boats) held) (take (l .boats) scores)) where
+      module _ where
         count : length qs ≡ length (plain-problem fixed b s .vertices)
         count = vertex-count qs slots-of (w .total)
 
@@ -156,17 +174,13 @@ module _ (b s : List ℕ) (ok : files-refusal b s ≡ 0) where
         agree : (i : ℕ) → 1 ≤ getD qs i 0 → getD (take (boats b) scores) i (pos 0) ≡ getD (shares-scores (plain-problem fixed b s) qs) i (pos 0)
         agree i h = getD-take (boats b) scores i (pos 0) (rw slots-of at (some-in qs i h)) ∙ w .scored i h
 
-        pair-is : pr ≡ pair-of qs (take (boats b) scores)
-        unfolding file-layout
-        pair-is = rw e at ep
-
         from-is : pr .from ≡ giver (plain-problem fixed b s) qs
         unfolding pair-of giver
-        from-is = ap (λ (x : Pair). x .from) pair-is ∙ foremost-agree greater (length qs) qs (take (boats b) scores) (shares-scores (plain-problem fixed b s) qs) agree
+        from-is = ap (λ (x : Pair). x .from) (w .pair) ∙ foremost-agree greater (length qs) qs (take (boats b) scores) (shares-scores (plain-problem fixed b s) qs) agree
 
         to-is : pr .to ≡ taker (plain-problem fixed b s) qs
         unfolding pair-of taker
-        to-is = ap (λ (x : Pair). x .to) pair-is ∙ foremost-agree less (length qs) qs (take (boats b) scores) (shares-scores (plain-problem fixed b s) qs) agree
+        to-is = ap (λ (x : Pair). x .to) (w .pair) ∙ foremost-agree less (length qs) qs (take (boats b) scores) (shares-scores (plain-problem fixed b s) qs) agree
 
         from-holds : 1 ≤ getD qs (pr .from) 0
         from-holds = rw from-is (gives (well-formed b s ok fixed-sized) qs count some .holds)
@@ -182,23 +196,29 @@ module _ (b s : List ℕ) (ok : files-refusal b s ≡ 0) where
 
         -- ---- The rows
 
-        pub apart-asks :
-            Span b (l .rows + 2 * (pr .from * l .columns)) (l .columns)
-            × (Span b (l .rows + 2 * (pr .to * l .columns)) (l .columns)
-            × (Bounded 2000 (l .columns) (values (l .columns) (drop (l .rows + 2 * (pr .from * l .columns)) b))
-            × Bounded 2000 (l .columns) (values (l .columns) (drop (l .rows + 2 * (pr .to * l .columns)) b))))
-        unfolding file-layout
-        apart-asks =
-            rw e
-            (row-span b s ok (pr .from) from-below, (row-span b s ok (pr .to) to-below, (differable b s ok (pr .from) from-below .0, differable b s ok (pr .to) to-below .0)))
+        from-has : 1 ≤ getD held (pr .from) 0
+        from-has = rw (← getD-take (boats b) held (pr .from) 0 from-below) from-holds
 
-        v-is : values (l .columns) (drop (l .rows + 2 * (pr .from * l .columns)) b) ≡ row (rows b) (giver (plain-problem fixed b s) qs)
-        unfolding file-layout
-        v-is = rw e (row-is b s ok (pr .from) from-below ∙ ap (row (rows b)) from-is)
+        to-has : 1 ≤ getD held (pr .to) 0
+        to-has = rw (← getD-take (boats b) held (pr .to) 0 to-below) to-holds
 
-        s-is : values (l .columns) (drop (l .rows + 2 * (pr .to * l .columns)) b) ≡ row (rows b) (taker (plain-problem fixed b s) qs)
+        row-slots : (i : ℕ) → i < boats b → i * boats b ≤ 65536
+        row-slots i h = omega (arith, mul-le-mul-right (boats b) (most i h), book-fits b s ok .most-boats)
+          where
+            most : (x : ℕ) → x < boats b → x ≤ 256
+            most x g = omega (arith, book-fits b s ok .most-boats)
+
+        pub from-fits : Fits w64 (pr .from * l .boats)
         unfolding file-layout
-        s-is = rw e (row-is b s ok (pr .to) to-below ∙ ap (row (rows b)) to-is)
+        from-fits = rw e (record { fits = omega (arith, row-slots (pr .from) from-below) })
+
+        pub to-fits : Fits w64 (pr .to * l .boats)
+        unfolding file-layout
+        to-fits = rw e (record { fits = omega (arith, row-slots (pr .to) to-below) })
+
+        pub apart-asks : Apart-sized memory (pr .to * l .boats) (pr .from * l .boats) (pr .from) (pr .to)
+        unfolding file-layout
+        apart-asks = rw e (memory-sized b s ok (w .remembered) (pr .to) (pr .from) to-below from-below to-has from-has)
 
         long-row : {i j : ℕ} → i ≡ j → i < boats b → length (row (rows b) j) ≡ columns b
         unfolding row
@@ -230,7 +250,7 @@ module _ (b s : List ℕ) (ok : files-refusal b s ≡ 0) where
             }
 
         module _ {x y : ℕ} (ex : pos x ≡ top -ℤ bottom)
-            (ey : y ≡ squared-norm (subtract (values (l .columns) (drop (l .rows + 2 * (pr .from * l .columns)) b)) (values (l .columns) (drop (l .rows + 2 * (pr .to * l .columns)) b)))) where
+            (ey : pos y ≡ (getD memory (pr .to * l .boats + pr .to) (pos 0) -ℤ getD memory (pr .from * l .boats + pr .to) (pos 0)) -ℤ (getD memory (pr .to * l .boats + pr .from) (pos 0) -ℤ getD memory (pr .from * l .boats + pr .from) (pos 0))) where
           x-is : x ≡ slope (plain-problem fixed b s) qs
           unfolding slope natural
           x-is =
@@ -243,9 +263,15 @@ module _ (b s : List ℕ) (ok : files-refusal b s ≡ 0) where
               length-subtract (row (rows b) (giver (plain-problem fixed b s) qs)) (row (rows b) (taker (plain-problem fixed b s) qs)) (long-row from-is from-below ∙ sym (long-row to-is to-below))
               ∙ long-row from-is from-below
 
+          y-norm : y ≡ squared-norm (subtract (row (rows b) (pr .from)) (row (rows b) (pr .to)))
+          unfolding file-layout
+          y-norm =
+              let f : pos y ≡ (getD memory (pr .to * boats b + pr .to) (pos 0) -ℤ getD memory (pr .from * boats b + pr .to) (pos 0)) -ℤ (getD memory (pr .to * boats b + pr .from) (pos 0) -ℤ getD memory (pr .from * boats b + pr .from) (pos 0)) = rw e at ey in
+              ap natAbs (f ∙ memory-apart b s ok (w .remembered) (pr .to) (pr .from) to-below from-below to-has from-has)
+
           y-is : y ≡ apart (plain-problem fixed b s) qs
           unfolding apart plain-problem
-          y-is = ey ∙ rw (v-is, s-is) (sym (norm-ones (columns b) (subtract (row (rows b) (giver (plain-problem fixed b s) qs)) (row (rows b) (taker (plain-problem fixed b s) qs))) rows-long))
+          y-is = y-norm ∙ rw (from-is, to-is) (sym (norm-ones (columns b) (subtract (row (rows b) (giver (plain-problem fixed b s) qs)) (row (rows b) (taker (plain-problem fixed b s) qs))) rows-long))
 
           -- ---- The amount
 
@@ -299,53 +325,65 @@ module _ (b s : List ℕ) (ok : files-refusal b s ≡ 0) where
 
               -- ---- The next turn
 
-              module _ {next : List ℕ} (en : next ≡ exchange (pr .from) (pr .to) m held)
-                  {d : List ℤ} (ed : d ≡ subtract (values (l .columns) (drop (l .rows + 2 * (pr .to * l .columns)) b)) (values (l .columns) (drop (l .rows + 2 * (pr .from * l .columns)) b)) ++ drop (l .columns) (replicate 64 (pos 0))) where
+              module _ {next : List ℕ} (en : next ≡ exchange (pr .from) (pr .to) m held) where
                 next-front : take (boats b) next ≡ moved (plain-problem fixed b s) qs
                 next-front = rw en front-is
 
                 next-slots : length next ≡ 256
                 next-slots = rw en (exchange-slots (boats b) (pr .from) (pr .to) m held from-below to-below ∙ w .slots)
 
-                few-columns : l .columns ≤ 64
-                few-columns = apart-asks .0 .few-columns
+                none-joins : (x : ℕ) → getD held x 0 ≡ 0 → getD next x 0 ≡ 0
+                none-joins = rw en (exchange-none (pr .from) (pr .to) m held from-has to-has)
 
-                padded : Padded (l .columns) d
-                padded = apart-padded few-columns (length-values _ _) (length-values _ _) (apart-asks .1 .1 .0) (apart-asks .1 .1 .1) refl ed
+                still-listed : Listed next (boats b) list
+                still-listed = record { all = fewer-hold held next none-joins (boats b) 0 list (w .listed .all) }
 
-                difference-is : take (l .columns) d ≡ subtract (row (rows b) (taker (plain-problem fixed b s) qs)) (row (rows b) (giver (plain-problem fixed b s) qs))
-                difference-is = front few-columns (length-values _ _) (length-values _ _) (apart-asks .1 .1 .0) (apart-asks .1 .1 .1) refl ed ∙ rw (v-is, s-is)
+                still-remembered : Held-products b s next memory
+                still-remembered =
+                    record { room = w .remembered .room; each = λ i h some. w .remembered .each i h (positive (getD held i 0) (λ z. let g = none-joins i z in omega (arith, g, some))) }
 
-                pub rescore-asks :
-                    Grid b (l .rows) (l .boats) (l .columns)
-                    × (Padded (l .columns) d
-                    × (Rows-bounded (rows-from (l .boats) (l .columns) (drop (l .rows) b)) (l .columns)
-                    × Movable-scores scores next (l .boats) m))
+                pub rescore-asks : Listed next (l .boats) list × Movable-scores scores next (l .boats) m memory (pr .to * l .boats) (pr .from * l .boats)
                 unfolding file-layout
-                rescore-asks = (rw e (grid b s ok), (padded, (rw e (rows-bounded b s ok), rw e sized)))
+                rescore-asks = rw e (still-listed, sized)
                   where
-                    sized : Movable-scores scores next (boats b) m
+                    sized : Movable-scores scores next (boats b) m memory (pr .to * boats b) (pr .from * boats b)
                     sized =
                         record {
-                          score-sizes = pickable .score-sizes;
+                          score-sizes = bounded;
                           in-shares = omega (arith, next-slots, book-fits b s ok .most-boats);
                           few-shares = omega (arith, few-move, getD-take (boats b) held (pr .from) 0 from-below, share-most qs (pr .from), few-total qs slots-of (w .total));
+                          takes-room = row-room b s ok (w .remembered) (pr .to) to-below to-has;
+                          gives-room = row-room b s ok (w .remembered) (pr .from) from-below from-has;
+                          products = memory-differ b s ok (w .remembered) (pr .to) (pr .from) to-below from-below to-has from-has;
                         }
 
-                module _ {new : List ℤ}
-                    (es : new ≡ held-moved m (take (l .boats) next) (M.scores (ones (l .columns)) (take (l .columns) d) (rows-from (l .boats) (l .columns) (drop (l .rows) b))) (take (l .boats) scores) ++ drop (l .boats) scores) where
+                module _ {new : List ℤ} {after : Pair}
+                    (es : new ≡ held-moved m (take (l .boats) next) (subtract (take (l .boats) (drop (pr .to * l .boats) memory)) (take (l .boats) (drop (pr .from * l .boats) memory))) (take (l .boats) scores) ++ drop (l .boats) scores)
+                    (ea : after ≡ pair-of (take (l .boats) next) (take (l .boats) new)) where
                   abbrev products : List ℤ
-                  products = M.scores (ones (columns b)) (subtract (row (rows b) (taker (plain-problem fixed b s) qs)) (row (rows b) (giver (plain-problem fixed b s) qs))) (rows b)
+                  products = subtract (boat-products b s (pr .to)) (boat-products b s (pr .from))
 
                   new-is : new ≡ held-moved m (moved (plain-problem fixed b s) qs) products (take (boats b) scores) ++ drop (boats b) scores
                   unfolding file-layout
-                  new-is = es ∙ rw (difference-is, e, next-front, ← rows-at b)
+                  new-is =
+                      let f : new ≡ held-moved m (take (boats b) next) (subtract (take (boats b) (drop (pr .to * boats b) memory)) (take (boats b) (drop (pr .from * boats b) memory))) (take (boats b) scores) ++ drop (boats b) scores = rw e at es in
+                      f ∙ rw (row-at b s ok (w .remembered) (pr .to) to-below to-has, row-at b s ok (w .remembered) (pr .from) from-below from-has, next-front)
+
+                  after-is : after ≡ pair-of (take (boats b) next) (take (boats b) new)
+                  unfolding file-layout
+                  after-is = rw e at ea
 
                   moved-count : length (moved (plain-problem fixed b s) qs) ≡ boats b
                   moved-count = move .count ∙ slots-of
 
-                  product-count : length products ≡ boats b
-                  product-count = length-scores (ones (columns b)) (subtract (row (rows b) (taker (plain-problem fixed b s) qs)) (row (rows b) (giver (plain-problem fixed b s) qs))) (rows b) ∙ book-fits b s ok .row-count
+                  product-long : length products ≡ boats b
+                  product-long = length-subtract (boat-products b s (pr .to)) (boat-products b s (pr .from)) (product-count b s ok (pr .to) ∙ sym (product-count b s ok (pr .from))) ∙ product-count b s ok (pr .to)
+
+                  product-is : (i : ℕ) → i < boats b →
+                      getD products i (pos 0) ≡ weighted (ones (columns b)) (subtract (row (rows b) (taker (plain-problem fixed b s) qs)) (row (rows b) (giver (plain-problem fixed b s) qs))) (row (rows b) i)
+                  product-is i h =
+                      subtract-at (boat-products b s (pr .to)) (boat-products b s (pr .from)) i (rw (product-count b s ok (pr .to)) h) (rw (product-count b s ok (pr .from)) h)
+                      ∙ products-differ b s ok (pr .to) (pr .from) i to-below from-below ∙ rw (from-is, to-is)
 
                   score-count : length (take (boats b) scores) ≡ boats b
                   score-count = length-take-le (boats b) scores (omega (arith, w .score-slots, book-fits b s ok .most-boats))
@@ -360,7 +398,7 @@ module _ (b s : List ℕ) (ok : files-refusal b s ≡ 0) where
                       getD new i (pos 0) ≡ cond (eqb (getD (moved (plain-problem fixed b s) qs) i 0) 0) (getD scores i (pos 0)) (getD scores i (pos 0) +ℤ pos m *ℤ getD products i (pos 0))
                   new-at i h =
                       rw new-is (List·getD-append (held-moved m (moved (plain-problem fixed b s) qs) products (take (boats b) scores)) (drop (boats b) scores) (pos 0) i (rw new-count h))
-                      ∙ moved-at m (moved (plain-problem fixed b s) qs) products (take (boats b) scores) i (rw moved-count h) (rw product-count h) (rw score-count h)
+                      ∙ moved-at m (moved (plain-problem fixed b s) qs) products (take (boats b) scores) i (rw moved-count h) (rw product-long h) (rw score-count h)
                       ∙ rw (getD-take (boats b) scores i (pos 0) h)
 
                   -- a boat that holds shares held some before
@@ -377,8 +415,8 @@ module _ (b s : List ℕ) (ok : files-refusal b s ≡ 0) where
                       ∙ rw (
                         ne-eqb (getD (moved (plain-problem fixed b s) qs) i 0) 0 (λ z. omega (arith, z, h)),
                         w .scored i (held-before i h),
+                        product-is i (rw moved-count at (some-in (moved (plain-problem fixed b s) qs) i h)),
                         m-is,
-                        score-at (ones (columns b)) (subtract (row (rows b) (taker (plain-problem fixed b s) qs)) (row (rows b) (giver (plain-problem fixed b s) qs))) (rows b) i,
                       )
                       (sym (score-moved (well-formed b s ok fixed-sized) qs count some some-amount i))
 
@@ -392,7 +430,7 @@ module _ (b s : List ℕ) (ok : files-refusal b s ≡ 0) where
                       by true z = rw (new-at i h, z) (w .sizes i h)
                       by false z = rw (new-scored i (positive _ (eqb-false _ 0 z))) (score-is (moved (plain-problem fixed b s) qs) moved-count moved-total i h)
 
-                  pub working-next : made < allowed → Working b s start allowed (made + 1) next new
+                  pub working-next : made < allowed → Working b s start allowed list memory (made + 1) next new after
                   working-next h =
                       let k : allowed - made ≡ suc (allowed - (made + 1)) = omega arith in
                       record {
@@ -404,6 +442,10 @@ module _ (b s : List ℕ) (ok : files-refusal b s ≡ 0) where
                         score-slots = new-slots;
                         scored = rw next-front new-scored;
                         sizes = new-sizes;
+                        list-slots = w .list-slots;
+                        listed = still-listed;
+                        remembered = still-remembered;
+                        pair = after-is;
                       }
 
   -- ---- Before the first move
@@ -433,16 +475,69 @@ module _ (b s : List ℕ) (ok : files-refusal b s ≡ 0) where
         score-there : (i : ℕ) → i < boats b → getD scores i (pos 0) ≡ getD (shares-scores (plain-problem fixed b s) (take (boats b) start)) i (pos 0)
         score-there i h = rw scores-are (List·getD-append (shares-scores (plain-problem fixed b s) (take (boats b) start)) (drop (boats b) (replicate 256 (pos 0))) (pos 0) i (rw first-count h))
 
-        pub working-start : {allowed : ℕ} → Working b s start allowed 0 start scores
-        working-start {allowed} =
-            record {
-              within = omega arith;
-              later = let z : allowed - 0 ≡ allowed = omega arith in rw z;
-              rest = refl;
-              slots = slots;
-              total = total;
-              score-slots = rw scores-are (length-front (replicate 256 (pos 0)) (shares-scores (plain-problem fixed b s) (take (boats b) start)) (boats b)
-                  (first-count ∙ sym (length-take-le (boats b) (replicate 256 (pos 0)) (book-fits b s ok .most-boats))));
-              scored = λ i h. score-there i (rw start-count at (some-in (take (boats b) start) i h));
-              sizes = λ i h. rw (score-there i h) (score-is (take (boats b) start) start-count total i h);
-            }
+        start-slots : length scores ≡ 256
+        start-slots =
+            rw scores-are (length-front (replicate 256 (pos 0)) (shares-scores (plain-problem fixed b s) (take (boats b) start)) (boats b)
+            (first-count ∙ sym (length-take-le (boats b) (replicate 256 (pos 0)) (book-fits b s ok .most-boats))))
+
+        start-sizes : (i : ℕ) → i < boats b → natAbs (getD scores i (pos 0)) ≤ 33269760000000
+        start-sizes i h = rw (score-there i h) (score-is (take (boats b) start) start-count total i h)
+
+        module _ {list : List ℕ} (el : Listed start (l .boats) list) {memory : List ℤ} (em : Held-products b s start memory) where
+          pub first-asks : Listed start (l .boats) list × Movable-scores scores start (l .boats) 0 (replicate 256 (pos 0)) 0 0
+          unfolding file-layout
+          first-asks = (el, rw e sized)
+            where
+              none : (k i : ℕ) → getD (replicate k (pos 0)) i (pos 0) ≡ pos 0
+              none zero i = refl
+              none (suc k) zero = refl
+              none (suc k) (suc i) = none k i
+
+              differ : (i : ℕ) → i < boats b → Differ (replicate 256 (pos 0)) 0 0 i
+              differ i h =
+                  record {
+                    in-takes = omega (arith, book-fits b s ok .most-boats);
+                    in-gives = omega (arith, book-fits b s ok .most-boats);
+                    take-size = rw (none 256 (0 + i)) (omega arith);
+                    give-size = rw (none 256 (0 + i)) (omega arith);
+                    size = rw (none 256 (0 + i)) (omega arith);
+                  }
+
+              sized : Movable-scores scores start (boats b) 0 (replicate 256 (pos 0)) 0 0
+              sized =
+                  record {
+                    score-sizes = record { long = omega (arith, start-slots, book-fits b s ok .most-boats); each = start-sizes };
+                    in-shares = omega (arith, slots, book-fits b s ok .most-boats);
+                    few-shares = omega arith;
+                    takes-room = omega (arith, book-fits b s ok .most-boats);
+                    gives-room = omega (arith, book-fits b s ok .most-boats);
+                    products = differ;
+                  }
+
+          pub working-start : {new : List ℤ} {pr : Pair} →
+              new ≡ held-moved 0 (take (l .boats) start) (subtract (take (l .boats) (drop 0 (replicate 256 (pos 0)))) (take (l .boats) (drop 0 (replicate 256 (pos 0))))) (take (l .boats) scores) ++ drop (l .boats) scores →
+              pr ≡ pair-of (take (l .boats) start) (take (l .boats) new) → length list ≡ 257 → {allowed : ℕ} → Working b s start allowed list memory 0 start new pr
+          unfolding file-layout
+          working-start {new} en ep ls {allowed} =
+              let same : new ≡ scores = en ∙ rw (still (take (l .boats) start) (subtract (take (l .boats) (drop 0 (replicate 256 (pos 0)))) (take (l .boats) (drop 0 (replicate 256 (pos 0))))) (take (l .boats) scores)) (take-append-drop (l .boats) scores) in
+              record {
+                within = omega arith;
+                later = let z : allowed - 0 ≡ allowed = omega arith in rw z;
+                rest = refl;
+                slots = slots;
+                total = total;
+                score-slots = rw same start-slots;
+                scored = λ i h. rw same (score-there i (rw start-count at (some-in (take (boats b) start) i h)));
+                sizes = rw same start-sizes;
+                list-slots = ls;
+                listed = rw e at el;
+                remembered = em;
+                pair = rw e at ep;
+              }
+
+    pub list-asks : (l .boats ≤ length start) × (l .boats < 257)
+    unfolding file-layout
+    list-asks = rw e (omega (arith, slots, book-fits b s ok .most-boats), omega (arith, book-fits b s ok .most-boats))
+
+    pub remember-asks : (boats b ≤ length start) × (boats b * boats b ≤ 65536)
+    remember-asks = (omega (arith, slots, book-fits b s ok .most-boats), omega (arith, mul-le-mul-right (boats b) (book-fits b s ok .most-boats), book-fits b s ok .most-boats))
