@@ -1,6 +1,6 @@
 -- The boat found by a pass over the boats that hold shares, by any order of the scores, with its score. Assumes nothing.
-use mathlib.Core.Path.{_≡_, refl, sym, ap, _∙_}
-use mathlib.Core.Bool.{Bool, true, false, _&&_, _||_, cond}
+use mathlib.Core.Path.{_≡_, refl}
+use mathlib.Core.Bool.{Bool, true, false, _||_, cond}
 use mathlib.Core.List.{List}
 use mathlib.Core.Logic.{_⊎_, inl, inr}
 use Prim.Native.Nat.{ℕ, zero, suc, _-_, _≤_, _<_}
@@ -8,10 +8,10 @@ use native.Mathlib.Omega.{arith}
 use borrow.Author.Tests.{ltb-true, ltb-false, lt-ltb, eq-eqb, ne-eqb}
 use lib.Dec.{eqb, ltb}
 use lib.IntN.{ℤ, pos, negsuc, natAbs}
-use lib.ListN.{length, getD, take}
+use lib.ListN.{getD, take}
 use lib.Seq.{getD-take}
 use lib.Signed.{ltZ}
-use Rattle.pairwise.specs.Moves.{better, foremost, greater, less}
+use Rattle.pairwise.specs.Moves.{better, foremost}
 use Rattle.pairwise.proofs.Foremost.{foremost-inside}
 use Rattle.pairwise_moves.specs.declared.Found.{Found}
 use Rattle.pairwise_moves.specs.Passes.{ahead, Idle}

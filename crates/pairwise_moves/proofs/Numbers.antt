@@ -1,7 +1,7 @@
 -- The numbers of a move as the machine has them: the slope, the squared distance of two rows, and the amount. Assumes nothing.
 use mathlib.Core.Path.{_≡_, refl, sym, ap, _∙_}
 use mathlib.Core.List.{List, [], _∷_}
-use Prim.Native.Nat.{ℕ, zero, suc, _+_, _*_, _-_, _/_, _≤_, _<_, min}
+use Prim.Native.Nat.{ℕ, _+_, _*_, _-_, _/_, _≤_, _<_, min}
 use native.Mathlib.Omega.{arith}
 use borrow.Author.Tests.{eq-eqb, ne-eqb}
 use lib.Dec.{T}
@@ -12,9 +12,8 @@ use mir.Syntax.{w32, w64}
 use mir.Val.{SFits, Fits, toZ, ofZ}
 use mir.Facts.{toZ-ofZ}
 use Rattle.integers.proofs.Solver.{_⊕_, _⊗_, _⊝_, x₀, x₁, x₂, x₃, solve}
-use Rattle.integers.proofs.Bounds.{fits, read, abs-add, abs-sub}
+use Rattle.integers.proofs.Bounds.{fits, read, abs-sub}
 use Rattle.frank_wolfe.specs.Vectors.{subtract, inner, squared-norm}
-use Rattle.sums.specs.Operands.{Multipliable}
 use Rattle.pairwise.specs.Moves.{nearest-down, amount-of}
 use Rattle.pairwise_moves.specs.Passes.{Slope-sized, Differ, Apart-sized}
 
@@ -41,18 +40,6 @@ module _ {a b : ℤ} (s : Slope-sized a b) where
 
   pub slope-result : pos (natAbs (toZ w64 (ofZ w64 difference))) ≡ a -ℤ b
   slope-result = rw slope-read (pos-natAbs (a -ℤ b) (yes-nonNeg (s .sign)))
-
--- ---- An inner product of few entries
-
-pub inner-size : (n : ℕ) (x y : List ℤ) → length x ≡ n → Multipliable n x y → natAbs (inner x y) ≤ n * 8000000
-unfolding inner
-inner-size n [] y e m = omega arith
-inner-size n (a ∷ x) [] e m = omega arith
-inner-size zero (a ∷ x) (b ∷ y) e m = absurd (omega arith)
-inner-size (suc n) (a ∷ x) (b ∷ y) e m =
-    let k : natAbs (inner x y) ≤ n * 8000000 = inner-size n x y (omega arith) (record { each = λ i h. m .each (suc i) (omega arith) }) in
-    let l : natAbs (a *ℤ b) ≤ 8000000 = m .each 0 (omega arith) in
-    omega (arith, abs-add (a *ℤ b) (inner x y))
 
 -- ---- |v - s|² = <d, s> - <d, v>, where d = s - v
 

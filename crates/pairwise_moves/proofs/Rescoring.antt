@@ -1,6 +1,6 @@
 -- A pass over the listed boats: the scores of those that hold shares are moved, and the greatest and the least are found. Assumes nothing.
 use mathlib.Core.Path.{_≡_, refl, sym, ap, _∙_}
-use mathlib.Core.Bool.{Bool, true, false, cond}
+use mathlib.Core.Bool.{cond}
 use mathlib.Core.List.{List, [], _∷_, _++_}
 use Prim.Native.Nat.{ℕ, zero, suc, _+_, _-_, _≤_, _<_}
 use native.Mathlib.Omega.{arith}
@@ -16,12 +16,12 @@ use Rattle.files.specs.Limits.{total-limit}
 use Rattle.frank_wolfe.specs.Vectors.{subtract}
 use Rattle.frank_wolfe.proofs.Vectors.{length-subtract}
 use Rattle.sums.specs.Operands.{Score-sized}
-use Rattle.pairwise.specs.Moves.{foremost, greater, less}
+use Rattle.pairwise.specs.Moves.{greater, less}
 use Rattle.pairwise.proofs.Foremost.{positive}
 use Rattle.pairwise_moves.specs.declared.Pair.{Pair}
 use Rattle.pairwise_moves.specs.declared.Found.{Found}
-use Rattle.pairwise_moves.specs.Passes.{pair-of, ahead, held-moved, Idle, Lists, Listed, Differ, Movable-scores}
-use Rattle.pairwise_moves.proofs.Listing.{Opened, opened}
+use Rattle.pairwise_moves.specs.Passes.{pair-of, ahead, held-moved, Idle, Lists, Listed, Movable-scores}
+use Rattle.pairwise_moves.proofs.Listing.{opened}
 use Rattle.pairwise_moves.proofs.Leading.{Leading, leading-start, leading-idle, leading-held, above-edge, below-edge, foremost-take}
 
 pub length-moved : (m : ℕ) (qs : List ℕ) (xs ps : List ℤ) → length (held-moved m qs xs ps) ≡ length ps

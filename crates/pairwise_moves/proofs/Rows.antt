@@ -1,6 +1,6 @@
 -- The products of two boats' rows in the memory: what they differ by is the product of the rows' difference. Over an accepted fleet
 -- book b and sheet s. Assumes nothing.
-use mathlib.Core.Path.{_≡_, refl, sym, ap, ap₂, _∙_}
+use mathlib.Core.Path.{_≡_, sym, ap₂, _∙_}
 use mathlib.Core.List.{List, [], _∷_}
 use Prim.Native.Nat.{ℕ, _+_, _*_, _≤_, _<_}
 use native.Mathlib.Omega.{arith}

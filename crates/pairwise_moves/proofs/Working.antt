@@ -164,289 +164,288 @@ module _ (b s : List ℕ) (ok : files-refusal b s ≡ 0) where
     bounded = record { long = omega (arith, w .score-slots, book-fits b s ok .most-boats); each = w .sizes }
 
     module _ {l : Layout} (e : l ≡ file-layout b s) where
-      module _ where
-        count : length qs ≡ length (plain-problem fixed b s .vertices)
-        count = vertex-count qs slots-of (w .total)
+      count : length qs ≡ length (plain-problem fixed b s .vertices)
+      count = vertex-count qs slots-of (w .total)
 
-        some : 1 ≤ sum qs
-        some = some-total qs slots-of (w .total)
+      some : 1 ≤ sum qs
+      some = some-total qs slots-of (w .total)
 
-        agree : (i : ℕ) → 1 ≤ getD qs i 0 → getD (take (boats b) scores) i (pos 0) ≡ getD (shares-scores (plain-problem fixed b s) qs) i (pos 0)
-        agree i h = getD-take (boats b) scores i (pos 0) (rw slots-of at (some-in qs i h)) ∙ w .scored i h
+      agree : (i : ℕ) → 1 ≤ getD qs i 0 → getD (take (boats b) scores) i (pos 0) ≡ getD (shares-scores (plain-problem fixed b s) qs) i (pos 0)
+      agree i h = getD-take (boats b) scores i (pos 0) (rw slots-of at (some-in qs i h)) ∙ w .scored i h
 
-        from-is : pr .from ≡ giver (plain-problem fixed b s) qs
-        unfolding pair-of giver
-        from-is = ap (λ (x : Pair). x .from) (w .pair) ∙ foremost-agree greater (length qs) qs (take (boats b) scores) (shares-scores (plain-problem fixed b s) qs) agree
+      from-is : pr .from ≡ giver (plain-problem fixed b s) qs
+      unfolding pair-of giver
+      from-is = ap (λ (x : Pair). x .from) (w .pair) ∙ foremost-agree greater (length qs) qs (take (boats b) scores) (shares-scores (plain-problem fixed b s) qs) agree
 
-        to-is : pr .to ≡ taker (plain-problem fixed b s) qs
-        unfolding pair-of taker
-        to-is = ap (λ (x : Pair). x .to) (w .pair) ∙ foremost-agree less (length qs) qs (take (boats b) scores) (shares-scores (plain-problem fixed b s) qs) agree
+      to-is : pr .to ≡ taker (plain-problem fixed b s) qs
+      unfolding pair-of taker
+      to-is = ap (λ (x : Pair). x .to) (w .pair) ∙ foremost-agree less (length qs) qs (take (boats b) scores) (shares-scores (plain-problem fixed b s) qs) agree
 
-        from-holds : 1 ≤ getD qs (pr .from) 0
-        from-holds = rw from-is (gives (well-formed b s ok fixed-sized) qs count some .holds)
+      from-holds : 1 ≤ getD qs (pr .from) 0
+      from-holds = rw from-is (gives (well-formed b s ok fixed-sized) qs count some .holds)
 
-        to-holds : 1 ≤ getD qs (pr .to) 0
-        to-holds = rw to-is (takes (well-formed b s ok fixed-sized) qs count some .holds)
+      to-holds : 1 ≤ getD qs (pr .to) 0
+      to-holds = rw to-is (takes (well-formed b s ok fixed-sized) qs count some .holds)
 
-        pub from-below : pr .from < boats b
-        from-below = rw slots-of at (some-in qs (pr .from) from-holds)
+      pub from-below : pr .from < boats b
+      from-below = rw slots-of at (some-in qs (pr .from) from-holds)
 
-        pub to-below : pr .to < boats b
-        to-below = rw slots-of at (some-in qs (pr .to) to-holds)
+      pub to-below : pr .to < boats b
+      to-below = rw slots-of at (some-in qs (pr .to) to-holds)
 
-        -- ---- The rows
+      -- ---- The rows
 
-        from-has : 1 ≤ getD held (pr .from) 0
-        from-has = rw (← getD-take (boats b) held (pr .from) 0 from-below) from-holds
+      from-has : 1 ≤ getD held (pr .from) 0
+      from-has = rw (← getD-take (boats b) held (pr .from) 0 from-below) from-holds
 
-        to-has : 1 ≤ getD held (pr .to) 0
-        to-has = rw (← getD-take (boats b) held (pr .to) 0 to-below) to-holds
+      to-has : 1 ≤ getD held (pr .to) 0
+      to-has = rw (← getD-take (boats b) held (pr .to) 0 to-below) to-holds
 
-        row-slots : (i : ℕ) → i < boats b → i * boats b ≤ 65536
-        row-slots i h = omega (arith, mul-le-mul-right (boats b) (most i h), book-fits b s ok .most-boats)
-          where
-            most : (x : ℕ) → x < boats b → x ≤ 256
-            most x g = omega (arith, book-fits b s ok .most-boats)
+      row-slots : (i : ℕ) → i < boats b → i * boats b ≤ 65536
+      row-slots i h = omega (arith, mul-le-mul-right (boats b) (most i h), book-fits b s ok .most-boats)
+        where
+          most : (x : ℕ) → x < boats b → x ≤ 256
+          most x g = omega (arith, book-fits b s ok .most-boats)
 
-        pub from-fits : Fits w64 (pr .from * l .boats)
+      pub from-fits : Fits w64 (pr .from * l .boats)
+      unfolding file-layout
+      from-fits = rw e (record { fits = omega (arith, row-slots (pr .from) from-below) })
+
+      pub to-fits : Fits w64 (pr .to * l .boats)
+      unfolding file-layout
+      to-fits = rw e (record { fits = omega (arith, row-slots (pr .to) to-below) })
+
+      pub apart-asks : Apart-sized memory (pr .to * l .boats) (pr .from * l .boats) (pr .from) (pr .to)
+      unfolding file-layout
+      apart-asks = rw e (memory-sized b s ok (w .remembered) (pr .to) (pr .from) to-below from-below to-has from-has)
+
+      long-row : {i j : ℕ} → i ≡ j → i < boats b → length (row (rows b) j) ≡ columns b
+      unfolding row
+      long-row f h = book-fits b s ok .row-length _ (rw f at h)
+
+      -- ---- The slope
+
+      abbrev top : ℤ
+      top = toZ w64 (ofZ w64 (getD scores (pr .from) (pos 0)))
+
+      abbrev bottom : ℤ
+      bottom = toZ w64 (ofZ w64 (getD scores (pr .to) (pos 0)))
+
+      top-is : top ≡ getD (shares-scores (plain-problem fixed b s) qs) (giver (plain-problem fixed b s) qs) (pos 0)
+      top-is = score-read (pr .from) from-below ∙ w .scored (pr .from) from-holds ∙ rw from-is
+
+      bottom-is : bottom ≡ getD (shares-scores (plain-problem fixed b s) qs) (taker (plain-problem fixed b s) qs) (pos 0)
+      bottom-is = score-read (pr .to) to-below ∙ w .scored (pr .to) to-holds ∙ rw to-is
+
+      pub slope-asks : Slope-sized top bottom
+      slope-asks =
+          record {
+            first = rw (score-read (pr .from) from-below) (w .sizes (pr .from) from-below);
+            second = rw (score-read (pr .to) to-below) (w .sizes (pr .to) to-below);
+            sign = rw (top-is, bottom-is)
+                (derive (getD (shares-scores (plain-problem fixed b s) qs) (giver (plain-problem fixed b s) qs) (pos 0) ∷ getD (shares-scores (plain-problem fixed b s) qs) (taker (plain-problem fixed b s) qs) (pos 0) ∷ [])
+                (con (pos 0) ≼ x₀ ⊝ x₁)
+                (known (x₁ ≼ x₀) (takes (well-formed b s ok fixed-sized) qs count some .least (giver (plain-problem fixed b s) qs) (gives (well-formed b s ok fixed-sized) qs count some .holds))) tt);
+          }
+
+      module _ {x y : ℕ} (ex : pos x ≡ top -ℤ bottom)
+          (ey : pos y ≡ (getD memory (pr .to * l .boats + pr .to) (pos 0) -ℤ getD memory (pr .from * l .boats + pr .to) (pos 0)) -ℤ (getD memory (pr .to * l .boats + pr .from) (pos 0) -ℤ getD memory (pr .from * l .boats + pr .from) (pos 0))) where
+        x-is : x ≡ slope (plain-problem fixed b s) qs
+        unfolding slope natural
+        x-is =
+            let f : top -ℤ bottom ≡ getD (shares-scores (plain-problem fixed b s) qs) (giver (plain-problem fixed b s) qs) (pos 0) -ℤ getD (shares-scores (plain-problem fixed b s) qs) (taker (plain-problem fixed b s) qs) (pos 0) =
+            rw (top-is, bottom-is) in
+            ap natural (ex ∙ f)
+
+        rows-long : length (subtract (row (rows b) (giver (plain-problem fixed b s) qs)) (row (rows b) (taker (plain-problem fixed b s) qs))) ≡ columns b
+        rows-long =
+            length-subtract (row (rows b) (giver (plain-problem fixed b s) qs)) (row (rows b) (taker (plain-problem fixed b s) qs)) (long-row from-is from-below ∙ sym (long-row to-is to-below))
+            ∙ long-row from-is from-below
+
+        y-norm : y ≡ squared-norm (subtract (row (rows b) (pr .from)) (row (rows b) (pr .to)))
         unfolding file-layout
-        from-fits = rw e (record { fits = omega (arith, row-slots (pr .from) from-below) })
+        y-norm =
+            let f : pos y ≡ (getD memory (pr .to * boats b + pr .to) (pos 0) -ℤ getD memory (pr .from * boats b + pr .to) (pos 0)) -ℤ (getD memory (pr .to * boats b + pr .from) (pos 0) -ℤ getD memory (pr .from * boats b + pr .from) (pos 0)) = rw e at ey in
+            ap natAbs (f ∙ memory-apart b s ok (w .remembered) (pr .to) (pr .from) to-below from-below to-has from-has)
 
-        pub to-fits : Fits w64 (pr .to * l .boats)
-        unfolding file-layout
-        to-fits = rw e (record { fits = omega (arith, row-slots (pr .to) to-below) })
+        y-is : y ≡ apart (plain-problem fixed b s) qs
+        unfolding apart plain-problem
+        y-is = y-norm ∙ rw (from-is, to-is) (sym (norm-ones (columns b) (subtract (row (rows b) (giver (plain-problem fixed b s) qs)) (row (rows b) (taker (plain-problem fixed b s) qs))) rows-long))
 
-        pub apart-asks : Apart-sized memory (pr .to * l .boats) (pr .from * l .boats) (pr .from) (pr .to)
-        unfolding file-layout
-        apart-asks = rw e (memory-sized b s ok (w .remembered) (pr .to) (pr .from) to-below from-below to-has from-has)
+        -- ---- The amount
 
-        long-row : {i j : ℕ} → i ≡ j → i < boats b → length (row (rows b) j) ≡ columns b
-        unfolding row
-        long-row f h = book-fits b s ok .row-length _ (rw f at h)
-
-        -- ---- The slope
-
-        abbrev top : ℤ
-        top = toZ w64 (ofZ w64 (getD scores (pr .from) (pos 0)))
-
-        abbrev bottom : ℤ
-        bottom = toZ w64 (ofZ w64 (getD scores (pr .to) (pos 0)))
-
-        top-is : top ≡ getD (shares-scores (plain-problem fixed b s) qs) (giver (plain-problem fixed b s) qs) (pos 0)
-        top-is = score-read (pr .from) from-below ∙ w .scored (pr .from) from-holds ∙ rw from-is
-
-        bottom-is : bottom ≡ getD (shares-scores (plain-problem fixed b s) qs) (taker (plain-problem fixed b s) qs) (pos 0)
-        bottom-is = score-read (pr .to) to-below ∙ w .scored (pr .to) to-holds ∙ rw to-is
-
-        pub slope-asks : Slope-sized top bottom
-        slope-asks =
+        pub amount-asks : Divisible x y
+        amount-asks =
             record {
-              first = rw (score-read (pr .from) from-below) (w .sizes (pr .from) from-below);
-              second = rw (score-read (pr .to) to-below) (w .sizes (pr .to) to-below);
-              sign = rw (top-is, bottom-is)
-                  (derive (getD (shares-scores (plain-problem fixed b s) qs) (giver (plain-problem fixed b s) qs) (pos 0) ∷ getD (shares-scores (plain-problem fixed b s) qs) (taker (plain-problem fixed b s) qs) (pos 0) ∷ [])
-                  (con (pos 0) ≼ x₀ ⊝ x₁)
-                  (known (x₁ ≼ x₀) (takes (well-formed b s ok fixed-sized) qs count some .least (giver (plain-problem fixed b s) qs) (gives (well-formed b s ok fixed-sized) qs count some .holds))) tt);
+              slope-size = rw x-is (omega (arith, slope-most (well-formed b s ok fixed-sized) (in-range b s ok fixed-sized) (sheet s .steps) qs count (plain-total qs slots-of (w .total)) some, few-total qs slots-of (w .total)));
+              apart-size = rw y-is (apart-most (well-formed b s ok fixed-sized) (in-range b s ok fixed-sized) (sheet s .steps) qs count (plain-total qs slots-of (w .total)) some);
+              some-apart = λ h. rw y-is (some-apart (well-formed b s ok fixed-sized) qs count some (rw x-is at h));
             }
 
-        module _ {x y : ℕ} (ex : pos x ≡ top -ℤ bottom)
-            (ey : pos y ≡ (getD memory (pr .to * l .boats + pr .to) (pos 0) -ℤ getD memory (pr .from * l .boats + pr .to) (pos 0)) -ℤ (getD memory (pr .to * l .boats + pr .from) (pos 0) -ℤ getD memory (pr .from * l .boats + pr .from) (pos 0))) where
-          x-is : x ≡ slope (plain-problem fixed b s) qs
-          unfolding slope natural
-          x-is =
-              let f : top -ℤ bottom ≡ getD (shares-scores (plain-problem fixed b s) qs) (giver (plain-problem fixed b s) qs) (pos 0) -ℤ getD (shares-scores (plain-problem fixed b s) qs) (taker (plain-problem fixed b s) qs) (pos 0) =
-              rw (top-is, bottom-is) in
-              ap natural (ex ∙ f)
+        module _ {m : ℕ} (em : m ≡ amount-of x y (getD held (pr .from) 0)) where
+          m-is : m ≡ amount (plain-problem fixed b s) qs
+          unfolding amount
+          m-is = em ∙ rw (x-is, y-is, ← getD-take (boats b) held (pr .from) 0 from-below, from-is)
 
-          rows-long : length (subtract (row (rows b) (giver (plain-problem fixed b s) qs)) (row (rows b) (taker (plain-problem fixed b s) qs))) ≡ columns b
-          rows-long =
-              length-subtract (row (rows b) (giver (plain-problem fixed b s) qs)) (row (rows b) (taker (plain-problem fixed b s) qs)) (long-row from-is from-below ∙ sym (long-row to-is to-below))
-              ∙ long-row from-is from-below
+          -- no share is to move
+          pub stopped : m ≡ 0 → held ≡ moves allowed (plain-problem fixed b s) (take (boats b) start) ++ drop (boats b) start
+          stopped z = result (sym (moves-stop (plain-problem fixed b s) (allowed - made) qs (sym m-is ∙ z) .0) ∙ w .later)
 
-          y-norm : y ≡ squared-norm (subtract (row (rows b) (pr .from)) (row (rows b) (pr .to)))
-          unfolding file-layout
-          y-norm =
-              let f : pos y ≡ (getD memory (pr .to * boats b + pr .to) (pos 0) -ℤ getD memory (pr .from * boats b + pr .to) (pos 0)) -ℤ (getD memory (pr .to * boats b + pr .from) (pos 0) -ℤ getD memory (pr .from * boats b + pr .from) (pos 0)) = rw e at ey in
-              ap natAbs (f ∙ memory-apart b s ok (w .remembered) (pr .to) (pr .from) to-below from-below to-has from-has)
+          module _ (moving : m ≡ 0 → ⊥) where
+            some-amount : 1 ≤ amount (plain-problem fixed b s) qs
+            some-amount = rw m-is at (positive m moving)
 
-          y-is : y ≡ apart (plain-problem fixed b s) qs
-          unfolding apart plain-problem
-          y-is = y-norm ∙ rw (from-is, to-is) (sym (norm-ones (columns b) (subtract (row (rows b) (giver (plain-problem fixed b s) qs)) (row (rows b) (taker (plain-problem fixed b s) qs))) rows-long))
+            move : Move-right (plain-problem fixed b s) qs (moved (plain-problem fixed b s) qs)
+            move = move-right (well-formed b s ok fixed-sized) qs count some some-amount
 
-          -- ---- The amount
+            few-move : m ≤ getD held (pr .from) 0
+            few-move = rw (m-is, ← getD-take (boats b) held (pr .from) 0 from-below, from-is) (amount-held (well-formed b s ok fixed-sized) qs count some)
 
-          pub amount-asks : Divisible x y
-          amount-asks =
-              record {
-                slope-size = rw x-is (omega (arith, slope-most (well-formed b s ok fixed-sized) (in-range b s ok fixed-sized) (sheet s .steps) qs count (plain-total qs slots-of (w .total)) some, few-total qs slots-of (w .total)));
-                apart-size = rw y-is (apart-most (well-formed b s ok fixed-sized) (in-range b s ok fixed-sized) (sheet s .steps) qs count (plain-total qs slots-of (w .total)) some);
-                some-apart = λ h. rw y-is (some-apart (well-formed b s ok fixed-sized) qs count some (rw x-is at h));
-              }
+            -- the first slots after the exchange
+            front-is : take (boats b) (exchange (pr .from) (pr .to) m held) ≡ moved (plain-problem fixed b s) qs
+            unfolding moved
+            front-is = exchange-take (boats b) (pr .from) (pr .to) m held from-below to-below ∙ rw (from-is, to-is, m-is)
 
-          module _ {m : ℕ} (em : m ≡ amount-of x y (getD held (pr .from) 0)) where
-            m-is : m ≡ amount (plain-problem fixed b s) qs
-            unfolding amount
-            m-is = em ∙ rw (x-is, y-is, ← getD-take (boats b) held (pr .from) 0 from-below, from-is)
+            taken : getD (moved (plain-problem fixed b s) qs) (pr .to) 0 ≡ getD (set held (pr .from) (getD held (pr .from) 0 - m)) (pr .to) 0 + m
+            unfolding exchange
+            taken =
+                rw (← front-is, getD-take (boats b) (exchange (pr .from) (pr .to) m held) (pr .to) 0 to-below)
+                (getD-set-same (set held (pr .from) (getD held (pr .from) 0 - m)) (pr .to) (getD (set held (pr .from) (getD held (pr .from) 0 - m)) (pr .to) 0 + m) 0
+                (rw length-set (omega (arith, to-below, w .slots, book-fits b s ok .most-boats))))
 
-            -- no share is to move
-            pub stopped : m ≡ 0 → held ≡ moves allowed (plain-problem fixed b s) (take (boats b) start) ++ drop (boats b) start
-            stopped z = result (sym (moves-stop (plain-problem fixed b s) (allowed - made) qs (sym m-is ∙ z) .0) ∙ w .later)
+            pub exchange-asks : Exchangeable held (pr .from) (pr .to) m
+            exchange-asks =
+                record {
+                  gives = omega (arith, from-below, w .slots, book-fits b s ok .most-boats);
+                  takes = omega (arith, to-below, w .slots, book-fits b s ok .most-boats);
+                  held = few-move;
+                  room = rw (← taken) (omega (arith, share-most (moved (plain-problem fixed b s) qs) (pr .to), move .total, few-total qs slots-of (w .total)));
+                }
 
-            module _ (moving : m ≡ 0 → ⊥) where
-              some-amount : 1 ≤ amount (plain-problem fixed b s) qs
-              some-amount = rw m-is at (positive m moving)
+            -- ---- The next turn
 
-              move : Move-right (plain-problem fixed b s) qs (moved (plain-problem fixed b s) qs)
-              move = move-right (well-formed b s ok fixed-sized) qs count some some-amount
+            module _ {next : List ℕ} (en : next ≡ exchange (pr .from) (pr .to) m held) where
+              next-front : take (boats b) next ≡ moved (plain-problem fixed b s) qs
+              next-front = rw en front-is
 
-              few-move : m ≤ getD held (pr .from) 0
-              few-move = rw (m-is, ← getD-take (boats b) held (pr .from) 0 from-below, from-is) (amount-held (well-formed b s ok fixed-sized) qs count some)
+              next-slots : length next ≡ 256
+              next-slots = rw en (exchange-slots (boats b) (pr .from) (pr .to) m held from-below to-below ∙ w .slots)
 
-              -- the first slots after the exchange
-              front-is : take (boats b) (exchange (pr .from) (pr .to) m held) ≡ moved (plain-problem fixed b s) qs
-              unfolding moved
-              front-is = exchange-take (boats b) (pr .from) (pr .to) m held from-below to-below ∙ rw (from-is, to-is, m-is)
+              none-joins : (x : ℕ) → getD held x 0 ≡ 0 → getD next x 0 ≡ 0
+              none-joins = rw en (exchange-none (pr .from) (pr .to) m held from-has to-has)
 
-              taken : getD (moved (plain-problem fixed b s) qs) (pr .to) 0 ≡ getD (set held (pr .from) (getD held (pr .from) 0 - m)) (pr .to) 0 + m
-              unfolding exchange
-              taken =
-                  rw (← front-is, getD-take (boats b) (exchange (pr .from) (pr .to) m held) (pr .to) 0 to-below)
-                  (getD-set-same (set held (pr .from) (getD held (pr .from) 0 - m)) (pr .to) (getD (set held (pr .from) (getD held (pr .from) 0 - m)) (pr .to) 0 + m) 0
-                  (rw length-set (omega (arith, to-below, w .slots, book-fits b s ok .most-boats))))
+              still-listed : Listed next (boats b) list
+              still-listed = record { all = fewer-hold held next none-joins (boats b) 0 list (w .listed .all) }
 
-              pub exchange-asks : Exchangeable held (pr .from) (pr .to) m
-              exchange-asks =
-                  record {
-                    gives = omega (arith, from-below, w .slots, book-fits b s ok .most-boats);
-                    takes = omega (arith, to-below, w .slots, book-fits b s ok .most-boats);
-                    held = few-move;
-                    room = rw (← taken) (omega (arith, share-most (moved (plain-problem fixed b s) qs) (pr .to), move .total, few-total qs slots-of (w .total)));
-                  }
+              still-remembered : Held-products b s next memory
+              still-remembered =
+                  record { room = w .remembered .room; each = λ i h some. w .remembered .each i h (positive (getD held i 0) (λ z. let g = none-joins i z in omega (arith, g, some))) }
 
-              -- ---- The next turn
-
-              module _ {next : List ℕ} (en : next ≡ exchange (pr .from) (pr .to) m held) where
-                next-front : take (boats b) next ≡ moved (plain-problem fixed b s) qs
-                next-front = rw en front-is
-
-                next-slots : length next ≡ 256
-                next-slots = rw en (exchange-slots (boats b) (pr .from) (pr .to) m held from-below to-below ∙ w .slots)
-
-                none-joins : (x : ℕ) → getD held x 0 ≡ 0 → getD next x 0 ≡ 0
-                none-joins = rw en (exchange-none (pr .from) (pr .to) m held from-has to-has)
-
-                still-listed : Listed next (boats b) list
-                still-listed = record { all = fewer-hold held next none-joins (boats b) 0 list (w .listed .all) }
-
-                still-remembered : Held-products b s next memory
-                still-remembered =
-                    record { room = w .remembered .room; each = λ i h some. w .remembered .each i h (positive (getD held i 0) (λ z. let g = none-joins i z in omega (arith, g, some))) }
-
-                pub rescore-asks : Listed next (l .boats) list × Movable-scores scores next (l .boats) m memory (pr .to * l .boats) (pr .from * l .boats)
-                unfolding file-layout
-                rescore-asks = rw e (still-listed, sized)
-                  where
-                    sized : Movable-scores scores next (boats b) m memory (pr .to * boats b) (pr .from * boats b)
-                    sized =
-                        record {
-                          score-sizes = bounded;
-                          in-shares = omega (arith, next-slots, book-fits b s ok .most-boats);
-                          few-shares = omega (arith, few-move, getD-take (boats b) held (pr .from) 0 from-below, share-most qs (pr .from), few-total qs slots-of (w .total));
-                          takes-room = row-room b s ok (w .remembered) (pr .to) to-below to-has;
-                          gives-room = row-room b s ok (w .remembered) (pr .from) from-below from-has;
-                          products = memory-differ b s ok (w .remembered) (pr .to) (pr .from) to-below from-below to-has from-has;
-                        }
-
-                module _ {new : List ℤ} {after : Pair}
-                    (es : new ≡ held-moved m (take (l .boats) next) (subtract (take (l .boats) (drop (pr .to * l .boats) memory)) (take (l .boats) (drop (pr .from * l .boats) memory))) (take (l .boats) scores) ++ drop (l .boats) scores)
-                    (ea : after ≡ pair-of (take (l .boats) next) (take (l .boats) new)) where
-                  abbrev products : List ℤ
-                  products = subtract (boat-products b s (pr .to)) (boat-products b s (pr .from))
-
-                  new-is : new ≡ held-moved m (moved (plain-problem fixed b s) qs) products (take (boats b) scores) ++ drop (boats b) scores
-                  unfolding file-layout
-                  new-is =
-                      let f : new ≡ held-moved m (take (boats b) next) (subtract (take (boats b) (drop (pr .to * boats b) memory)) (take (boats b) (drop (pr .from * boats b) memory))) (take (boats b) scores) ++ drop (boats b) scores = rw e at es in
-                      f ∙ rw (row-at b s ok (w .remembered) (pr .to) to-below to-has, row-at b s ok (w .remembered) (pr .from) from-below from-has, next-front)
-
-                  after-is : after ≡ pair-of (take (boats b) next) (take (boats b) new)
-                  unfolding file-layout
-                  after-is = rw e at ea
-
-                  moved-count : length (moved (plain-problem fixed b s) qs) ≡ boats b
-                  moved-count = move .count ∙ slots-of
-
-                  product-long : length products ≡ boats b
-                  product-long = length-subtract (boat-products b s (pr .to)) (boat-products b s (pr .from)) (product-count b s ok (pr .to) ∙ sym (product-count b s ok (pr .from))) ∙ product-count b s ok (pr .to)
-
-                  product-is : (i : ℕ) → i < boats b →
-                      getD products i (pos 0) ≡ weighted (ones (columns b)) (subtract (row (rows b) (taker (plain-problem fixed b s) qs)) (row (rows b) (giver (plain-problem fixed b s) qs))) (row (rows b) i)
-                  product-is i h =
-                      subtract-at (boat-products b s (pr .to)) (boat-products b s (pr .from)) i (rw (product-count b s ok (pr .to)) h) (rw (product-count b s ok (pr .from)) h)
-                      ∙ products-differ b s ok (pr .to) (pr .from) i to-below from-below ∙ rw (from-is, to-is)
-
-                  score-count : length (take (boats b) scores) ≡ boats b
-                  score-count = length-take-le (boats b) scores (omega (arith, w .score-slots, book-fits b s ok .most-boats))
-
-                  new-count : length (held-moved m (moved (plain-problem fixed b s) qs) products (take (boats b) scores)) ≡ boats b
-                  new-count = length-moved m (moved (plain-problem fixed b s) qs) products (take (boats b) scores) ∙ score-count
-
-                  new-slots : length new ≡ 256
-                  new-slots = rw new-is (length-front scores (held-moved m (moved (plain-problem fixed b s) qs) products (take (boats b) scores)) (boats b) (new-count ∙ sym score-count) ∙ w .score-slots)
-
-                  new-at : (i : ℕ) → i < boats b →
-                      getD new i (pos 0) ≡ cond (eqb (getD (moved (plain-problem fixed b s) qs) i 0) 0) (getD scores i (pos 0)) (getD scores i (pos 0) +ℤ pos m *ℤ getD products i (pos 0))
-                  new-at i h =
-                      rw new-is (List·getD-append (held-moved m (moved (plain-problem fixed b s) qs) products (take (boats b) scores)) (drop (boats b) scores) (pos 0) i (rw new-count h))
-                      ∙ moved-at m (moved (plain-problem fixed b s) qs) products (take (boats b) scores) i (rw moved-count h) (rw product-long h) (rw score-count h)
-                      ∙ rw (getD-take (boats b) scores i (pos 0) h)
-
-                  -- a boat that holds shares held some before
-                  held-before : (i : ℕ) → 1 ≤ getD (moved (plain-problem fixed b s) qs) i 0 → 1 ≤ getD qs i 0
-                  held-before i h = positive (getD qs i 0) (λ z. clash (move .none-joins i z) h)
-                    where
-                      clash : {q : ℕ} → q ≡ 0 → 1 ≤ q → ⊥
-                      clash f k = omega arith
-
-                  new-scored : (i : ℕ) → 1 ≤ getD (moved (plain-problem fixed b s) qs) i 0 → getD new i (pos 0) ≡ getD (shares-scores (plain-problem fixed b s) (moved (plain-problem fixed b s) qs)) i (pos 0)
-                  unfolding plain-problem
-                  new-scored i h =
-                      new-at i (rw moved-count at (some-in (moved (plain-problem fixed b s) qs) i h))
-                      ∙ rw (
-                        ne-eqb (getD (moved (plain-problem fixed b s) qs) i 0) 0 (λ z. omega (arith, z, h)),
-                        w .scored i (held-before i h),
-                        product-is i (rw moved-count at (some-in (moved (plain-problem fixed b s) qs) i h)),
-                        m-is,
-                      )
-                      (sym (score-moved (well-formed b s ok fixed-sized) qs count some some-amount i))
-
-                  moved-total : sum (moved (plain-problem fixed b s) qs) ≡ weight fixed (sheet s .steps)
-                  moved-total = move .total ∙ w .total
-
-                  new-sizes : (i : ℕ) → i < boats b → natAbs (getD new i (pos 0)) ≤ 33269760000000
-                  new-sizes i h = by (eqb (getD (moved (plain-problem fixed b s) qs) i 0) 0) refl
-                    where
-                      by : (t : Bool) → eqb (getD (moved (plain-problem fixed b s) qs) i 0) 0 ≡ t → natAbs (getD new i (pos 0)) ≤ 33269760000000
-                      by true z = rw (new-at i h, z) (w .sizes i h)
-                      by false z = rw (new-scored i (positive _ (eqb-false _ 0 z))) (score-is (moved (plain-problem fixed b s) qs) moved-count moved-total i h)
-
-                  pub working-next : made < allowed → Working b s start allowed list memory (made + 1) next new after
-                  working-next h =
-                      let k : allowed - made ≡ suc (allowed - (made + 1)) = omega arith in
+              pub rescore-asks : Listed next (l .boats) list × Movable-scores scores next (l .boats) m memory (pr .to * l .boats) (pr .from * l .boats)
+              unfolding file-layout
+              rescore-asks = rw e (still-listed, sized)
+                where
+                  sized : Movable-scores scores next (boats b) m memory (pr .to * boats b) (pr .from * boats b)
+                  sized =
                       record {
-                        within = omega arith;
-                        later = rw next-front (sym (moves-next (plain-problem fixed b s) (allowed - (made + 1)) qs some-amount .0) ∙ (rw k at (w .later)));
-                        rest = rw en (exchange-drop (boats b) (pr .from) (pr .to) m held from-below to-below ∙ w .rest);
-                        slots = next-slots;
-                        total = rw next-front moved-total;
-                        score-slots = new-slots;
-                        scored = rw next-front new-scored;
-                        sizes = new-sizes;
-                        list-slots = w .list-slots;
-                        listed = still-listed;
-                        remembered = still-remembered;
-                        pair = after-is;
+                        score-sizes = bounded;
+                        in-shares = omega (arith, next-slots, book-fits b s ok .most-boats);
+                        few-shares = omega (arith, few-move, getD-take (boats b) held (pr .from) 0 from-below, share-most qs (pr .from), few-total qs slots-of (w .total));
+                        takes-room = row-room b s ok (w .remembered) (pr .to) to-below to-has;
+                        gives-room = row-room b s ok (w .remembered) (pr .from) from-below from-has;
+                        products = memory-differ b s ok (w .remembered) (pr .to) (pr .from) to-below from-below to-has from-has;
                       }
+
+              module _ {new : List ℤ} {after : Pair}
+                  (es : new ≡ held-moved m (take (l .boats) next) (subtract (take (l .boats) (drop (pr .to * l .boats) memory)) (take (l .boats) (drop (pr .from * l .boats) memory))) (take (l .boats) scores) ++ drop (l .boats) scores)
+                  (ea : after ≡ pair-of (take (l .boats) next) (take (l .boats) new)) where
+                abbrev products : List ℤ
+                products = subtract (boat-products b s (pr .to)) (boat-products b s (pr .from))
+
+                new-is : new ≡ held-moved m (moved (plain-problem fixed b s) qs) products (take (boats b) scores) ++ drop (boats b) scores
+                unfolding file-layout
+                new-is =
+                    let f : new ≡ held-moved m (take (boats b) next) (subtract (take (boats b) (drop (pr .to * boats b) memory)) (take (boats b) (drop (pr .from * boats b) memory))) (take (boats b) scores) ++ drop (boats b) scores = rw e at es in
+                    f ∙ rw (row-at b s ok (w .remembered) (pr .to) to-below to-has, row-at b s ok (w .remembered) (pr .from) from-below from-has, next-front)
+
+                after-is : after ≡ pair-of (take (boats b) next) (take (boats b) new)
+                unfolding file-layout
+                after-is = rw e at ea
+
+                moved-count : length (moved (plain-problem fixed b s) qs) ≡ boats b
+                moved-count = move .count ∙ slots-of
+
+                product-long : length products ≡ boats b
+                product-long = length-subtract (boat-products b s (pr .to)) (boat-products b s (pr .from)) (product-count b s ok (pr .to) ∙ sym (product-count b s ok (pr .from))) ∙ product-count b s ok (pr .to)
+
+                product-is : (i : ℕ) → i < boats b →
+                    getD products i (pos 0) ≡ weighted (ones (columns b)) (subtract (row (rows b) (taker (plain-problem fixed b s) qs)) (row (rows b) (giver (plain-problem fixed b s) qs))) (row (rows b) i)
+                product-is i h =
+                    subtract-at (boat-products b s (pr .to)) (boat-products b s (pr .from)) i (rw (product-count b s ok (pr .to)) h) (rw (product-count b s ok (pr .from)) h)
+                    ∙ products-differ b s ok (pr .to) (pr .from) i to-below from-below ∙ rw (from-is, to-is)
+
+                score-count : length (take (boats b) scores) ≡ boats b
+                score-count = length-take-le (boats b) scores (omega (arith, w .score-slots, book-fits b s ok .most-boats))
+
+                new-count : length (held-moved m (moved (plain-problem fixed b s) qs) products (take (boats b) scores)) ≡ boats b
+                new-count = length-moved m (moved (plain-problem fixed b s) qs) products (take (boats b) scores) ∙ score-count
+
+                new-slots : length new ≡ 256
+                new-slots = rw new-is (length-front scores (held-moved m (moved (plain-problem fixed b s) qs) products (take (boats b) scores)) (boats b) (new-count ∙ sym score-count) ∙ w .score-slots)
+
+                new-at : (i : ℕ) → i < boats b →
+                    getD new i (pos 0) ≡ cond (eqb (getD (moved (plain-problem fixed b s) qs) i 0) 0) (getD scores i (pos 0)) (getD scores i (pos 0) +ℤ pos m *ℤ getD products i (pos 0))
+                new-at i h =
+                    rw new-is (List·getD-append (held-moved m (moved (plain-problem fixed b s) qs) products (take (boats b) scores)) (drop (boats b) scores) (pos 0) i (rw new-count h))
+                    ∙ moved-at m (moved (plain-problem fixed b s) qs) products (take (boats b) scores) i (rw moved-count h) (rw product-long h) (rw score-count h)
+                    ∙ rw (getD-take (boats b) scores i (pos 0) h)
+
+                -- a boat that holds shares held some before
+                held-before : (i : ℕ) → 1 ≤ getD (moved (plain-problem fixed b s) qs) i 0 → 1 ≤ getD qs i 0
+                held-before i h = positive (getD qs i 0) (λ z. clash (move .none-joins i z) h)
+                  where
+                    clash : {q : ℕ} → q ≡ 0 → 1 ≤ q → ⊥
+                    clash f k = omega arith
+
+                new-scored : (i : ℕ) → 1 ≤ getD (moved (plain-problem fixed b s) qs) i 0 → getD new i (pos 0) ≡ getD (shares-scores (plain-problem fixed b s) (moved (plain-problem fixed b s) qs)) i (pos 0)
+                unfolding plain-problem
+                new-scored i h =
+                    new-at i (rw moved-count at (some-in (moved (plain-problem fixed b s) qs) i h))
+                    ∙ rw (
+                      ne-eqb (getD (moved (plain-problem fixed b s) qs) i 0) 0 (λ z. omega (arith, z, h)),
+                      w .scored i (held-before i h),
+                      product-is i (rw moved-count at (some-in (moved (plain-problem fixed b s) qs) i h)),
+                      m-is,
+                    )
+                    (sym (score-moved (well-formed b s ok fixed-sized) qs count some some-amount i))
+
+                moved-total : sum (moved (plain-problem fixed b s) qs) ≡ weight fixed (sheet s .steps)
+                moved-total = move .total ∙ w .total
+
+                new-sizes : (i : ℕ) → i < boats b → natAbs (getD new i (pos 0)) ≤ 33269760000000
+                new-sizes i h = by (eqb (getD (moved (plain-problem fixed b s) qs) i 0) 0) refl
+                  where
+                    by : (t : Bool) → eqb (getD (moved (plain-problem fixed b s) qs) i 0) 0 ≡ t → natAbs (getD new i (pos 0)) ≤ 33269760000000
+                    by true z = rw (new-at i h, z) (w .sizes i h)
+                    by false z = rw (new-scored i (positive _ (eqb-false _ 0 z))) (score-is (moved (plain-problem fixed b s) qs) moved-count moved-total i h)
+
+                pub working-next : made < allowed → Working b s start allowed list memory (made + 1) next new after
+                working-next h =
+                    let k : allowed - made ≡ suc (allowed - (made + 1)) = omega arith in
+                    record {
+                      within = omega arith;
+                      later = rw next-front (sym (moves-next (plain-problem fixed b s) (allowed - (made + 1)) qs some-amount .0) ∙ (rw k at (w .later)));
+                      rest = rw en (exchange-drop (boats b) (pr .from) (pr .to) m held from-below to-below ∙ w .rest);
+                      slots = next-slots;
+                      total = rw next-front moved-total;
+                      score-slots = new-slots;
+                      scored = rw next-front new-scored;
+                      sizes = new-sizes;
+                      list-slots = w .list-slots;
+                      listed = still-listed;
+                      remembered = still-remembered;
+                      pair = after-is;
+                    }
 
   -- ---- Before the first move
 

@@ -2,7 +2,6 @@
 use borrow.Author.Needs.{needs}
 use mathlib.Core.Logic.{⊎-elim}
 use Prim.Native.Nat.{_-_}
-use native.Mathlib.Omega.{arith}
 use Rattle.pairwise_moves.proofs.Remembering.{Remembering, inside-boats, inside-shares, all-boats, remembering-start, remembering-end, remembering-idle, row-fits, row-bytes-fit, row-starts, row-part, remembering-held}
 use Rattle.pairwise_moves.proofs.remember_held.Statement.{statement}
 use Rattle.pairwise_moves.proofs.remember_held.Tie as tie
