@@ -24,7 +24,8 @@ def read(path):
         return re.sub(r"/\*.*?\*/|//[^\n]*", "", file.read(), flags=re.S)
 
 
-HEADER, EXPORTS = read("include/dofitrano.h"), read("crates/exports/src/lib.rt")
+HEADER = read("include/dofitrano.h")
+EXPORTS = "".join(read("crates/%s/src/lib.rt" % part) for part in ("exported_search", "exported_cards", "exported_files"))
 DEFINED = {name: int(value) for name, value in re.findall(r"#define (DOFITRANO_\w+) (\d+)", HEADER)}
 STRUCTS = {}  # a type of the code -> the struct of C that stands for it
 faults = []
