@@ -47,7 +47,7 @@ read-behind {old} ys at n h p l =
     }
 
 -- k sheets are read, `at` bytes
-pub record Going (count : ℕ) (lengths buffer : List ℕ) (at refused k : ℕ) : Type 0 where
+pub record Going (count : ℕ) (lengths buffer : List ℕ) (at k : ℕ) : Type 0 where
   pub sheets : List (List ℕ)
   pub number : length sheets ≡ k
   pub reached : k ≤ count
@@ -55,17 +55,16 @@ pub record Going (count : ℕ) (lengths buffer : List ℕ) (at refused k : ℕ) 
   pub room : 680017 ≤ length buffer
   pub short : at ≤ 40001 * k
   pub long : length lengths ≡ 17
-  pub first : refused ≤ count
   pub lengths-are : take k lengths ≡ map length sheets
   pub bytes-are : take at buffer ≡ joined sheets
 
 module _ {count : ℕ} where
-  pub going-start : {lengths buffer : List ℕ} → count ≤ 17 → 680017 ≤ length buffer → length lengths ≡ 17 → Going count lengths buffer 0 count 0
+  pub going-start : {lengths buffer : List ℕ} → count ≤ 17 → 680017 ≤ length buffer → length lengths ≡ 17 → Going count lengths buffer 0 0
   unfolding joined
   going-start h r l =
-      record { sheets = []; number = refl; reached = omega arith; few = h; room = r; short = omega arith; long = l; first = omega arith; lengths-are = refl; bytes-are = refl }
+      record { sheets = []; number = refl; reached = omega arith; few = h; room = r; short = omega arith; long = l; lengths-are = refl; bytes-are = refl }
 
-  module _ {lengths old new : List ℕ} {at refused k n : ℕ} (g : Going count lengths old at refused k) (below : k < count) (p : Read-behind at old n new) where
+  module _ {lengths old new : List ℕ} {at k n : ℕ} (g : Going count lengths old at k) (below : k < count) (p : Read-behind at old n new) where
     pub within : at + n ≤ length new
     within = omega (arith, g .short, g .few, g .room, p .most, p .long)
 
@@ -87,8 +86,8 @@ module _ {count : ℕ} where
         let c : length (take (at + n) new) ≡ length (take at old ++ sheet) = ap length parted in
         omega (arith, front)
 
-    pub going-more : {refused′ : ℕ} → refused′ ≤ count → Going count (set lengths k n) new (at + n) refused′ (k + 1)
-    going-more f =
+    pub going-more : Going count (set lengths k n) new (at + n) (k + 1)
+    going-more =
         record {
           sheets = g .sheets ++ (sheet ∷ []);
           number = length-append (g .sheets) (sheet ∷ []) ∙ omega (arith, g .number);
@@ -97,25 +96,21 @@ module _ {count : ℕ} where
           room = omega (arith, g .room, p .long);
           short = omega (arith, g .short, p .most);
           long = length-set lengths k n ∙ g .long;
-          first = f;
           lengths-are = rw add-one (take-suc-set lengths k n (omega (arith, g .long, g .few)) ∙ ap (λ (l : List ℕ). l ++ (n ∷ [])) (g .lengths-are) ∙ ap (λ (m : ℕ). map length (g .sheets) ++ (m ∷ [])) (sym sheet-length) ∙ sym (lengths-one (g .sheets) sheet));
           bytes-are = parted ∙ ap (λ (l : List ℕ). l ++ sheet) (g .bytes-are) ∙ sym (joined-one (g .sheets) sheet);
         }
 
-  pub going-end : {lengths buffer : List ℕ} {at refused k : ℕ} → Going count lengths buffer at refused k → count ≤ k →
-      Some-sheets count (record { len = at; lengths = lengths; refused = refused }) buffer × (refused ≤ count)
-  going-end {lengths} {buffer} {at} {refused} {k} g h =
-      let e : k ≡ count = omega (arith, g .reached) in (
-        record {
-          sheets = g .sheets;
-          number = g .number ∙ e;
-          fits = omega (arith, g .short, g .reached, g .few, g .room);
-          long = g .long;
-          lengths-are = rw e at (g .lengths-are);
-          bytes-are = g .bytes-are;
-        },
-        g .first,
-      )
+  pub going-end : {lengths buffer : List ℕ} {at k : ℕ} → Going count lengths buffer at k → count ≤ k → Some-sheets count (record { len = at; lengths = lengths }) buffer
+  going-end {lengths} {buffer} {at} {k} g h =
+      let e : k ≡ count = omega (arith, g .reached) in
+      record {
+        sheets = g .sheets;
+        number = g .number ∙ e;
+        fits = omega (arith, g .short, g .reached, g .few, g .room);
+        long = g .long;
+        lengths-are = rw e at (g .lengths-are);
+        bytes-are = g .bytes-are;
+      }
 
 pub all-room : (n : ℕ) → n ≤ length (replicate {A = ℕ} n 0)
 all-room n = omega (arith, length-replicate {A = ℕ} n 0)

@@ -14,12 +14,10 @@ const SHEET_BYTES: usize = 40001;
 // The most sheets that are read: one more than a queue may have.
 const MOST_READ: usize = 17;
 
-// Sheets that were read back to back into a buffer: their bytes, the length of each, and which is the first that is refused with the book, as
-// many as there are where none is.
+// Sheets that were read back to back into a buffer: their bytes, and the length of each.
 pub struct Sheets {
     pub len: usize,
     pub lengths: [u32; MOST_READ],
-    pub refused: usize,
 }
 
 // Reads the sheet behind `before` others into a buffer from `at` on.
@@ -32,55 +30,51 @@ fn read_sheet(folder: &[u8], before: usize, at: usize, buffer: &mut [u8]) -> usi
     numbered_files::read_named(folder, name, &mut buffer[at..end])
 }
 
-// The first of `count` sheets that is refused: `first` among those before sheet k, else this one where it is.
-fn first_refused(first: usize, k: usize, count: usize, book: &[u8], sheet: &[u8]) -> usize
-    requires { ⌜ (first ≤ count) × (k < count) ⌝ }
+// Reads so many sheets, back to back.
+fn read_sheets(folder: &[u8], count: usize, buffer: &mut [u8]) -> Sheets
+    requires { ⌜ (count ≤ most-read) × (680017 ≤ length (now buffer)) ⌝ }
+    ensures { λ r. ⌜ Some-sheets count r (now (buffer .exit)) ⌝ }
+{
+    let mut lengths = [0u32; MOST_READ];
+    let mut at = 0;
+    let mut k = 0;
+    while k < count {
+        let n = read_sheet(folder, k, at, buffer);
+        lengths[k] = n as u32;
+        at += n;
+        k += 1;
+    }
+    Sheets { len: at, lengths }
+}
+
+// The first of so many sheets of a folder that this number refuses, with the book: the sheets are read again, since only a refusal needs
+// to know. All of them where none is.
+fn refused_sheet(folder: &[u8], book: &[u8], count: usize, refusal: u32) -> usize
+    requires { ⌜ count ≤ most-read ⌝ }
     ensures { λ r. ⌜ r ≤ count ⌝ }
 {
-    if first < count {
-        return first;
-    }
-    if validation::files_refusal(book, sheet) == 0 {
-        return count;
+    let mut k = 0;
+    while k < count {
+        let mut sheet = [0u8; SHEET_BYTES];
+        let n = read_sheet(folder, k, 0, &mut sheet);
+        if validation::files_refusal(book, &sheet[..n]) == refusal {
+            return k;
+        }
+        k += 1;
     }
     k
 }
 
-// Reads so many sheets, back to back.
-fn read_sheets(folder: &[u8], book: &[u8], count: usize, buffer: &mut [u8]) -> Sheets
-    requires { ⌜ (count ≤ most-read) × (680017 ≤ length (now buffer)) ⌝ }
-    ensures { λ r. ⌜ Some-sheets count r (now (buffer .exit)) ⌝ }
-    ensures { λ r. ⌜ r .refused ≤ count ⌝ }
-{
-    let mut lengths = [0u32; MOST_READ];
-    let mut at = 0;
-    let mut refused = count;
-    let mut k = 0;
-    while k < count {
-        let n = read_sheet(folder, k, at, buffer);
-        let end = at + n;
-        refused = first_refused(refused, k, count, book, &buffer[at..end]);
-        lengths[k] = n as u32;
-        at = end;
-        k += 1;
-    }
-    Sheets {
-        len: at,
-        lengths,
-        refused,
-    }
-}
-
 // Names what the printed number refuses.
-fn tell_refused(folder: &[u8], count: usize, refusal: u32, sheet: usize)
-    requires { ⌜ sheet ≤ most-read ⌝ }
+fn tell_refused(folder: &[u8], book: &[u8], count: usize, refusal: u32)
+    requires { ⌜ count ≤ most-read ⌝ }
 {
     if refusal == 0 {
         return;
     }
     if refusal <= 6 {
-        let book = Text::empty().with_bytes(b"fleet.wbk");
-        tell_of(folder, book, b": this book is refused\n");
+        let name = Text::empty().with_bytes(b"fleet.wbk");
+        tell_of(folder, name, b": this book is refused\n");
         return;
     }
     if refusal == 45 {
@@ -88,6 +82,7 @@ fn tell_refused(folder: &[u8], count: usize, refusal: u32, sheet: usize)
         return;
     }
     if refusal != 44 {
+        let sheet = refused_sheet(folder, book, count, refusal);
         let name = name_of(b"sheet", sheet, b".wsh");
         tell_of(folder, name, b": this sheet is refused\n");
         return;
@@ -107,11 +102,11 @@ fn queue_of(folder: &[u8], book: &[u8], count: usize, allowance: u32) -> Text
     ensures { λ r. ⌜ Some-queue (now (book .entry)) count allowance r ⌝ }
 {
     let mut buffer = [0u8; SHEET_BYTES * MOST_READ];
-    let read = read_sheets(folder, book, count, &mut buffer);
+    let read = read_sheets(folder, count, &mut buffer);
     let lengths = read.lengths;
     let len = read.len;
     let listed = queue_listing::queue_text(book, &lengths[..count], &buffer[..len], allowance);
-    tell_refused(folder, count, listed.refusal, read.refused);
+    tell_refused(folder, book, count, listed.refusal);
     listed.text
 }
 

@@ -16,18 +16,18 @@ read-sheets-requires c κs = (c .before .before .before .pre, all-room 680017)
 array-share-prefix-lengths : tie.Need-array-share-prefix-lengths
 array-share-prefix-lengths c =
     let at = c .before .before in
-    omega (arith, at .before .before .before .before .pre, at .read-sheets .ensures .0 .long)
+    omega (arith, at .before .before .before .before .pre, at .read-sheets .ensures .long)
 
 slice-aggregate-queue-text : tie.Need-slice-aggregate-queue-text
 slice-aggregate-queue-text c =
     let at = c .before .before .before in
-    sym (length-take-le _ _ (omega (arith, at .before .before .before .before .pre, at .read-sheets .ensures .0 .long)))
+    sym (length-take-le _ _ (omega (arith, at .before .before .before .before .pre, at .read-sheets .ensures .long)))
 
 array-share-prefix-buffer : tie.Need-array-share-prefix-buffer
 array-share-prefix-buffer c = search needs
 
 slice-aggregate-queue-text-2 : tie.Need-slice-aggregate-queue-text-2
-slice-aggregate-queue-text-2 c = sym (length-take-le _ _ (c .before .before .before .before .read-sheets .ensures .0 .fits))
+slice-aggregate-queue-text-2 c = sym (length-take-le _ _ (c .before .before .before .before .read-sheets .ensures .fits))
 
 queue-text-requires : tie.Need-queue-text-requires
 queue-text-requires c κs = search needs
@@ -35,12 +35,12 @@ queue-text-requires c κs = search needs
 tell-refused-requires : tie.Need-tell-refused-requires
 tell-refused-requires c κs =
     let at = c .before .before .before .before .before in
-    omega (arith, at .before .before .before .before .pre, at .read-sheets .ensures .1)
+    at .before .before .before .before .pre
 
 returns : tie.Need-returns
 returns c =
     let listed = c .before .before .queue-text .ensures in
-    some-queue (c .before .before .before .before .before .before .before .read-sheets .ensures .0) (listed .1 .0) (listed .1 .1)
+    some-queue (c .before .before .before .before .before .before .before .read-sheets .ensures) (listed .1 .0) (listed .1 .1)
 
 pub queue-of-spec : {M : Type 1} → statement M
 queue-of-spec =
