@@ -108,9 +108,9 @@ dofitrano_reply dofitrano_search(const uint8_t *book, size_t book_length,
                                  const uint8_t *sheet, size_t sheet_length,
                                  uint16_t *shares, size_t slots);
 
-/* The reply of the card writer. Where the call is refused, `bytes` is 0: nothing was written. */
+/* The reply of a call that writes a card. Where the call is refused, `bytes` is 0: nothing was written. */
 typedef struct dofitrano_card_reply {
-    dofitrano_reply reply; /* the run's answer, or the number that refuses the call */
+    dofitrano_reply reply; /* the answer on the card, or the number that refuses the call */
     size_t bytes;          /* the bytes of the card that was written */
 } dofitrano_card_reply;
 
