@@ -1,9 +1,9 @@
 -- A Spent run of all boats of a book, its moves and the answer of its shares make the result that is defined.
-use mathlib.Core.Path.{_≡_, refl, sym, ap, _∙_}
+use mathlib.Core.Path.{_≡_, sym, ap, _∙_}
 use mathlib.Core.List.{List, _++_}
 use Prim.Native.Nat.{ℕ, _≤_}
 use native.Mathlib.Omega.{arith}
-use lib.ListN.{length, take, drop}
+use lib.ListN.{take, drop}
 use lib.Seq.{take-at}
 use Rattle.frank_wolfe.specs.Vectors.{sum}
 use Rattle.files.specs.Book.{boats}
@@ -11,7 +11,7 @@ use Rattle.files.specs.Sheet.{sheet, files-refusal}
 use Rattle.files.proofs.Accepted.{files-accepted}
 use Rattle.method.specs.declared.Test.the-variants.{Sharper}
 use Rattle.method.specs.declared.Answer.{Answer}
-use Rattle.method.specs.Problem.{Problem, fixed, weight, plain-terms, call-problem, problem}
+use Rattle.method.specs.Problem.{fixed, weight, plain-terms, call-problem, problem}
 use Rattle.method.specs.Answers.{verdict-number, run-answer, run-iterate}
 use Rattle.method.specs.Bounds.{answer-of, Answer-bounds}
 use Rattle.method.proofs.Promise.{run-right, run-slot-count}
@@ -19,7 +19,6 @@ use Rattle.pairwise.specs.Moves.{moves, spent-refusal, worked-shares, worked-an
 use Rattle.pairwise.specs.Worked.{Worked-right, Working-over}
 use Rattle.pairwise.proofs.Worked.{working-over, length-moves}
 use Rattle.pairwise.proofs.Call.{spent-accepted}
-use Rattle.pairwise_run.specs.declared.WorkedRun.{WorkedRun}
 use Rattle.pairwise_run.specs.Result.{Result}
 
 module _ (b s : List ℕ) (ok : files-refusal b s ≡ 0) {a : Answer} (ea : a ≡ run-answer (problem b s)) {qs : List ℕ} (rest : List ℕ) (eq : qs ≡ run-iterate (problem b s) .shares ++ rest)

@@ -11,7 +11,6 @@ use lib.ListN.{length, take, drop}
 use Rattle.files.specs.Book.{boats, columns}
 use Rattle.files.specs.Sheet.{sheet}
 use Rattle.method.specs.declared.Test.the-variants.{Sharper}
-use Rattle.method.specs.declared.Answer.{Answer}
 use Rattle.method.specs.Problem.{Terms, call-problem}
 use Rattle.method.specs.Calls.{call-refusal}
 use Rattle.method.specs.Iterates.{support}
