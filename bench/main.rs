@@ -775,7 +775,10 @@ fn print_stack() {
         println!("stack of {name} at full size: {without} bytes, with factors {with}");
     }
     let half = every_other(64);
-    let [without, with] = [None, Some(&half[..])].map(|factors| unsafe { stack_of(queue_once, (&raw mut queue(256, 64, 20, true, factors)).cast()) });
+    let [without, with] = [None, Some(&half[..])].map(|factors| {
+        let mut x = queue(256, 64, 20, true, factors);
+        unsafe { stack_of(queue_once, (&raw mut x).cast()) }
+    });
     println!("stack of run_queue with 16 sheets of full size: {without} bytes, with factors {with}");
 }
 
