@@ -5,6 +5,7 @@
 ghost use mathlib.Core.Path.{_≡_};
 ghost use Prim.Native.Nat.{_+_, _≤_};
 ghost use lib.ListN.{length};
+ghost use Rattle.files.specs.Sheet.{files-refusal};
 ghost use Rattle.method.specs.Answers.{outcome};
 ghost use Rattle.card_format.specs.Format.{card-fields, card-answer};
 ghost use Rattle.card_format.specs.Checks.{check-refusal};
@@ -20,6 +21,15 @@ fn checked(book: &[u8], sheet: &[u8], card: &[u8]) -> Searched
 {
     let mut shares = [0u16; 256];
     card::check_card(book, sheet, card, &mut shares)
+}
+
+// The same where book and sheet were accepted, which are not judged again.
+fn judged(book: &[u8], sheet: &[u8], card: &[u8]) -> Searched
+    requires { ⌜ files-refusal (now book) (now sheet) ≡ 0 ⌝ }
+    ensures { λ r. ⌜ r ≡ outcome (check-refusal (now (book .entry)) (now (sheet .entry)) (now (card .entry)) 256) (card-answer (now (book .entry)) (now (sheet .entry)) (now (card .entry))) ⌝ }
+{
+    let mut shares = [0u16; 256];
+    card::judge_card(book, sheet, card, &mut shares)
 }
 
 // Whether an answer's squared distance E / W² is less than another's, by products of up to 128 bits: E₁ W₂² < E₂ W₁².
@@ -68,7 +78,7 @@ pub fn choose(book: &[u8], sheet: &[u8], first: &[u8], second: &[u8]) -> Choice
 {
     match checked(book, sheet, first) {
         Searched::Refused(n) => refused(n),
-        Searched::Answered(a) => match checked(book, sheet, second) {
+        Searched::Answered(a) => match judged(book, sheet, second) {
             Searched::Refused(n) => refused(n),
             Searched::Answered(b) => {
                 if nearer(b, a) {

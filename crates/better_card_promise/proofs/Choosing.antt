@@ -20,7 +20,7 @@ use Rattle.method.proofs.Promise.{same-files}
 use Rattle.method.specs.declared.Answer.{Answer}
 use Rattle.method.specs.declared.Searched.{Searched}
 use Rattle.method.specs.declared.Searched.the-variants.{Refused, Answered}
-use Rattle.method.specs.Answers.{outcome}
+use Rattle.method.specs.Answers.{outcome, search-refusal}
 use Rattle.method.specs.Fractions.{_≤ℚ_, _<ℚ_}
 use Rattle.method.proofs.Promise.{outcome-refused, outcome-answered}
 use Rattle.listing.proofs.Outcomes.{same-refusal}
@@ -323,6 +323,11 @@ module _ (b s x y : List ℕ) {r : Searched} (er : r ≡ outcome (check-refusal 
   module _ {a : Answer} (q : r ≡ Answered a) where
     x-accepted : (check-refusal b s x 256 ≡ 0) × (card-answer b s x ≡ a)
     x-accepted = outcome-answered (check-refusal b s x 256) (card-answer b s x) a (sym er ∙ q)
+
+    -- so the second card is judged by files that were accepted
+    pub files-accepted : files-refusal b s ≡ 0
+    unfolding check-refusal-with
+    files-accepted = sym (same-refusal b s) ∙ both-zero (search-refusal b s 256) (card-refusal b s x) (x-accepted .0) .0
 
     by-second : better-refusal b s x y ≡ check-refusal b s y 256
     by-second = as-checked b s x y ∙ rw (x-accepted .0)

@@ -29,13 +29,12 @@ pub fn file_better(folder: &[u8]) {
     let other = file_io::first_bytes(&second, l);
     let chosen = better_listing::better_text(fleet, asked, one, other);
     let choice = chosen.choice;
-    let listing = chosen.text;
-    refusal_output::tell_detail(fleet, asked, listing);
+    refusal_output::tell_detail(fleet, asked, choice.refusal);
     let part = better_card::part_of(one, other, choice);
     let path = paths::path_in(folder, b"better.wcd");
     let bytes = path.bytes;
     let name = file_io::first_bytes(&bytes, path.len);
     if file(name, part, choice.refusal) {
-        file_io::print(listing);
+        file_io::print(chosen.text);
     }
 }

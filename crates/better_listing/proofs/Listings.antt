@@ -4,10 +4,10 @@ use mathlib.Core.List.{List}
 use Prim.Native.Nat.{ℕ, zero, suc}
 use borrow.Author.Tests.{eq-eqb, ne-eqb}
 use lib.Dec.{eqb·suc-zero}
-use Rattle.method.specs.declared.Searched.the-variants.{Refused}
+use Rattle.files.specs.Sheet.{files-refusal}
 use Rattle.method.specs.Answers.{outcome}
 use Rattle.card_format.specs.Checks.{check-refusal, check-refusal-with}
-use Rattle.listing.specs.Lines.{outcome-listing}
+use Rattle.listing.specs.Lines.{refused-line, outcome-listing}
 use Rattle.listing.proofs.Outcomes.{same-refusal}
 use Rattle.text.specs.Texts.{Holds}
 use Rattle.text.specs.declared.Text.{Text}
@@ -18,9 +18,9 @@ use Rattle.better_card_promise.specs.Promise.{Better-right}
 use Rattle.better_card_promise.proofs.Choosing.{accepted, refusal-is}
 use Rattle.better_listing.specs.Listings.{better-listing, part-listing}
 
-module _ (b s w slots : List ℕ) {n : ℕ} {t : Text} where
-  pub refused-text : (n ≡ 0 → ⊥) → Holds (outcome-listing b s (Refused n) slots) t → Holds (part-listing b s w n) t
-  unfolding part-listing outcome-listing
+module _ (b s w : List ℕ) {n : ℕ} {t : Text} where
+  pub refused-text : (n ≡ 0 → ⊥) → Holds (refused-line n) t → Holds (part-listing b s w n) t
+  unfolding part-listing
   refused-text h k = rw (ne-eqb n 0 h) k
 
   pub card-text : n ≡ 0 → Holds (card-listing b s w) t → Holds (part-listing b s w n) t
@@ -28,6 +28,10 @@ module _ (b s w slots : List ℕ) {n : ℕ} {t : Text} where
   card-text h k = rw (eq-eqb n 0 h) k
 
 module _ (b s x y part : List ℕ) where
+  -- where nothing is refused, the files are accepted
+  pub files-accepted : {c : Choice} → c ≡ choice b s x y → c .refusal ≡ 0 → files-refusal b s ≡ 0
+  files-accepted e z = accepted b s x y (sym (ap (λ d. d .refusal) e ∙ refusal-is b s x y) ∙ z) .0
+
   -- the part is listed as the better card
   listed : (n : ℕ) → n ≡ better-refusal b s x y → Better-right b s x y n part → part-listing b s part n ≡ better-listing b s x y
   unfolding part-listing better-listing card-listing check-refusal-with outcome outcome-listing

@@ -4,22 +4,23 @@
 ghost use mathlib.Core.Path.{_≡_};
 ghost use Prim.Native.Nat.{_+_, _≤_};
 ghost use lib.ListN.{length};
+ghost use Rattle.files.specs.Sheet.{files-refusal};
 ghost use Rattle.text.specs.Texts.{Holds};
 ghost use Rattle.better_card_promise.specs.Choices.{numbered, part-of, choice};
 ghost use Rattle.better_card_promise.specs.Promise.{Better-right};
 ghost use Rattle.better_listing.specs.Listings.{part-listing, better-listing};
 use better_card_promise::Choice;
-use method::Searched;
 use text::Text;
 
 // The listing of a card that was not refused, or of the number that refuses.
 fn part_text(book: &[u8], sheet: &[u8], part: &[u8], refusal: u32) -> Text
+    requires { ⌜ (refusal ≡ 0 → files-refusal (now book) (now sheet) ≡ 0) ⌝ }
     ensures { λ r. ⌜ Holds (part-listing (now (book .entry)) (now (sheet .entry)) (now (part .entry)) refusal) r ⌝ }
 {
     if refusal != 0 {
-        return listing::outcome_listing(book, sheet, Searched::Refused(refusal), [0u16; 256]);
+        return listing::refused_listing(refusal);
     }
-    card_listing::card_text(book, sheet, part)
+    card_listing::judged_text(book, sheet, part)
 }
 
 // What two cards leave to be filed and to be said: the choice, and the listing of the card that was chosen.

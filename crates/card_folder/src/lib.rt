@@ -22,13 +22,12 @@ pub fn file_card(folder: &[u8]) {
     let m = file_io::read_in(folder, b"sheet.wsh", &mut sheet);
     let mut output = [0u8; card_listing::MOST_CARD];
     let filing = card_listing::filed_text(&book[..n], &sheet[..m], &mut output);
-    let listing = filing.text;
-    refusal_output::tell_detail(&book[..n], &sheet[..m], listing);
+    refusal_output::tell_detail(&book[..n], &sheet[..m], filing.refusal);
     let path = paths::path_in(folder, b"card.wcd");
     let bytes = path.bytes;
     let name = file_io::first_bytes(&bytes, path.len);
     if file(name, &output, filing.len) {
-        file_io::print(listing);
+        file_io::print(filing.text);
     }
 }
 
@@ -42,7 +41,7 @@ pub fn check_card(folder: &[u8]) {
     let n = file_io::read_in(folder, b"fleet.wbk", &mut book);
     let m = file_io::read_in(folder, b"sheet.wsh", &mut sheet);
     let k = file_io::read_in(folder, b"card.wcd", &mut filed);
-    let listing = card_listing::card_text(&book[..n], &sheet[..m], &filed[..k]);
-    refusal_output::tell_detail(&book[..n], &sheet[..m], listing);
-    file_io::print(listing);
+    let listed = card_listing::card_text(&book[..n], &sheet[..m], &filed[..k]);
+    refusal_output::tell_detail(&book[..n], &sheet[..m], listed.refusal);
+    file_io::print(listed.text);
 }

@@ -1,5 +1,5 @@
 -- The listing of a card check with a share list of 256 slots. Assumes nothing.
-use mathlib.Core.Path.{_≡_, refl, sym, _∙_}
+use mathlib.Core.Path.{_≡_, refl, sym, ap, _∙_}
 use mathlib.Core.Bool.{true}
 use mathlib.Core.List.{List}
 use Prim.Native.Nat.{ℕ, zero, suc}
@@ -10,9 +10,10 @@ use Rattle.files.specs.Bytes.{all-bytes, number}
 use Rattle.files.specs.Book.{boats}
 use Rattle.files.specs.Sheet.{files-refusal}
 use Rattle.method.specs.declared.Searched.{Searched}
-use Rattle.method.specs.Answers.{outcome, search-refusal, slots-after}
+use Rattle.method.specs.Answers.{refusal-number, outcome, search-refusal, slots-after}
 use Rattle.card_format.specs.Format.{shares-into, card-shares, card-answer}
 use Rattle.card_format.specs.Checks.{card-refusal, check-refusal, check-refusal-with}
+use Rattle.method.proofs.Promise.{outcome-number}
 use Rattle.listing.specs.Lines.{outcome-listing, Listable}
 use Rattle.text.specs.Texts.{Holds}
 use Rattle.text.specs.declared.Text.{Text}
@@ -47,6 +48,9 @@ listed-right b s w all = check-right plain-terms b s w (card-shares (boats b) w)
 module _ (b s w slots : List ℕ) {r : Searched} (e : r ≡ outcome (check-refusal b s w 256) (card-answer b s w)) where
   pub check-listable : Listable b s r
   check-listable = rw e (listable b s (check-refusal b s w 256) (card-answer b s w) (files-pass b s w))
+
+  pub check-number : refusal-number r ≡ check-refusal b s w 256
+  check-number = ap refusal-number e ∙ outcome-number (check-refusal b s w 256) (card-answer b s w)
 
   pub check-listed : {now : List ℕ} {t : Text} → now ≡ slots-after (check-refusal b s w 256) (card-shares (boats b) w) slots → Holds (outcome-listing b s r now) t → Holds (card-listing b s w) t
   unfolding card-listing

@@ -26,13 +26,16 @@ fn file(path: &[u8], output: &[u8; 40000], len: usize) -> bool {
 pub fn file_other(folder: &[u8]) {
     let mut sheet = [0u8; 40001];
     let n = file_io::read_in(folder, b"sheet.wsh", &mut sheet);
-    file_io::tell_text(edition_text::edition_detail(&sheet[..n]));
     let mut output = [0u8; 40000];
     let given = other_edition::other_edition(&sheet[..n], &mut output);
+    let size = size_of(given);
+    if size == 0 {
+        file_io::tell_text(edition_text::edition_detail(&sheet[..n]));
+    }
     let path = paths::path_in(folder, b"other.wsh");
     let bytes = path.bytes;
     let name = file_io::first_bytes(&bytes, path.len);
-    if file(name, &output, size_of(given)) {
+    if file(name, &output, size) {
         file_io::print(edition_text::edition_line(given));
     }
 }

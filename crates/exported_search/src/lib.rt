@@ -60,7 +60,7 @@ pub extern "C" fn dofitrano_listing(book: &[u8], sheet: &[u8], output: &mut [u8]
     ensures { λ _. ⌜ now (output .exit) ≡ bytes-after (search-listing (now (book .entry)) (now (sheet .entry))) (now (output .entry)) ⌝ }
     ensures { λ _. ⌜ Outcome-right (now (book .entry)) (now (sheet .entry)) (search-outcome (now (book .entry)) (now (sheet .entry))) (search-shares (now (book .entry)) (now (sheet .entry))) ⌝ }
 {
-    let text = search_listing::search_listing(book, sheet);
+    let text = search_listing::search_listing(book, sheet).text;
     let count = text.len;
     if output.len() < count {
         return 0;

@@ -14,7 +14,7 @@ use Rattle.files.proofs.Accepted.{files-accepted}
 use Rattle.method.specs.declared.Answer.{Answer}
 use Rattle.method.specs.declared.Searched.{Searched}
 use Rattle.method.specs.declared.Searched.the-variants.{Refused, Answered}
-use Rattle.method.specs.Answers.{outcome, search-refusal, slots-after, search-refusal-with}
+use Rattle.method.specs.Answers.{refusal-number, outcome, search-refusal, slots-after, search-refusal-with}
 use Rattle.listing.specs.Lines.{refused-line, boat-lines, head-lines, listing-of, outcome-listing, Listable}
 use Rattle.text.specs.Texts.{Holds, Adds}
 use Rattle.text.specs.declared.Text.{Text}
@@ -37,12 +37,13 @@ pub answer-listed : {t u : Text} {n c tolerance steps : ℕ} (b s : List ℕ) (a
 unfolding outcome-listing listing-of
 answer-listed b s a slots en ec et es h p = rw (← en, ← ec, ← et, ← es) (holds-more h p)
 
-pub refusal-listed : {t u : Text} {r : Searched} (b s slots : List ℕ) (n : ℕ) → r ≡ Refused n → Holds [] t → Adds t (refused-line n) u → Holds (outcome-listing b s r slots) u
-unfolding outcome-listing
-refusal-listed b s slots n e h p = rw e (adds-to-empty h p)
+pub refusal-listed : {t : Text} {r : Searched} (b s slots : List ℕ) (n : ℕ) → r ≡ Refused n → Holds (refused-line n) t → (n ≡ refusal-number r) × Holds (outcome-listing b s r slots) t
+unfolding outcome-listing refusal-number
+refusal-listed b s slots n e h = rw e (refl, h)
 
-pub outcome-listed : {t : Text} {r : Searched} (b s slots : List ℕ) (a : Answer) → r ≡ Answered a → Holds (outcome-listing b s (Answered a) slots) t → Holds (outcome-listing b s r slots) t
-outcome-listed b s slots a e h = rw e h
+pub outcome-listed : {t : Text} {r : Searched} (b s slots : List ℕ) (a : Answer) → r ≡ Answered a → Holds (outcome-listing b s (Answered a) slots) t → (0 ≡ refusal-number r) × Holds (outcome-listing b s r slots) t
+unfolding refusal-number
+outcome-listed b s slots a e h = rw e (refl, h)
 
 pub listable-files : {r : Searched} (b s : List ℕ) (a : Answer) → r ≡ Answered a → Listable b s r → files-refusal b s ≡ 0
 unfolding Listable

@@ -1,13 +1,14 @@
 // The listing of an answer as text: lines of words and decimal numbers, given back by value with their length.
 //
-// Helpers for other crates, whose callers prove what they require: with_boat, outcome_listing.
+// Helpers for other crates, whose callers prove what they require: with_boat, refused_listing, outcome_listing.
 ghost use mathlib.Core.Path.{_≡_};
 ghost use Prim.Native.Nat.{_+_, _≤_, _<_};
 ghost use lib.ListN.{take};
 ghost use Rattle.files.specs.Sheet.{files-refusal};
+ghost use Rattle.method.specs.Answers.{refusal-number};
 ghost use Rattle.text.specs.Lines.{pair-line};
 ghost use Rattle.text.specs.Texts.{text-limit, Holds, Adds};
-ghost use Rattle.listing.specs.Lines.{verdict-word, boat-line, boat-lines, head-lines, outcome-listing, Listable};
+ghost use Rattle.listing.specs.Lines.{verdict-word, boat-line, boat-lines, head-lines, refused-line, outcome-listing, Listable};
 use method::Answer;
 use method::Searched;
 use method::Verdict;
@@ -81,13 +82,32 @@ fn answer_listing(book: &[u8], sheet: &[u8], a: Answer, shares: [u16; 256]) -> T
     with_boats(begun, shares, boats)
 }
 
-// The listing of what a search or a card check of files gave back, with the shares it left.
-pub fn outcome_listing(book: &[u8], sheet: &[u8], outcome: Searched, shares: [u16; 256]) -> Text
+// A listing, and the number that refuses where it is a refusal's, else 0.
+pub struct Listed {
+    pub refusal: u32,
+    pub text: Text,
+}
+
+// The listing of a number that refuses.
+pub fn refused_listing(n: u32) -> Text
+    ensures { λ r. ⌜ Holds (refused-line n) r ⌝ }
+{
+    Text::empty().with_line(b"refused ", n as u64)
+}
+
+// The listing of what a search or a card check of files gave back, with the shares it left, and its number.
+pub fn outcome_listing(book: &[u8], sheet: &[u8], outcome: Searched, shares: [u16; 256]) -> Listed
     requires { ⌜ Listable (now book) (now sheet) outcome ⌝ }
-    ensures { λ r. ⌜ Holds (outcome-listing (now (book .entry)) (now (sheet .entry)) outcome shares) r ⌝ }
+    ensures { λ r. ⌜ (r .refusal ≡ refusal-number outcome) × Holds (outcome-listing (now (book .entry)) (now (sheet .entry)) outcome shares) (r .text) ⌝ }
 {
     match outcome {
-        Searched::Refused(n) => Text::empty().with_line(b"refused ", n as u64),
-        Searched::Answered(a) => answer_listing(book, sheet, a, shares),
+        Searched::Refused(n) => Listed {
+            refusal: n,
+            text: refused_listing(n),
+        },
+        Searched::Answered(a) => Listed {
+            refusal: 0,
+            text: answer_listing(book, sheet, a, shares),
+        },
     }
 }

@@ -8,15 +8,19 @@ fn tell_of(folder: &[u8], name: &[u8], fault: &[u8]) {
     file_io::tell(file_io::first_bytes(&bytes, path.len), fault);
 }
 
-// Says on standard error which of two books its own number refuses.
-fn tell_refused(folder: &[u8], first: &[u8], second: &[u8]) {
+// Says on standard error which of two books this number refuses, where it is one of a book. Only then the first is judged again.
+fn tell_refused(folder: &[u8], first: &[u8], refusal: u32) {
+    if refusal == 0 {
+        return;
+    }
+    if 6 < refusal {
+        return;
+    }
     if validation::book_refusal(first) != 0 {
         tell_of(folder, b"fleet.wbk", b": this book is refused\n");
         return;
     }
-    if validation::book_refusal(second) != 0 {
-        tell_of(folder, b"bought.wbk", b": this book is refused\n");
-    }
+    tell_of(folder, b"bought.wbk", b": this book is refused\n");
 }
 
 // Files a merged book, which has no bytes where the books are refused; what is in the way goes to standard error. Whether there is a line
@@ -37,10 +41,10 @@ pub fn file_merged(folder: &[u8]) {
     let mut second = [0u8; 40001];
     let n = file_io::read_in(folder, b"fleet.wbk", &mut first);
     let m = file_io::read_in(folder, b"bought.wbk", &mut second);
-    tell_refused(folder, &first[..n], &second[..m]);
     let mut output = [0u8; merged_book::MOST_BYTES];
     let listed = merge_listing::merge_text(&first[..n], &second[..m], &mut output);
     let merged = listed.merged;
+    tell_refused(folder, &first[..n], merged.refusal);
     let path = paths::path_in(folder, b"merged.wbk");
     let bytes = path.bytes;
     let name = file_io::first_bytes(&bytes, path.len);

@@ -9,7 +9,7 @@ pub fn list_search(folder: &[u8]) {
     let mut sheet = [0u8; 40001];
     let n = file_io::read_in(folder, b"fleet.wbk", &mut book);
     let m = file_io::read_in(folder, b"sheet.wsh", &mut sheet);
-    let listing = search_listing::search_listing(&book[..n], &sheet[..m]);
-    refusal_output::tell_detail(&book[..n], &sheet[..m], listing);
-    file_io::print(listing);
+    let listed = search_listing::search_listing(&book[..n], &sheet[..m]);
+    refusal_output::tell_detail(&book[..n], &sheet[..m], listed.refusal);
+    file_io::print(listed.text);
 }

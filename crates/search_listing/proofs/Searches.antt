@@ -7,9 +7,9 @@ use lib.ListN.{length}
 use Rattle.files.specs.Sheet.{files-refusal}
 use Rattle.method.specs.declared.Searched.{Searched}
 use Rattle.method.specs.Problem.{problem, plain-terms}
-use Rattle.method.specs.Answers.{outcome, search-refusal, slots-after, run-answer, run-iterate}
+use Rattle.method.specs.Answers.{refusal-number, outcome, search-refusal, slots-after, run-answer, run-iterate}
 use Rattle.method.specs.Promise.{Outcome-right}
-use Rattle.method.proofs.Promise.{run-slot-count, outcome-right}
+use Rattle.method.proofs.Promise.{run-slot-count, outcome-number, outcome-right}
 use Rattle.text.specs.Texts.{Holds}
 use Rattle.text.specs.declared.Text.{Text}
 use Rattle.listing.specs.Lines.{outcome-listing, Listable}
@@ -28,6 +28,9 @@ module _ (b s slots : List ℕ) {r : Searched} (e : r ≡ outcome (search-refusa
 
   pub search-listable : Listable b s r
   search-listable = rw found (listable b s (files-refusal b s) (run-answer (problem b s)) (λ h. h))
+
+  pub search-number : refusal-number r ≡ files-refusal b s
+  search-number = ap refusal-number found ∙ outcome-number (files-refusal b s) (run-answer (problem b s))
 
   pub search-listed : {now : List ℕ} {t : Text} → now ≡ slots-after (search-refusal b s 256) (run-iterate (problem b s) .shares) slots → Holds (outcome-listing b s r now) t → Holds (search-listing b s) t
   unfolding search-listing

@@ -4,10 +4,11 @@ use test_samples::Part;
 
 // Lists the files in parts of two buffers.
 fn run(book: &[u8], a: Part, sheet: &[u8], b: Part) {
-    file_io::print(search_listing::search_listing(
+    let listed = search_listing::search_listing(
         test_buffers::between(book, a.start, a.end),
         test_buffers::between(sheet, b.start, b.end),
-    ));
+    );
+    file_io::print(listed.text);
 }
 
 // Damages a file that ends at `end`, where it is the one to damage.

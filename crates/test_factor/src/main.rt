@@ -54,7 +54,7 @@ fn found(book: &[u8], sheet: &[u8]) {
         let v = a.verdict;
         test_printing::carried(v);
     }
-    file_io::print(search_listing::search_listing(book, sheet));
+    file_io::print(search_listing::search_listing(book, sheet).text);
 }
 
 // The number that refuses a card, 0 where it is accepted.

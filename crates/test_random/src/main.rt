@@ -62,7 +62,7 @@ fn report(book: &[u8], sheet: &[u8]) {
         let v = a.verdict;
         test_printing::carried(v);
     }
-    file_io::print(search_listing::search_listing(book, sheet));
+    file_io::print(search_listing::search_listing(book, sheet).text);
 }
 
 // Searches and lists the files in two buffers up to `n` and up to `m`, with a drawn tolerance.

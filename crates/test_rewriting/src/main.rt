@@ -40,8 +40,8 @@ fn converted(sheet: &[u8], book: &[u8], room: usize) {
     if book.len() == 0 {
         return;
     }
-    file_io::print(search_listing::search_listing(book, sheet));
-    file_io::print(search_listing::search_listing(book, other));
+    file_io::print(search_listing::search_listing(book, sheet).text);
+    file_io::print(search_listing::search_listing(book, other).text);
 }
 
 // The case at `start`: how many zeros stand in front of the sheet, and the room, 2 bytes each; then the name, the sheet and the book, each

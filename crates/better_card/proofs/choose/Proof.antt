@@ -1,7 +1,8 @@
 -- `better_card::choose` meets its contract.
 use mathlib.Core.Path.{_∙_}
+use mathlib.Core.List.{[]}
 use Rattle.files.proofs.Numbers.{all-bytes-known}
-use Rattle.better_card_promise.proofs.Choosing.{promised, first-refused, second-refused, first-inside, second-inside, first-chosen, second-chosen}
+use Rattle.better_card_promise.proofs.Choosing.{files-accepted, promised, first-refused, second-refused, first-inside, second-inside, first-chosen, second-chosen}
 use borrow.Author.Needs.{needs}
 use Rattle.better_card.proofs.choose.Statement.{statement}
 use Rattle.better_card.proofs.choose.Tie as tie
@@ -9,6 +10,7 @@ use Rattle.better_card.proofs.choose.Reads as reads
 use Rattle.better_card.proofs.choose.Lts as lts
 use Rattle.better_card.proofs.behind_front.Reads as behind-front-reads
 use Rattle.better_card.proofs.checked.Reads as checked-reads
+use Rattle.better_card.proofs.judged.Reads as judged-reads
 use Rattle.better_card.proofs.nearer.Reads as nearer-reads
 use Rattle.better_card.proofs.refused.Reads as refused-reads
 
@@ -24,8 +26,10 @@ refused-requires c κs = search needs
 enum-known-a : tie.Need-enum-known-a
 enum-known-a c = search needs
 
-checked-requires-2 : tie.Need-checked-requires-2
-checked-requires-2 c κs = search needs
+judged-requires : tie.Need-judged-requires
+judged-requires c κs =
+    let at-a = c .before in
+    files-accepted _ _ _ [] (at-a .before .before .checked .ensures) (at-a .a .given .1)
 
 enum-known-n-2 : tie.Need-enum-known-n-2
 enum-known-n-2 c = search needs
@@ -47,7 +51,7 @@ behind-front-requires c κs =
     let at-a = at-second .before .before in
     let at-first = at-a .before .before in
     let at-slices = at-first .before in
-    second-inside _ _ _ _ (at-first .checked .ensures) (at-a .a .given .1) (at-second .checked2 .ensures) (at-b .b .given .1) (all-bytes-known _ (at-slices .shared-slice-known4 .given))
+    second-inside _ _ _ _ (at-first .checked .ensures) (at-a .a .given .1) (at-second .judged .ensures) (at-b .b .given .1) (all-bytes-known _ (at-slices .shared-slice-known4 .given))
 
 returns : tie.Need-returns
 returns c =
@@ -57,7 +61,7 @@ returns c =
     let at-a = at-second .before .before in
     let at-first = at-a .before .before in
     let at-slices = at-first .before in
-    promised _ _ _ _ (all-bytes-known _ (at-slices .before .shared-slice-known3 .given)) (all-bytes-known _ (at-slices .shared-slice-known4 .given)) (c .behind-front .ensures ∙ second-chosen _ _ _ _ (at-first .checked .ensures) (at-a .a .given .1) (at-second .checked2 .ensures) (at-b .b .given .1) (at-nearer .nearer .ensures) (c .before .if1 .taken))
+    promised _ _ _ _ (all-bytes-known _ (at-slices .before .shared-slice-known3 .given)) (all-bytes-known _ (at-slices .shared-slice-known4 .given)) (c .behind-front .ensures ∙ second-chosen _ _ _ _ (at-first .checked .ensures) (at-a .a .given .1) (at-second .judged .ensures) (at-b .b .given .1) (at-nearer .nearer .ensures) (c .before .if1 .taken))
 
 behind-front-requires-2 : tie.Need-behind-front-requires-2
 behind-front-requires-2 c κs =
@@ -67,7 +71,7 @@ behind-front-requires-2 c κs =
     let at-a = at-second .before .before in
     let at-first = at-a .before .before in
     let at-slices = at-first .before in
-    first-inside _ _ _ _ (at-first .checked .ensures) (at-a .a .given .1) (at-second .checked2 .ensures) (at-b .b .given .1) (all-bytes-known _ (at-slices .before .shared-slice-known3 .given))
+    first-inside _ _ _ _ (at-first .checked .ensures) (at-a .a .given .1) (at-second .judged .ensures) (at-b .b .given .1) (all-bytes-known _ (at-slices .before .shared-slice-known3 .given))
 
 returns-2 : tie.Need-returns-2
 returns-2 c =
@@ -83,7 +87,7 @@ returns-3 c =
     let at-a = at-second .before .before in
     let at-first = at-a .before .before in
     let at-slices = at-first .before in
-    promised _ _ _ _ (all-bytes-known _ (at-slices .before .shared-slice-known3 .given)) (all-bytes-known _ (at-slices .shared-slice-known4 .given)) (c .refused2 .ensures ∙ second-refused _ _ _ _ (at-first .checked .ensures) (at-a .a .given .1) (at-second .checked2 .ensures) _ (at-n .n2 .given .1))
+    promised _ _ _ _ (all-bytes-known _ (at-slices .before .shared-slice-known3 .given)) (all-bytes-known _ (at-slices .shared-slice-known4 .given)) (c .refused2 .ensures ∙ second-refused _ _ _ _ (at-first .checked .ensures) (at-a .a .given .1) (at-second .judged .ensures) _ (at-n .n2 .given .1))
 
 returns-4 : tie.Need-returns-4
 returns-4 c =
@@ -93,7 +97,7 @@ returns-4 c =
     let at-a = at-second .before .before in
     let at-first = at-a .before .before in
     let at-slices = at-first .before in
-    promised _ _ _ _ (all-bytes-known _ (at-slices .before .shared-slice-known3 .given)) (all-bytes-known _ (at-slices .shared-slice-known4 .given)) (c .behind-front2 .ensures ∙ first-chosen _ _ _ _ (at-first .checked .ensures) (at-a .a .given .1) (at-second .checked2 .ensures) (at-b .b .given .1) (at-nearer .nearer .ensures) (c .before .if1 .left))
+    promised _ _ _ _ (all-bytes-known _ (at-slices .before .shared-slice-known3 .given)) (all-bytes-known _ (at-slices .shared-slice-known4 .given)) (c .behind-front2 .ensures ∙ first-chosen _ _ _ _ (at-first .checked .ensures) (at-a .a .given .1) (at-second .judged .ensures) (at-b .b .given .1) (at-nearer .nearer .ensures) (c .before .if1 .left))
 
 pub choose-spec : {M : Type 1} → statement M
 choose-spec =
@@ -103,7 +107,7 @@ choose-spec =
     enum-known-n
     refused-requires
     enum-known-a
-    checked-requires-2
+    judged-requires
     enum-known-n-2
     refused-requires-2
     enum-known-b

@@ -1,5 +1,6 @@
 -- `better_listing::better_text` meets its contract.
-use Rattle.better_listing.proofs.Listings.{better-listed}
+use mathlib.Core.List.{[]}
+use Rattle.better_listing.proofs.Listings.{files-accepted, better-listed}
 use borrow.Author.Needs.{needs}
 use Rattle.better_listing.proofs.better_text.Statement.{statement}
 use Rattle.better_listing.proofs.better_text.Tie as tie
@@ -16,7 +17,7 @@ part-of-requires : tie.Need-part-of-requires
 part-of-requires c κs = search needs
 
 part-text-requires : tie.Need-part-text-requires
-part-text-requires c κs = search needs
+part-text-requires c κs = let given = c .before .choose .ensures in files-accepted _ _ _ _ [] (given .0)
 
 returns : tie.Need-returns
 returns c =

@@ -1,27 +1,24 @@
 -- `better_listing::part_text` meets its contract.
-use lib.ListN.{replicate}
-use Rattle.listing.specs.Lines.{Listable}
 use Rattle.better_listing.proofs.Listings.{refused-text, card-text}
 use borrow.Author.Needs.{needs}
 use Rattle.better_listing.proofs.part_text.Statement.{statement}
 use Rattle.better_listing.proofs.part_text.Tie as tie
 use Rattle.better_listing.proofs.part_text.Reads as reads
 use Rattle.better_listing.proofs.part_text.Lts as lts
-use Rattle.card_listing.proofs.card_text.Reads as card-text-reads
-use Rattle.listing.proofs.outcome_listing.Reads as outcome-listing-reads
+use Rattle.card_listing.proofs.judged_text.Reads as judged-text-reads
+use Rattle.listing.proofs.refused_listing.Reads as refused-listing-reads
 
-outcome-listing-requires : tie.Need-outcome-listing-requires
-unfolding Listable
-outcome-listing-requires c κs = tt
+refused-listing-requires : tie.Need-refused-listing-requires
+refused-listing-requires c κs = search needs
 
 returns : tie.Need-returns
-returns c = refused-text _ _ _ (replicate 256 0) (c .before .if1 .taken) (c .outcome-listing .ensures)
+returns c = refused-text _ _ _ (c .before .if1 .taken) (c .refused-listing .ensures)
 
-card-text-requires : tie.Need-card-text-requires
-card-text-requires c κs = search needs
+judged-text-requires : tie.Need-judged-text-requires
+judged-text-requires c κs = c .before .before .before .before .pre (c .if1 .left)
 
 returns-2 : tie.Need-returns-2
-returns-2 c = card-text _ _ _ (replicate 256 0) (c .before .if1 .left) (c .card-text .ensures .0)
+returns-2 c = card-text _ _ _ (c .before .if1 .left) (c .judged-text .ensures)
 
 pub part-text-spec : {M : Type 1} → statement M
-part-text-spec = tie.close (tie.spec outcome-listing-requires returns card-text-requires returns-2)
+part-text-spec = tie.close (tie.spec refused-listing-requires returns judged-text-requires returns-2)

@@ -1,7 +1,8 @@
 -- `card_listing::card_text` meets its contract.
+use mathlib.Core.Path.{_∙_}
 use lib.ListN.{replicate}
 use Rattle.files.proofs.Numbers.{all-bytes-known}
-use Rattle.card_listing.proofs.Cards.{check-listable, check-listed, listed-right}
+use Rattle.card_listing.proofs.Cards.{check-listable, check-number, check-listed, listed-right}
 use borrow.Author.Needs.{needs}
 use Rattle.card_listing.proofs.card_text.Statement.{statement}
 use Rattle.card_listing.proofs.card_text.Tie as tie
@@ -10,10 +11,12 @@ outcome-listing-requires : tie.Need-outcome-listing-requires
 outcome-listing-requires c κs = check-listable _ _ _ (replicate 256 0) (c .before .check-card .ensures .0)
 
 returns : tie.Need-returns
-returns c = (
-  check-listed _ _ _ (replicate 256 0) (c .before .before .check-card .ensures .0) (c .before .before .check-card .ensures .1 .0) (c .outcome-listing .ensures),
-  listed-right _ _ _ (all-bytes-known _ (c .before .before .before .before .shared-slice-known3 .given)),
-)
+returns c =
+    let found = c .before .before .check-card .ensures in
+    let told = c .outcome-listing .ensures in (
+      told .0 ∙ check-number _ _ _ (replicate 256 0) (found .0),
+      (check-listed _ _ _ (replicate 256 0) (found .0) (found .1 .0) (told .1), listed-right _ _ _ (all-bytes-known _ (c .before .before .before .before .shared-slice-known3 .given))),
+    )
 
 pub card-text-spec : {M : Type 1} → statement M
 card-text-spec =

@@ -8,12 +8,10 @@ answer-listing-requires : tie.Need-answer-listing-requires
 answer-listing-requires c κs = search (needs, listable-files)
 
 returns : tie.Need-returns
-returns c = search (needs, refusal-listed)
+returns c = refusal-listed _ _ _ _ (c .before .before .outcome .given .1) (c .refused-listing .ensures)
 
 returns-2 : tie.Need-returns-2
-returns-2 c = search (needs, outcome-listed)
+returns-2 c = outcome-listed _ _ _ _ (c .before .before .outcome2 .given .1) (c .answer-listing .ensures)
 
 pub outcome-listing-spec : {M : Type 1} → statement M
-outcome-listing-spec =
-    tie.close
-    (tie.spec (λ c. search needs) (λ c κs. search needs) (λ c. search needs) (λ c. search needs) (λ c κs. search needs) (λ c. search needs) answer-listing-requires returns returns-2)
+outcome-listing-spec = tie.close (tie.spec (λ c. search needs) (λ c κs. search needs) (λ c. search needs) answer-listing-requires returns returns-2)
