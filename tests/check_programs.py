@@ -22,6 +22,7 @@ PROGRAMS = {
     "mixmerge": ("merge_folder::file_merged", "test_merge", "name"),
     "leanlist": ("lean_folder::list_boats", "test_lean", "name"),
     "mixqueue": ("queue_folder::list_queue", "test_queue", "name, allowance"),
+    "mixwork": ("work_folder::file_worked", "test_worked", "name, moves"),
     "mixsheet": ("sheet_folder::file_sheet", "test_sheet", "name"),
     "mixedition": ("edition_folder::file_other", "test_rewriting", "name"),
 }
@@ -30,7 +31,7 @@ MAIN = ('fn main() { let mut name = [0u8; 4095]; let asked = arguments::folder(b
         'if asked.known { %s(file_io::first_bytes(&name, asked.len)); } }')
 
 # the programs that take a number before the folder, by the word that names it in the usage
-NUMBERS = {"mixqueue": "ALLOWANCE"}
+NUMBERS = {"mixqueue": "ALLOWANCE", "mixwork": "MOVES"}
 
 MAIN_WITH_NUMBER = ('fn main() { let mut name = [0u8; 4095]; let task = arguments::number_and_folder(b"%s", b"%s", &mut name); '
                     'if task.known { %s(file_io::first_bytes(&name, task.len), task.number); } }')

@@ -981,6 +981,16 @@ def listing(book: bytes, sheet: bytes) -> bytes:
     return listing_lines(read_book(book), steps, tolerance, answer, shares)
 
 
+def worked_listing(book: bytes, sheet: bytes, moves: int) -> bytes:
+    """The listing of a search that is worked over with all boats, or the one line of its refusal."""
+    refusal, answer, size, written = work_over(book, sheet, moves, bytes(1060))
+    if refusal:
+        return refused(refusal)
+    shares = check_card(book, sheet, written[:size], [0] * MOST_BOATS)[2]
+    _, steps, tolerance, _ = read_sheet(sheet)
+    return listing_lines(read_book(book), steps, tolerance, answer, shares)
+
+
 def card_listing(book: bytes, sheet: bytes, card: bytes) -> bytes:
     """The listing of a card's answer, or the one line of its refusal."""
     refusal, answer, shares = check_card(book, sheet, card, [0] * MOST_BOATS)

@@ -160,6 +160,7 @@ PROGRAMS = {
     "mixmerge": merges.FOLDERS["older"],
     "leanlist": leanings.FOLDERS[""],
     "mixqueue": queues.FOLDERS[""],
+    "mixwork": workings.FOLDERS["all_moves"],
     "mixsheet": {"fleet.csv": csv_books.YARD, "sheet.csv": csv_sheets.SHEET, "sheet.wsh": b"an older sheet"},
     "mixedition": {"sheet.wsh": b"hull 41\n" + make_sheet([1, 2, 3], steps=9, tolerance=1, factors=[1, 1, 1]), "other.wsh": b"an older sheet"},
 }

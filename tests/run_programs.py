@@ -23,6 +23,7 @@ import leanings  # noqa: E402
 import merges  # noqa: E402
 import queues  # noqa: E402
 import sheet_editions  # noqa: E402
+import workings  # noqa: E402
 
 P = [[0, 0], [4, 0], [0, 4]]
 BOOK = exact.make_book(P)
@@ -111,7 +112,7 @@ def run(program, files, read_only=False, arguments=(), folders=None, output=subp
             put(os.path.join(folder, name), inside)
         command = [os.path.abspath(program), *arguments]
         if read_only:
-            command = ["sh", "-c", "ulimit -f 0; trap '' XFSZ; exec \"$0\"", *command]
+            command = ["sh", "-c", "ulimit -f 0; trap '' XFSZ; exec \"$0\" \"$@\"", *command]
         done = subprocess.run(command, cwd=folder, stdout=output, stderr=subprocess.PIPE, check=False)
         if done.returncode != status_of(program, done.stdout, done.stderr):
             print("%s: status %d" % (program, done.returncode))
@@ -148,10 +149,11 @@ READ = {
     "mixmerge": ("fleet.wbk", "bought.wbk"),
     "leanlist": ("fleet.wbk",),
     "mixqueue": ("fleet.wbk",),
+    "mixwork": ("fleet.wbk", "sheet.wsh"),
 }
 # The number that comes before the folder, as the usage names it and as it is tried, where a program takes one.
-NUMBERS = {"mixqueue": (b"ALLOWANCE", 9)}
-FILED = {"mixcard": "card.wcd", "mixbetter": "better.wcd", "mixedition": "other.wsh", "mixmerge": "merged.wbk"}
+NUMBERS = {"mixqueue": (b"ALLOWANCE", 9), "mixwork": (b"MOVES", 9)}
+FILED = {"mixcard": "card.wcd", "mixbetter": "better.wcd", "mixedition": "other.wsh", "mixmerge": "merged.wbk", "mixwork": "worked.wcd"}
 
 
 def cards_in(files):
@@ -468,11 +470,28 @@ def check_mixqueue(program, runs):
         runs.expect("mixqueue %s" % number, run(program, files, arguments=(number,)) == (queues.printed(files, 7), b"", files))
 
 
-CARD = exact.write_card(BOOK, SHEET, bytes(1060))
+def check_mixwork(program, runs):
+    """The folders of test_worked and of FILES, with an older card or none, then a card that cannot be written."""
+    tried = [(name, files, moves) for name, (moves, files) in workings.RUNS.items()]
+    tried += [(name, files, moves) for name, files in FILES for moves in (0, 1, 1000, 1001)]
+    for name, files, moves in tried:
+        for older in (None, b"older card"):
+            before = dict(files) if older is None else dict(files, **{"worked.wcd": older})
+            book, sheet = content(before, "fleet.wbk"), content(before, "sheet.wsh")
+            refusal, _, size, written = exact.work_over(book, sheet, moves, bytes(1060))
+            after = before if refusal else dict(before, **{"worked.wcd": written[:size]})
+            expected = exact.worked_listing(book, sheet, moves), told("mixwork", before, refusal != 0), after
+            runs.expect("mixwork %d, %s, %s" % (moves, name, older), run(program, before, arguments=(str(moves),)) == expected)
+    for name, older, read_only in (("no room", b"older card", True), ("card a folder", FOLDER, False)):
+        before = {"fleet.wbk": BOOK, "sheet.wsh": SPENT, "worked.wcd": older}
+        runs.expect("mixwork, " + name, run(program, before, read_only, arguments=("9",)) == (b"", b"worked.wcd: could not be written\n", before))
+
+
+CARD = exact.write_card(BOOK, SPENT, bytes(1060))
 # files on which every program does its work
 ARGUMENT_FILES = {"fleet.csv": b"a,b,c\nd,0,0\ne,4,0\nf,0,4\n", "sheet.csv": b",c,b\nnew,1,1\nsteps,9\ntolerance,1\n",
-                  "fleet.wbk": BOOK, "bought.wbk": BOOK, "sheet.wsh": SHEET, "card.wcd": CARD[3][:CARD[2]],
-                  "first.wcd": CARD[3][:CARD[2]], "second.wcd": CARD[3][:CARD[2]], "sheet1.wsh": SHEET, "card1.wcd": CARD[3][:CARD[2]]}
+                  "fleet.wbk": BOOK, "bought.wbk": BOOK, "sheet.wsh": SPENT, "card.wcd": CARD[3][:CARD[2]],
+                  "first.wcd": CARD[3][:CARD[2]], "second.wcd": CARD[3][:CARD[2]], "sheet1.wsh": SPENT, "card1.wcd": CARD[3][:CARD[2]]}
 
 
 def check_arguments(name, program, files, runs):
@@ -498,7 +517,7 @@ def check_arguments(name, program, files, runs):
 # What is tried of each program.
 CHECKS = {"mixlist": (check_mixlist,), "mixcard": (check_mixcard,), "mixcheck": (check_mixcheck, check_report), "mixbetter": (check_mixbetter,),
           "mixbook": (check_mixbook,), "mixsheet": (check_mixsheet,), "mixedition": (check_mixedition,), "mixmerge": (check_mixmerge,),
-          "leanlist": (check_leanlist,), "mixqueue": (check_mixqueue,)}
+          "leanlist": (check_leanlist,), "mixqueue": (check_mixqueue,), "mixwork": (check_mixwork,)}
 
 
 def check_programs(place, names, runs):
@@ -551,6 +570,10 @@ STATUSES = [
     ("mixqueue 2", queues.FOLDERS[""], 1, []),
     ("mixqueue", queues.FOLDERS[""], 2, []),
     ("mixqueue 7 >/dev/full", queues.FOLDERS[""], 2, []),
+    ("mixwork 9", {"fleet.wbk": BOOK, "sheet.wsh": SPENT}, 0, ["worked.wcd"]),
+    ("mixwork 9", {"fleet.wbk": BOOK, "sheet.wsh": SHEET}, 1, []),
+    ("mixwork 9", {"fleet.wbk": BOOK, "sheet.wsh": SPENT, "worked.wcd": FOLDER}, 2, []),
+    ("mixwork", {"fleet.wbk": BOOK, "sheet.wsh": SPENT}, 2, []),
     ("mixreport", {"fleet.wbk": BOOK, "sheet.wsh": SHEET}, 1, []),
     ("mixreport --other", {"fleet.wbk": BOOK, "sheet.wsh": SHEET}, 2, []),
     ("mixcard && mixreport --mixcheck missing", {"fleet.wbk": BOOK, "sheet.wsh": SHEET}, 2, ["card.wcd"]),

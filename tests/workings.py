@@ -122,5 +122,41 @@ def file_of(found):
                     for book, sheet, moves, released, room in found)
 
 
-# test_worked: folders by their names. None yet.
-FOLDERS = {}
+SPENT = exact.make_book(P, b"fleet"), exact.make_sheet([1, 1], 2, 1, b"sheet")
+MORE = exact.make_book([[-8, 3], [4, -1], [10, 9]]), exact.make_sheet([5, -1], 6, 2)
+FACTORED = exact.make_book(P), exact.make_sheet([1, 1], 4, 0, factors=[3, 1])
+
+
+def folder(files, worked=None, without=()):
+    """The files of a folder, with an older worked card or none."""
+    found = {"fleet.wbk": files[0], "sheet.wsh": files[1], "worked.wcd": worked}
+    return {name: content for name, content in found.items() if content is not None and name not in without}
+
+
+# test_worked: folders by their names, and the moves that mixwork is asked for there. The current folder has no name.
+RUNS = {
+    "": (1000, folder(SPENT)),
+    "older": (1000, folder(SPENT, b"an older card")),
+    "one_move": (1, folder(MORE)),
+    "two_moves": (2, folder(MORE)),
+    "all_moves": (1000, folder(MORE)),
+    "factors": (1000, folder(FACTORED)),
+    "no_moves": (0, folder(SPENT, b"an older card")),
+    "too_many_moves": (1001, folder(SPENT, b"an older card")),
+    "within": (1000, folder((SPENT[0], exact.make_sheet([1, 1], 9, 1)), b"an older card")),
+    "within_and_no_moves": (0, folder((SPENT[0], exact.make_sheet([1, 1], 9, 1)))),
+    "sheet_refused": (0, folder((SPENT[0], exact.make_sheet([1, 1], 0, 1)), b"an older card")),
+    "book_refused": (1, folder((SPENT[0][:-1], b""), b"an older card")),
+    "no_book": (1, folder(SPENT, without=("fleet.wbk",))),
+    "no_sheet": (1, folder(SPENT, without=("sheet.wsh",))),
+    "longest_sheet": (1000, folder((SPENT[0], exact.make_sheet([1, 1], 2, 1).rjust(40000, b"x")))),
+    "too_long": (1000, folder((SPENT[0], exact.make_sheet([1, 1], 2, 1).rjust(40001, b"x")))),
+}
+FOLDERS = {name: files for name, (_, files) in RUNS.items()}
+
+
+def filed(files, moves):
+    """What mixwork prints in a folder, and the card that stands there afterwards."""
+    book, sheet = files.get("fleet.wbk", b""), files.get("sheet.wsh", b"")
+    refusal, _, size, written = exact.work_over(book, sheet, moves, bytes(1060))
+    return exact.worked_listing(book, sheet, moves), files.get("worked.wcd", b"") if refusal else written[:size]

@@ -1,6 +1,6 @@
 #!/usr/bin/env python3
 """What test_worked prints: what each call gives back, the number by which the check refuses the card under the same set, and a sum of all bytes
-of the buffer."""
+of the buffer; then mixwork in one folder after another, with the card that stands there."""
 import os
 import sys
 
@@ -36,6 +36,9 @@ def main():
     if missing:
         sys.exit("workings.py has too few cases of: %s" % missing)
     sys.stdout.write("".join(text for _, text in found))
+    for name, (moves, files) in workings.RUNS.items():
+        printed, left = workings.filed(files, moves)
+        sys.stdout.write("%s\n%sbytes %d\nsum %d\n" % (name, printed.decode(), len(left), checksum(left)))
 
 
 main()

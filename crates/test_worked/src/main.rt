@@ -101,8 +101,39 @@ fn each(cases: &[u8], count: u64) {
     }
 }
 
+// mixwork in a folder, and the card that stands there afterwards.
+fn folder(name: &[u8], moves: u32) {
+    let mut card = [0u8; 40001];
+    test_printing::title(name);
+    work_folder::file_worked(name, moves);
+    let n = file_io::read_in(name, b"worked.wcd", &mut card);
+    test_printing::line(b"bytes", n as u64);
+    test_printing::line(b"sum", test_buffers::checksum(&card[..n]));
+}
+
+// mixwork in all folders.
+fn folders() {
+    folder(b"", 1000);
+    folder(b"older", 1000);
+    folder(b"one_move", 1);
+    folder(b"two_moves", 2);
+    folder(b"all_moves", 1000);
+    folder(b"factors", 1000);
+    folder(b"no_moves", 0);
+    folder(b"too_many_moves", 1001);
+    folder(b"within", 1000);
+    folder(b"within_and_no_moves", 0);
+    folder(b"sheet_refused", 0);
+    folder(b"book_refused", 1);
+    folder(b"no_book", 1);
+    folder(b"no_sheet", 1);
+    folder(b"longest_sheet", 1000);
+    folder(b"too_long", 1000);
+}
+
 fn main() {
     let mut cases = [0u8; 400000];
     let n = file_io::read_file(b"cases.dat", &mut cases);
     each(&cases[..n], 400);
+    folders();
 }

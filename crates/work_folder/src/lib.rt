@@ -1,0 +1,33 @@
+// The work of mixwork, in a folder that the caller names. What the system reads and writes no contract can say; test_worked holds what is
+// printed and filed to the reference.
+
+// Files the card of a search that was worked over, which has no bytes where the call is refused; what is in the way goes to standard error.
+// Whether there is a listing to print.
+fn file(path: &[u8], output: &[u8; card_listing::MOST_CARD], len: usize) -> bool {
+    if len == 0 {
+        file_io::tell(path, b" is as it was\n");
+        return true;
+    }
+    file_io::replace_or_tell(path, file_io::first_bytes(output, len))
+}
+
+// Searches fleet.wbk and sheet.wsh in a folder, works the search over by at most so many moves where it ends Spent, files the card of the
+// result there as worked.wcd and prints its listing. The current folder has no name. Where the call is refused or the card cannot be written,
+// an older worked.wcd stays as it was, and standard error says so, with what is known of a refusal of the files. Of each file one byte more is
+// read than it may have, so that a longer file is refused and not cut.
+pub fn file_worked(folder: &[u8], moves: u32) {
+    let mut book = [0u8; 40001];
+    let mut sheet = [0u8; 40001];
+    let n = file_io::read_in(folder, b"fleet.wbk", &mut book);
+    let m = file_io::read_in(folder, b"sheet.wsh", &mut sheet);
+    let mut output = [0u8; card_listing::MOST_CARD];
+    let filing = worked_listing::worked_text(&book[..n], &sheet[..m], moves, &mut output);
+    let listing = filing.text;
+    refusal_output::tell_detail(&book[..n], &sheet[..m], listing);
+    let path = paths::path_in(folder, b"worked.wcd");
+    let bytes = path.bytes;
+    let name = file_io::first_bytes(&bytes, path.len);
+    if file(name, &output, filing.len) {
+        file_io::print(listing);
+    }
+}
