@@ -226,8 +226,12 @@ def queue_told(files, allowance, folder=""):
     return b"".join(lines)
 
 
+# What mixwork says of a refusal that is not of the files.
+WORKING = {53: b"sheet.wsh: the search does not end Spent, so nothing is worked over\n", 54: b"MOVES: not from 1 to 1000\n"}
+
+
 def told(program, files, refused=False, folder=""):
-    """What standard error says of files that are not there or cannot be read, of a refusal, and of an older file that stays."""
+    """What standard error says of files that are not there or cannot be read, of a refusal, or of its number, and of an older file that stays."""
     if program == "leanlist":
         return lean_told(files, folder)
     if program == "mixqueue":
@@ -244,6 +248,8 @@ def told(program, files, refused=False, folder=""):
     elif "fleet.wbk" in READ[program]:
         book, sheet = content(files, "fleet.wbk"), content(files, "sheet.wsh")
         lines.append(details.detail(book, sheet, exact.files_refusal(book, sheet)))
+    if program == "mixwork":
+        lines.append(WORKING.get(refused, b""))
     if refused and program in FILED:
         lines.append((folder + FILED[program]).encode() + b" is as it was\n")
     return b"".join(lines)
@@ -480,7 +486,7 @@ def check_mixwork(program, runs):
             book, sheet = content(before, "fleet.wbk"), content(before, "sheet.wsh")
             refusal, _, size, written = exact.work_over(book, sheet, moves, bytes(1060))
             after = before if refusal else dict(before, **{"worked.wcd": written[:size]})
-            expected = exact.worked_listing(book, sheet, moves), told("mixwork", before, refusal != 0), after
+            expected = exact.worked_listing(book, sheet, moves), told("mixwork", before, refusal), after
             runs.expect("mixwork %d, %s, %s" % (moves, name, older), run(program, before, arguments=(str(moves),)) == expected)
     for name, older, read_only in (("no room", b"older card", True), ("card a folder", FOLDER, False)):
         before = {"fleet.wbk": BOOK, "sheet.wsh": SPENT, "worked.wcd": older}

@@ -11,9 +11,22 @@ fn file(path: &[u8], output: &[u8; card_listing::MOST_CARD], len: usize) -> bool
     file_io::replace_or_tell(path, file_io::first_bytes(output, len))
 }
 
+// Says what is known of a refusal that is neither of the files nor of the buffer.
+fn tell_working(refusal: u32) {
+    if refusal == 53 {
+        file_io::tell(
+            b"sheet.wsh",
+            b": the search does not end Spent, so nothing is worked over\n",
+        );
+    }
+    if refusal == 54 {
+        file_io::tell(b"MOVES", b": not from 1 to 1000\n");
+    }
+}
+
 // Searches fleet.wbk and sheet.wsh in a folder, works the search over by at most so many moves where it ends Spent, files the card of the
 // result there as worked.wcd and prints its listing. The current folder has no name. Where the call is refused or the card cannot be written,
-// an older worked.wcd stays as it was, and standard error says so, with what is known of a refusal of the files. Of each file one byte more is
+// an older worked.wcd stays as it was, and standard error says so, with what is known of the refusal. Of each file one byte more is
 // read than it may have, so that a longer file is refused and not cut.
 pub fn file_worked(folder: &[u8], moves: u32) {
     let mut book = [0u8; 40001];
@@ -22,12 +35,12 @@ pub fn file_worked(folder: &[u8], moves: u32) {
     let m = file_io::read_in(folder, b"sheet.wsh", &mut sheet);
     let mut output = [0u8; card_listing::MOST_CARD];
     let filing = worked_listing::worked_text(&book[..n], &sheet[..m], moves, &mut output);
-    let listing = filing.text;
-    refusal_output::tell_detail(&book[..n], &sheet[..m], listing);
+    refusal_output::tell_detail(&book[..n], &sheet[..m], filing.refusal);
+    tell_working(filing.refusal);
     let path = paths::path_in(folder, b"worked.wcd");
     let bytes = path.bytes;
     let name = file_io::first_bytes(&bytes, path.len);
     if file(name, &output, filing.len) {
-        file_io::print(listing);
+        file_io::print(filing.text);
     }
 }

@@ -1,36 +1,44 @@
 -- What the call leaves is listed as its result is.
 use mathlib.Core.Path.{_≡_, refl, sym, ap, _∙_, subst}
-use mathlib.Core.List.{List, []}
-use Prim.Native.Nat.{ℕ, zero, suc, _≤_}
+use mathlib.Core.Bool.{Bool, true, false, not, cond}
+use mathlib.Core.List.{List}
+use Prim.Native.Nat.{ℕ, zero, suc, _≤_, _<_}
 use native.Mathlib.Omega.{arith}
+use lib.Dec.{eqb, ltb}
 use lib.ListN.{length, take}
 use Rattle.files.specs.Sheet.{files-refusal}
 use Rattle.files.specs.Book.{boats}
 use Rattle.method.specs.declared.Answer.{Answer}
 use Rattle.method.specs.Problem.{plain-terms, problem}
-use Rattle.method.specs.Answers.{outcome, search-refusal, slots-after}
+use Rattle.files.specs.Bytes.{between}
+use Rattle.method.specs.Calls.{before}
+use Rattle.method.specs.Answers.{outcome, search-refusal, slots-after, verdict-number, run-answer}
 use Rattle.card_format.specs.declared.Written.{Written}
 use Rattle.card_format.specs.declared.Written.the-variants.{Refused, Filed}
-use Rattle.card_format.specs.Filing.{written-size, filing, Reads-back-with}
+use Rattle.card_format.specs.Filing.{writing-number, written-size, filing, Reads-back-with}
 use Rattle.card_format.specs.Format.{card-limit, card-shares, card-answer}
+use Rattle.card_format.proofs.Filing.{filing-number}
 use Rattle.card_format.specs.Checks.{card-refusal, check-refusal, check-refusal-with}
-use Rattle.pairwise.specs.Moves.{moves-refusal, worked-answer}
+use Rattle.pairwise.specs.Moves.{spent-refusal, moves-refusal, worked-answer}
 use Rattle.pairwise.specs.Call.{worked-slots, worked-card, work-refusal, Working-right}
-use Rattle.text.specs.Texts.{Holds, Adds}
+use Rattle.text.specs.Texts.{Holds}
 use Rattle.text.specs.declared.Text.{Text}
-use Rattle.text.proofs.Texts.{adds-to-empty}
 use Rattle.listing.specs.Lines.{refused-line, outcome-listing}
 use Rattle.listing.proofs.Outcomes.{same-refusal}
 use Rattle.card_listing.specs.Cards.{card-listing}
-use Rattle.worked_listing.specs.Working.{work-number, work-filing, working-listing, written-listing}
+use Rattle.worked_listing.specs.Working.{work-number, work-filing, working-listing, written-listing, Served}
 
-pub refused-text : {w : Written} {t u : Text} (b s buffer : List ℕ) (k : ℕ) → w ≡ Refused k → Holds [] t → Adds t (refused-line k) u → Holds (written-listing b s w buffer) u
-unfolding written-listing
-refused-text b s buffer k e p q = rw e (adds-to-empty p q)
+-- what is said of a reply: its number, as many bytes as were written, and the listing
+abbrev Says : (b s : List ℕ) → Written → (buffer : List ℕ) → (refusal len : ℕ) → Text → Type 0
+Says b s w buffer n len t = (n ≡ writing-number w) × ((len ≡ written-size w) × Holds (written-listing b s w buffer) t)
 
-pub card-listed : {w : Written} {u : Text} (b s buffer : List ℕ) (a : Answer) (size : ℕ) → w ≡ Filed a size → Holds (card-listing b s (take size buffer)) u → Holds (written-listing b s w buffer) u
-unfolding written-listing
-card-listed b s buffer a size e h = rw e h
+pub refused-said : {w : Written} {t : Text} (b s buffer : List ℕ) (k : ℕ) → w ≡ Refused k → Holds (refused-line k) t → Says b s w buffer k 0 t
+unfolding writing-number written-size written-listing
+refused-said b s buffer k e h = rw e (refl, (refl, h))
+
+pub filed-said : {w : Written} {t : Text} (b s buffer : List ℕ) (a : Answer) (size : ℕ) → w ≡ Filed a size → Holds (card-listing b s (take size buffer)) t → Says b s w buffer 0 size t
+unfolding writing-number written-size written-listing
+filed-said b s buffer a size e h = rw e (refl, (refl, h))
 
 pub size-fits : {w : Written} {m : ℕ} (a : Answer) (size : ℕ) → w ≡ Filed a size → written-size w ≤ m → size ≤ m
 unfolding written-size
@@ -84,12 +92,49 @@ module _ (b s : List ℕ) (n : ℕ) (out now : List ℕ) (room : length out ≡ 
   pub size-most : written-size w ≤ card-limit
   size-most = fits-by (work-refusal plain-terms b s n (length out)) e
 
-  pub worked-said : {len : ℕ} {t : Text} → now ≡ slots-after (work-refusal plain-terms b s n (length out)) (worked-card plain-terms b s n) out → len ≡ written-size w → Holds (written-listing b s w now) t →
-      (len ≡ written-size (work-filing b s n)) × (Holds (working-listing b s n) t × ((now ≡ slots-after (work-number b s n) (worked-card plain-terms b s n) out) × Working-right plain-terms b s n (work-filing b s n) now))
-  worked-said g k h = (
-    k ∙ ap written-size given-back,
+  -- what was filed is of files that serve
+  pub served : Served b s w
+  unfolding writing-number
+  served a size f = files-pass b s n (length now) (sym (W .number) ∙ ap writing-number f)
+
+  pub worked-said : {k len : ℕ} {t : Text} → now ≡ slots-after (work-refusal plain-terms b s n (length out)) (worked-card plain-terms b s n) out → Says b s w now k len t →
+      (k ≡ work-number b s n) × ((len ≡ written-size (work-filing b s n)) × (Holds (working-listing b s n) t × ((now ≡ slots-after (work-number b s n) (worked-card plain-terms b s n) out) × Working-right plain-terms b s n (work-filing b s n) now)))
+  worked-said g (i, (k, h)) = (
+    i ∙ ap writing-number given-back ∙ filing-number (work-number b s n) (worked-answer (problem b s) n) (length (worked-card plain-terms b s n)),
     (
-      working-listed b s n now w given-back W h,
-      (rw room at g, subst (λ (v : Written). Working-right plain-terms b s n v now) given-back W),
+      k ∙ ap written-size given-back,
+      (
+        working-listed b s n now w given-back W h,
+        (rw room at g, subst (λ (v : Written). Working-right plain-terms b s n v now) given-back W),
+      ),
     ),
   )
+
+-- ---- Numbers up to 17 are of the book or the sheet
+
+-- a number that is not of a file: 0, or above 17
+abbrev Not-files : ℕ → Type 0
+Not-files n = n ≤ 17 → n ≡ 0
+
+by-test : (g : Bool) (k : ℕ) {x : ℕ} → 17 < k → Not-files x → Not-files (cond g k x)
+by-test true k h f = λ e. absurd (omega arith)
+by-test false k h f = f
+
+later-by : (k : ℕ) {x : ℕ} → Not-files k → Not-files x → Not-files (before k x)
+later-by zero f g = g
+later-by (suc k) f g = f
+
+-- a number up to 17 behind that of the files is theirs
+files-by : (f : ℕ) {x : ℕ} → Not-files x → before f x ≤ 17 → f ≡ before f x
+files-by zero g h = sym (g h)
+files-by (suc f) g h = refl
+
+spent-not : (v n : ℕ) → Not-files (spent-refusal v n)
+unfolding spent-refusal
+spent-not v n = by-test (not (eqb v 3)) 53 (omega arith) (by-test (not (between 1 1000 n)) 54 (omega arith) (λ e. refl))
+
+pub work-files : (b s : List ℕ) (n : ℕ) {k : ℕ} → k ≡ work-number b s n → k ≤ 17 → files-refusal b s ≡ k
+unfolding work-refusal
+work-files b s n e h =
+    let room = by-test (ltb card-limit (length (worked-card plain-terms b s n))) 22 (omega arith) (λ e. refl) in
+    rw e (files-by (files-refusal b s) (later-by (moves-refusal (problem b s) n) (spent-not (verdict-number (run-answer (problem b s) .verdict)) n) room) (rw e at h))

@@ -1,7 +1,10 @@
 -- The listing of a Spent run that is worked over, with all boats of the book. Definitions only. Assumes nothing.
+use mathlib.Core.Path.{_≡_}
 use mathlib.Core.List.{List}
 use Prim.Native.Nat.{ℕ}
 use lib.ListN.{length, take}
+use Rattle.files.specs.Sheet.{files-refusal}
+use Rattle.method.specs.declared.Answer.{Answer}
 use Rattle.method.specs.Problem.{plain-terms, problem}
 use Rattle.method.specs.Answers.{outcome}
 use Rattle.card_format.specs.declared.Written.{Written}
@@ -29,3 +32,7 @@ working-listing b s n = outcome-listing b s (outcome (work-number b s n) (worked
 unfoldable pub written-listing : (book sheet : List ℕ) → Written → (buffer : List ℕ) → List ℕ
 written-listing b s (Refused k) buffer = refused-line k
 written-listing b s (Filed a size) buffer = card-listing b s (take size buffer)
+
+-- a writer that filed a card had files that serve
+abbrev pub Served : (book sheet : List ℕ) → Written → Type 0
+Served b s w = (a : Answer) (size : ℕ) → w ≡ Filed a size → files-refusal b s ≡ 0

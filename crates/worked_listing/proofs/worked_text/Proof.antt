@@ -6,28 +6,27 @@ use denote.Ref.{now}
 use lib.ListN.{length}
 use Rattle.card_format.specs.Format.{card-limit}
 use Rattle.card_format.specs.Filing.{written-size}
-use Rattle.worked_listing.proofs.Working.{size-most, worked-said}
+use Rattle.worked_listing.proofs.Working.{served, size-most, worked-said}
 use borrow.Author.Needs.{needs}
 use Rattle.worked_listing.proofs.worked_text.Statement.{statement}
 use Rattle.worked_listing.proofs.worked_text.Tie as tie
 
-text-of-requires : tie.Need-text-of-requires
-text-of-requires c κs =
-    let at-work = c .before .before .before in
+filing-of-requires : tie.Need-filing-of-requires
+filing-of-requires c κs =
+    let at-work = c .before .before in
     let x = at-work .before .before .before .before .args in
     let given = at-work .work-over .ensures in
     let most : written-size (at-work .work-over .result) ≤ card-limit =
     size-most (now (x .book)) (now (x .sheet)) (x .moves) (now (x .output)) _ (search needs) (given .0) (given .1 .1) in
     let room : length (at-work .work-over .last .1 .1 .1 .1 .0) ≡ card-limit = search needs in
-    omega arith
+    (served (now (x .book)) (now (x .sheet)) (x .moves) (now (x .output)) _ (search needs) (given .0) (given .1 .1), omega arith)
 
 returns : tie.Need-returns
 returns c =
-    let at-work = c .before .before .before .before in
+    let at-work = c .before .before .before in
     let x = at-work .before .before .before .before .args in
     let given = at-work .work-over .ensures in
-    worked-said (now (x .book)) (now (x .sheet)) (x .moves) (now (x .output)) _ (search needs) (given .0) (given .1 .1) (given .1 .0) (c .before .before .before .size-of .ensures) (c .text-of .ensures)
+    worked-said (now (x .book)) (now (x .sheet)) (x .moves) (now (x .output)) _ (search needs) (given .0) (given .1 .1) (given .1 .0) (c .filing-of .ensures)
 
 pub worked-text-spec : {M : Type 1} → statement M
-worked-text-spec =
-    tie.close (tie.spec (λ c κs. search needs) (λ c κs. search needs) text-of-requires returns)
+worked-text-spec = tie.close (tie.spec (λ c κs. search needs) filing-of-requires returns)
