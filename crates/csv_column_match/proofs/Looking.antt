@@ -6,17 +6,11 @@ use Prim.Native.Nat.{ℕ, zero, suc, _-_, _≤_, _<_}
 use native.Mathlib.Omega.{arith}
 use borrow.Author.Tests.{eqb-true, eqb-false, eq-eqb, ltb-true, ltb-false}
 use lib.Dec.{eqb, ltb}
-use lib.ListN.{length, take}
 use Rattle.files.specs.Bytes.{same}
 use Rattle.files.proofs.Letters.{same-eq}
-use Rattle.buffers.specs.Placed.{placed}
-use Rattle.buffers.proofs.Writing.{front-taken}
 use Rattle.csv_cells.specs.Cells.{cell-text}
-use Rattle.csv_column_match.specs.Match.{column-of}
-
--- a name that was put at the front of a buffer
-pub name-taken : (j : ℕ) (csv out : List ℕ) {size : ℕ} {now : List ℕ} → size ≡ length (cell-text 0 j csv) → size ≤ 200 → now ≡ placed out 0 (cell-text 0 j csv) → length out ≡ 200 → take size now ≡ cell-text 0 j csv
-name-taken j csv out e h p l = front-taken out (cell-text 0 j csv) p e (omega arith)
+use Rattle.csv_slots.specs.Slots.{Held}
+use Rattle.csv_column_match.specs.Match.{column-of, position}
 
 same-refl : (xs : List ℕ) → same xs xs ≡ true
 unfolding same
@@ -98,3 +92,9 @@ module _ (name csv : List ℕ) where
           let g : column-of name (suc n) csv ≡ column-of name n csv = lower (suc n) (omega arith) p refl ∙ ap (λ (k : ℕ). column-of name k csv) (omega arith) in
           let l : f < suc n = differ f (suc n) k (eqb-false f (suc n) q) in
           more (omega arith) (omega arith)
+
+-- ---- what holds of every CSV whose names are in slots
+module _ {fs fc ss sc fleet csv : List ℕ} (f : Held 0 1 fleet fs fc) (s : Held 0 1 csv ss sc) where
+  pub position-held : (n j : ℕ) {r : ℕ} → ((fleet csv : List ℕ) → Held 0 1 fleet fs fc → Held 0 1 csv ss sc → r ≡ column-of (cell-text 0 j fleet) n csv) → r ≡ position n j fleet csv
+  unfolding position
+  position-held n j h = h fleet csv f s

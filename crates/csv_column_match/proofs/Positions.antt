@@ -9,11 +9,6 @@ use Rattle.buffers.specs.Placed.{placed}
 use Rattle.buffers.proofs.Placing.{placed-set}
 use Rattle.buffers.proofs.Writing.{Writing, writing-start, writing-more, writing-end}
 use Rattle.csv_column_match.specs.Match.{position, positions-from, positions}
-use Rattle.csv_column_match.proofs.Looking.{column-few}
-
-pub position-few : (n j : ℕ) (fleet csv : List ℕ) {r : ℕ} → r ≡ position n j fleet csv → r ≤ n
-unfolding position
-position-few n j fleet csv e = rw e (column-few _ csv n)
 
 module _ (n : ℕ) (fleet csv : List ℕ) where
   from-long : (j k : ℕ) → length (positions-from n j k fleet csv) ≡ k

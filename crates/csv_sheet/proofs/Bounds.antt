@@ -14,13 +14,16 @@ use Rattle.files.specs.Limits.{step-limit}
 use Rattle.csv.specs.declared.Cell.{Cell}
 use Rattle.csv_fleet_rows.proofs.Counting.{signed-in}
 use Rattle.csv_sheet_rows.specs.Kinds.{kind-at}
-use Rattle.csv_sheet_rows.specs.Rows.{rows-fault}
+use Rattle.csv_sheet_rows.specs.Rows.{last-row, rows-fault}
 use Rattle.csv_sheet_rows.specs.Sound.{Sound}
 use Rattle.csv_sheet_rows.proofs.Soundness.{sound}
 use Rattle.csv_sheet.specs.Sheets.{cell-at, row-for, value-at, target-of, has-factors, factor-at, factors-of, steps-of, tolerance-by, tolerance-for}
 use Rattle.csv_sheet.specs.Ready.{Ready}
 
 -- ---- how many there are
+pub rows-few : (csv : List ℕ) → rows-fault csv .fault ≡ 0 → {l : ℕ} → l ≡ last-row csv → l ≤ 15
+rows-few csv z e = rw e (sound csv z .few-rows)
+
 pub target-long : (ps csv : List ℕ) → length (target-of ps csv) ≡ length ps
 unfolding target-of
 target-long ps csv = length-map ps (value-at (row-for 0 csv) csv)
@@ -38,6 +41,9 @@ map-in f (p ∷ ps) h = rw (h 0 (omega arith)) (map-in f ps (λ i k. h (suc i) (
 module _ {ps csv : List ℕ} (d : Ready ps csv) where
   abbrev good : Sound csv
   good = sound csv (d .faultless)
+
+  pub place-few : (i : ℕ) → i < length ps → getD ps i 0 ≤ 64
+  place-few i h = omega (arith, d .last i h, good .few-columns)
 
   pub value-small : (i : ℕ) → i < length ps → cell-at (row-for 0 csv) (getD ps i 0) csv .magnitude ≤ 2000
   value-small i h = good .values-fit (getD ps i 0) (d .first i h) (d .last i h)

@@ -1,13 +1,15 @@
 // The sheet of two CSVs: from the bytes of a spreadsheet to the file that a search reads.
 //
 // Entry, which asks nothing of its caller: csv_sheet.
+ghost use mathlib.Core.List.{List};
 ghost use mathlib.Core.Path.{_≡_};
-ghost use Prim.Native.Nat.{_*_, _≤_};
+ghost use Prim.Native.Nat.{ℕ, _*_, _≤_};
 ghost use lib.ListN.{length, take};
 ghost use Rattle.files.specs.Limits.{file-limit};
 ghost use Rattle.buffers.specs.Placed.{placed};
 ghost use Rattle.sheet_output.specs.Output.{values-bytes, edition-bytes};
 ghost use Rattle.csv_fleet_reader.specs.Fleet.{last-table};
+ghost use Rattle.csv_slots.specs.Slots.{Room, Held};
 ghost use Rattle.csv_sheet_rows.specs.Rows.{rows-fault};
 ghost use Rattle.csv_sheet.specs.Sheets.{row-for, target-of, has-factors, factor-at, factors-of, steps-of, tolerance-for, tolerance-of, sheet-of, sheet-at, nothing-made, made-at, made-of-columns, sheet-made, output-at, output-by};
 ghost use Rattle.csv_sheet.specs.Ready.{Ready};
@@ -71,6 +73,7 @@ fn fleet_table(fleet: &[u8]) -> Table
 // The last row that stands for a kind, 0 where there is none.
 fn row_for(csv: &[u8], kind: u32) -> usize
     requires { ⌜ length (now csv) ≤ 200000 ⌝ }
+    requires { ⌜ rows-fault (now csv) .fault ≡ 0 ⌝ }
     ensures { λ r. ⌜ r ≡ row-for kind (now (csv .entry)) ⌝ }
 {
     let last = csv_sheet_rows::last_row(csv);
@@ -84,9 +87,13 @@ fn put_target(csv: &[u8], places: &[u8], output: &mut [u8])
     ensures { λ _. ⌜ now (output .exit) ≡ placed (now (output .entry)) 0 (values-bytes (target-of (now (places .entry)) (now (csv .entry)))) ⌝ }
 {
     let row = row_for(csv, csv_sheet_rows::HULL);
+    let mut sizes = [0u8; 65];
+    let mut cells = [0u8; 13000];
+    csv_slots::put_rows(csv, row, 1, &mut sizes, &mut cells);
     let mut i = 0;
     while i < places.len() {
-        let cell = csv_sheet_rows::cell_at(csv, row, places[i] as usize);
+        let text = csv_slots::cell(&cells, &sizes, places[i] as usize);
+        let cell = csv_sheet_rows::read(text);
         put(
             output,
             2 * i,
@@ -97,15 +104,17 @@ fn put_target(csv: &[u8], places: &[u8], output: &mut [u8])
     }
 }
 
-// The factor in a field of a row, 1 where there is no such row.
-fn factor_at(csv: &[u8], row: usize, field: usize) -> u32
-    requires { ⌜ length (now csv) ≤ 200000 ⌝ }
-    ensures { λ r. ⌜ r ≡ factor-at row (now (csv .entry)) field ⌝ }
+// The factor in a field of a row, whose fields are in the slots; 1 where there is no such row.
+fn factor_in(sizes: &[u8], cells: &[u8], row: usize, field: usize) -> u32
+    requires { ⌜ Room 1 (now sizes) (now cells) ⌝ }
+    requires { ⌜ field ≤ 64 ⌝ }
+    ensures { λ r. ⌜ ((csv : List ℕ) → Held row 1 csv (now (sizes .entry)) (now (cells .entry)) → r ≡ factor-at row csv field) ⌝ }
 {
     if row == 0 {
         return 1;
     }
-    let cell = csv_sheet_rows::cell_at(csv, row, field);
+    let text = csv_slots::cell(cells, sizes, field);
+    let cell = csv_sheet_rows::read(text);
     cell.magnitude
 }
 
@@ -116,15 +125,19 @@ fn put_factors(csv: &[u8], places: &[u8], output: &mut [u8])
     ensures { λ _. ⌜ now (output .exit) ≡ placed (now (output .entry)) 0 (factors-of (now (places .entry)) (now (csv .entry))) ⌝ }
 {
     let row = row_for(csv, csv_sheet_rows::FACTORS);
+    let mut sizes = [0u8; 65];
+    let mut cells = [0u8; 13000];
+    csv_slots::put_rows(csv, row, 1, &mut sizes, &mut cells);
     let mut i = 0;
     while i < places.len() {
-        output[i] = factor_at(csv, row, places[i] as usize) as u8;
+        output[i] = factor_in(&sizes, &cells, row, places[i] as usize) as u8;
         i += 1;
     }
 }
 
 fn steps_of(csv: &[u8]) -> u32
     requires { ⌜ length (now csv) ≤ 200000 ⌝ }
+    requires { ⌜ rows-fault (now csv) .fault ≡ 0 ⌝ }
     ensures { λ r. ⌜ r ≡ steps-of (now (csv .entry)) ⌝ }
 {
     let cell = csv_sheet_rows::cell_at(csv, row_for(csv, csv_sheet_rows::STEPS), 1);

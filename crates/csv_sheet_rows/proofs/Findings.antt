@@ -42,14 +42,14 @@ module _ (k c : ℕ) where
       unfolding count-of
       count-none q l = rw (ne-eqb k 0 h, ne-eqb k 2 p, le-ltb k 3 q, le-ltb k 6 l)
 
-few-by : (a b d e : Bool) (c : ℕ) → c ≤ 64 → cond a c (cond b c (cond d 0 (cond e 1 0))) ≤ 65
+few-by : (a b d e : Bool) (c : ℕ) → c ≤ 64 → cond a c (cond b c (cond d 0 (cond e 1 0))) ≤ 64
 few-by true b d e c h = omega arith
 few-by false true d e c h = omega arith
 few-by false false true e c h = omega arith
 few-by false false false true c h = omega arith
 few-by false false false false c h = omega arith
 
-pub count-few : (k : ℕ) {c : ℕ} → c ≤ 64 → {n : ℕ} → n ≡ count-of k c → n ≤ 65
+pub count-few : (k : ℕ) {c : ℕ} → c ≤ 64 → {n : ℕ} → n ≡ count-of k c → n ≤ 64
 unfolding count-of
 count-few k {c} h e = rw e (few-by (eqb k 0) (eqb k 2) (ltb k 3) (ltb k 6) c h)
 

@@ -1,11 +1,13 @@
 // The rows of a sheet's CSV: what each is by its first field, and the first fault with its place.
 //
 // Helpers for other crates, whose callers prove what they require: kind_of, kind_at, row_of, read, cell_at, columns, last_row, rows_fault.
+ghost use mathlib.Core.List.{List};
 ghost use mathlib.Core.Path.{_≡_};
-ghost use Prim.Native.Nat.{_≤_};
+ghost use Prim.Native.Nat.{ℕ, _≤_};
 ghost use lib.ListN.{length};
 ghost use Rattle.csv.specs.Cells.{read};
 ghost use Rattle.csv_cells.specs.Cells.{cell-text};
+ghost use Rattle.csv_slots.specs.Slots.{Room, Held};
 ghost use Rattle.csv_sheet_rows.specs.Kinds.{kind-of, kind-at, place, row-of};
 ghost use Rattle.csv_sheet_rows.specs.Rows.{count-of, least, most, is-out, number-fault, field-fault, faulty-field, none, found-in, many-finding, numbers-finding, kind-finding, row-finding, rows-finding, sheet-names, nameless, names-finding, last-row, without, missing-finding, content-finding, rows-fault};
 use csv::Cell;
@@ -115,14 +117,34 @@ fn place(kind: u32) -> u32
     kind
 }
 
-// The last row from 1 to `n` that stands for a kind, 0 if there is none.
+// What a row is, by the slots of the first 16 rows.
+fn kind_in(sizes: &[u8], cells: &[u8], row: usize) -> u32
+    requires { ⌜ Room 16 (now sizes) (now cells) ⌝ }
+    requires { ⌜ row ≤ 15 ⌝ }
+    ensures { λ r. ⌜ ((csv : List ℕ) → Held 0 16 csv (now (sizes .entry)) (now (cells .entry)) → r ≡ kind-at row csv) ⌝ }
+{
+    let name = csv_slots::cell(cells, sizes, 65 * row);
+    if name.len() != 0 {
+        return kind_of(name);
+    }
+    if csv_slots::width_in(sizes, row) == 0 {
+        return BLANK;
+    }
+    HULL
+}
+
+// The last row from 1 to `n` that stands for a kind, 0 if there is none. All rows are read in one pass.
 pub fn row_of(csv: &[u8], kind: u32, n: usize) -> usize
     requires { ⌜ length (now csv) ≤ 200000 ⌝ }
+    requires { ⌜ n ≤ 15 ⌝ }
     ensures { λ r. ⌜ r ≡ row-of kind n (now (csv .entry)) ⌝ }
 {
+    let mut sizes = [0u8; 1040];
+    let mut cells = [0u8; 208000];
+    csv_slots::put_rows(csv, 0, 16, &mut sizes, &mut cells);
     let mut row = n;
     while row != 0 {
-        if place(kind_at(csv, row)) == kind {
+        if place(kind_in(&sizes, &cells, row)) == kind {
             return row;
         }
         row -= 1;
@@ -257,12 +279,17 @@ fn field_fault(csv: &[u8], kind: u32, row: usize, field: usize) -> u32
 // The first of fields 1 to `n` that is faulty, 0 if none is.
 fn faulty_field(csv: &[u8], kind: u32, row: usize, n: usize) -> usize
     requires { ⌜ length (now csv) ≤ 200000 ⌝ }
+    requires { ⌜ n ≤ 64 ⌝ }
     ensures { λ r. ⌜ r ≡ faulty-field kind row n (now (csv .entry)) ⌝ }
 {
+    let mut sizes = [0u8; 65];
+    let mut cells = [0u8; 13000];
+    csv_slots::put_rows(csv, row, 1, &mut sizes, &mut cells);
     let mut field = 0;
     while field < n {
         field += 1;
-        if field_fault(csv, kind, row, field) != 0 {
+        let text = csv_slots::cell(&cells, &sizes, field);
+        if number_fault(kind, read(text)) != 0 {
             return field;
         }
     }
@@ -297,7 +324,7 @@ fn found_in(csv: &[u8], row: usize, field: usize, fault: u32) -> Finding
 // Whether a row has more text than its `n` numbers.
 fn many_finding(csv: &[u8], n: usize, row: usize) -> Finding
     requires { ⌜ length (now csv) ≤ 200000 ⌝ }
-    requires { ⌜ n ≤ 65 ⌝ }
+    requires { ⌜ n ≤ 64 ⌝ }
     ensures { λ r. ⌜ r ≡ many-finding n row (now (csv .entry)) ⌝ }
 {
     if n + 1 < csv_cells::width(csv, row) {
@@ -309,7 +336,7 @@ fn many_finding(csv: &[u8], n: usize, row: usize) -> Finding
 // What is wrong with the `n` numbers of a row.
 fn numbers_finding(csv: &[u8], kind: u32, n: usize, row: usize) -> Finding
     requires { ⌜ length (now csv) ≤ 200000 ⌝ }
-    requires { ⌜ n ≤ 65 ⌝ }
+    requires { ⌜ n ≤ 64 ⌝ }
     ensures { λ r. ⌜ r ≡ numbers-finding kind n row (now (csv .entry)) ⌝ }
 {
     if n == 0 {
@@ -327,6 +354,7 @@ fn kind_finding(csv: &[u8], kind: u32, columns: usize, row: usize) -> Finding
     requires { ⌜ length (now csv) ≤ 200000 ⌝ }
     requires { ⌜ columns ≤ 64 ⌝ }
     requires { ⌜ 1 ≤ row ⌝ }
+    requires { ⌜ row ≤ 15 ⌝ }
     ensures { λ r. ⌜ r ≡ kind-finding kind columns row (now (csv .entry)) ⌝ }
 {
     if kind == BLANK {
@@ -346,6 +374,7 @@ fn row_finding(csv: &[u8], columns: usize, row: usize) -> Finding
     requires { ⌜ length (now csv) ≤ 200000 ⌝ }
     requires { ⌜ columns ≤ 64 ⌝ }
     requires { ⌜ 1 ≤ row ⌝ }
+    requires { ⌜ row ≤ 15 ⌝ }
     ensures { λ r. ⌜ r ≡ row-finding columns row (now (csv .entry)) ⌝ }
 {
     kind_finding(csv, kind_at(csv, row), columns, row)
@@ -355,6 +384,7 @@ fn row_finding(csv: &[u8], columns: usize, row: usize) -> Finding
 fn rows_finding(csv: &[u8], columns: usize, n: usize) -> Finding
     requires { ⌜ length (now csv) ≤ 200000 ⌝ }
     requires { ⌜ columns ≤ 64 ⌝ }
+    requires { ⌜ n ≤ 15 ⌝ }
     ensures { λ r. ⌜ r ≡ rows-finding columns n (now (csv .entry)) ⌝ }
 {
     let mut found = none();
@@ -385,12 +415,16 @@ pub fn columns(csv: &[u8]) -> usize
 // The first of columns 1 to `n` without a name, 0 if each has one.
 fn nameless(csv: &[u8], n: usize) -> usize
     requires { ⌜ length (now csv) ≤ 200000 ⌝ }
+    requires { ⌜ n ≤ 64 ⌝ }
     ensures { λ r. ⌜ r ≡ nameless n (now (csv .entry)) ⌝ }
 {
+    let mut sizes = [0u8; 65];
+    let mut cells = [0u8; 13000];
+    csv_slots::put_rows(csv, 0, 1, &mut sizes, &mut cells);
     let mut field = 0;
     while field < n {
         field += 1;
-        if size_at(csv, 0, field) == 0 {
+        if sizes[field] == 0 {
             return field;
         }
     }
@@ -440,6 +474,7 @@ fn without(fault: u32) -> Finding
 // Which row is missing among the first `n` after that of the names.
 fn missing_finding(csv: &[u8], n: usize) -> Finding
     requires { ⌜ length (now csv) ≤ 200000 ⌝ }
+    requires { ⌜ n ≤ 15 ⌝ }
     ensures { λ r. ⌜ r ≡ missing-finding n (now (csv .entry)) ⌝ }
 {
     if row_of(csv, HULL, n) == 0 {

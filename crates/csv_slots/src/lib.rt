@@ -1,10 +1,11 @@
 // The fields of some rows of a CSV, read in one pass and kept side by side: 200 bytes for each field, and how many of them it has.
 //
-// Helpers for other crates, whose callers prove what they require: put_rows, cell.
+// Helpers for other crates, whose callers prove what they require: put_rows, cell, width_in.
+ghost use mathlib.Core.List.{List};
 ghost use mathlib.Core.Path.{_≡_};
-ghost use Prim.Native.Nat.{_+_, _*_, _≤_, _<_};
+ghost use Prim.Native.Nat.{ℕ, _+_, _*_, _≤_, _<_};
 ghost use lib.ListN.{length, getD};
-ghost use Rattle.csv_cells.specs.Cells.{moved};
+ghost use Rattle.csv_cells.specs.Cells.{moved, width};
 ghost use Rattle.csv_slots.specs.Slots.{slot, Room, Empty, Kept, Held};
 use csv::Mode;
 use csv_cells::Place;
@@ -77,4 +78,21 @@ pub fn cell<'a>(cells: &'a [u8], sizes: &[u8], number: usize) -> &'a [u8]
     let start = 200 * number;
     let end = start + sizes[number] as usize;
     &cells[start..end]
+}
+
+// How many fields the row has, so many rows after the first, up to the last with bytes.
+pub fn width_in(sizes: &[u8], row: usize) -> usize
+    requires { ⌜ row ≤ 15 ⌝ }
+    requires { ⌜ 65 * row + 65 ≤ length (now sizes) ⌝ }
+    ensures { λ r. ⌜ ((first rows : ℕ) (csv cells : List ℕ) → Held first rows csv (now (sizes .entry)) cells → row < rows → r ≡ width (first + row) csv) ⌝ }
+{
+    let start = 65 * row;
+    let mut n = 65;
+    while n != 0 {
+        n -= 1;
+        if sizes[start + n] != 0 {
+            return n + 1;
+        }
+    }
+    0
 }

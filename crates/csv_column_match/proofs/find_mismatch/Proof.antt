@@ -1,24 +1,35 @@
--- `csv_column_match::find_mismatch` meets its contract: a law for each return.
+-- `csv_column_match::find_mismatch` meets its contract: the names of both CSVs are in slots.
 use borrow.Author.Needs.{needs}
-use Rattle.csv_column_match.proofs.Mismatches.{in-fleet, in-sheet, in-none}
+use native.Mathlib.Omega.{arith}
+use Rattle.csv_slots.proofs.Holding.{zeros-room, zeros-empty}
 use Rattle.csv_column_match.proofs.find_mismatch.Statement.{statement}
 use Rattle.csv_column_match.proofs.find_mismatch.Tie as tie
 
+put-rows-requires : tie.Need-put-rows-requires
+put-rows-requires c κs = (search needs, (zeros-room 1 65 13000 (omega arith) (omega arith) (omega arith), zeros-empty 65))
+
+put-rows-requires-2 : tie.Need-put-rows-requires-2
+put-rows-requires-2 c κs = (search needs, (zeros-room 1 65 13000 (omega arith) (omega arith) (omega arith), zeros-empty 65))
+
 returns : tie.Need-returns
-returns c = in-fleet _ _ _ _ (c .before .before .fleet-mismatch .ensures) (c .if1 .taken)
-
-returns-2 : tie.Need-returns-2
-returns-2 c =
-    let at-if1 = c .before .before in
-    in-sheet _ _ _ _ (at-if1 .before .before .fleet-mismatch .ensures) (at-if1 .if1 .left) (c .before .unknown .ensures) (c .if2 .taken)
-
-returns-3 : tie.Need-returns-3
-returns-3 c =
-    let at-if2 = c .before in
-    let at-if1 = at-if2 .before .before in
-    in-none _ _ _ _ (at-if1 .before .before .fleet-mismatch .ensures) (at-if1 .if1 .left) (at-if2 .before .unknown .ensures) (at-if2 .if2 .left) (c .none .ensures)
+returns c =
+    let at-second = c .before .before .before .before .before .before .before in
+    let at-first = at-second .before .before .before .before .before in
+    c .mismatch-in .ensures _ _ (at-first .put-rows .ensures) (at-second .put-rows2 .ensures)
 
 pub find-mismatch-spec : {M : Type 1} → statement M
 find-mismatch-spec =
     tie.close
-    (tie.spec (λ c κs. search needs) returns (λ c κs. search needs) returns-2 (λ c κs. search needs) returns-3)
+    (tie.spec
+    (λ c. search needs)
+    (λ c. search needs)
+    put-rows-requires
+    (λ c. search needs)
+    (λ c. search needs)
+    put-rows-requires-2
+    (λ c. search needs)
+    (λ c. search needs)
+    (λ c. search needs)
+    (λ c. search needs)
+    (λ c κs. (search needs, (search needs, (search needs, search needs))))
+    returns)
