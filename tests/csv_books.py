@@ -189,6 +189,11 @@ def by_hand():
     yield YARD.replace(b"\n", b"\r")
     yield YARD.replace(b",", b"\t")
     yield YARD + b"\n\n"
+    # the separator is the header's, also behind lines that are passed over and with a quote inside a field
+    yield b"\n" + YARD.replace(b",", b";")
+    yield b'""\r\n\n' + YARD.replace(b",", b"\t")
+    yield b"\xef\xbb\xbf\n" + YARD.replace(b",", b";")
+    yield YARD.replace(b",", b"\t").replace(b"boat", b'5" boat')
     yield YARD.replace(b"\nDunlin", b"\n\nDunlin")
     yield YARD.replace(b"Gannet,356", b"Gannet, +356 ")
     yield YARD.replace(b"Gannet,356", b'"Gannet ""II"", of 1987","356"')

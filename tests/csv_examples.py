@@ -29,7 +29,12 @@ TEXTS = {
     "quote-inside": b'5" pump,1\n',
     "empty-fields": b',,\n"",\n',
     "blank-lines": b"a\n\nb\n\n",
+    "blank-first-line": b"\nboat;a\n",
+    "empty-quotes-first": b'""\r\nboat\ta\n',
+    "quote-inside-tabs": b'5" boat\ta\n',
+    "comma-in-later-quotes": b'boat;"a, m"\n',
     "mark": b"\xef\xbb\xbfboat,hull\n",
+    "mark-and-quotes": b'\xef\xbb\xbf"boat, any";hull\n',
     "other-letters": "Å,Ø\n".encode(),
     "empty": b"",
 }
@@ -41,7 +46,7 @@ use mathlib.Core.Bool.{cond}
 use mathlib.Core.List.{List, [], _∷_}
 use Prim.Native.Nat.{ℕ}
 use lib.Dec.{eqb}
-use Rattle.csv.specs.Tokens.{tokens, looked, first-line-has, separator, csv-tokens}
+use Rattle.csv.specs.Tokens.{tokens, separator-from, separator, csv-tokens}
 
 said : List ℕ → List ℕ
 said [] = []
@@ -72,7 +77,7 @@ def made():
     out = HEAD
     for name, data in TEXTS.items():
         out += "\n%s : said (csv-tokens %s) ≡ %s\n" % (name, "(%s)" % listed(data) if data else "[]", listed(fields(data)))
-        out += "unfolding said tokens looked first-line-has separator csv-tokens\n%s = refl\n" % name
+        out += "unfolding said tokens separator-from separator csv-tokens\n%s = refl\n" % name
     return out
 
 

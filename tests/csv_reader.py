@@ -23,20 +23,28 @@ class Fault(Exception):
     """The first fault of a text: (kind, line, field)."""
 
 
+# a field that begins with a quote, up to what ends it, and what is inside; text after a closing quote is passed over
+QUOTED = re.compile(r'"([^"]*(?:"[^",;\t\r\n]*"[^"]*)*)(?:"[^",;\t\r\n]*|\Z)')
+PLAIN = re.compile(r"[^,;\t\r\n]*")
+
+
 def separator(text):
-    """A comma where line 1 has one outside quotes, else a semicolon, else a tab."""
-    quoted, end = False, len(text)
-    for i, letter in enumerate(text):
-        if letter == '"':
-            quoted = not quoted
-        elif letter in "\r\n" and not quoted:
-            end = i
-            break
-    outside = "".join(text[:end].split('"')[::2])
-    for mark in ",;\t":
-        if mark in outside:
-            return mark
-    return ","
+    """A comma where the header has one outside quotes, else a semicolon, else a tab. The header is the first line that is not passed over. A quote opens
+    only at the start of a field, and each of the three ends one."""
+    met, begun, i = set(), False, 0
+    while i < len(text):
+        quoted = QUOTED.match(text, i)
+        field = quoted or PLAIN.match(text, i)
+        begun = begun or field.group(1 if quoted else 0) != ""
+        i = field.end()
+        if text[i:i + 1] in ("\r", "\n"):
+            if begun:
+                break
+        elif i < len(text):
+            begun = True
+            met.add(text[i])
+        i += 1
+    return next((mark for mark in ",;\t" if mark in met), ",")
 
 
 def records(text, mark, strict=True):

@@ -1,37 +1,39 @@
--- A mark looked for in the first line: what is left of the text decides as the whole does.
+-- The separator looked for in the header: what is left of the text decides as the whole does.
 use mathlib.Core.Path.{_≡_, refl, sym, ap, _∙_}
 use mathlib.Core.List.{List, [], _∷_}
 use Prim.Native.Nat.{ℕ, _+_, _≤_, _<_}
 use native.Mathlib.Numerals.{add-one}
-use native.Mathlib.Omega.{arith}
-use borrow.Author.Tests.{lt-ltb}
-use lib.Dec.{eqb}
 use lib.ListN.{length, getD, drop, drop-of-length-le}
 use lib.Seq.{drop-cons}
-use Rattle.csv.specs.Tokens.{look, looked, first-line-has}
+use Rattle.csv.specs.declared.Mode.{Mode}
+use Rattle.csv.specs.declared.Mode.the-variants.{Start}
+use Rattle.csv.specs.declared.Step.{Step}
+use Rattle.csv.specs.Tokens.{step, as-comma, best-after, known-after, chosen, separator-from, separator, mark-size}
 
-pub record Looking (bs : List ℕ) (mark known i : ℕ) : Type 0 where
-  pub within : i ≤ length bs
-  pub later : looked mark known (drop i bs) ≡ looked mark 0 bs
+pub record Looking (bs : List ℕ) (x n : ℕ) (m : Mode) (i : ℕ) : Type 0 where
+  pub later : separator-from x n m (drop i bs) ≡ separator-from 0 0 Start (drop (mark-size bs) bs)
 
-pub looking-start : {bs : List ℕ} {mark : ℕ} → Looking bs mark 0 0
-looking-start = record { within = omega arith; later = refl }
+pub looking-start : {bs : List ℕ} {i : ℕ} → i ≡ mark-size bs → Looking bs 0 0 Start i
+looking-start e = rw e (record { later = refl })
 
-pub looking-more : {bs : List ℕ} {mark known i next : ℕ} → Looking bs mark known i → i < length bs → next ≡ look mark known (getD bs i 0) → Looking bs mark next (i + 1)
-unfolding looked
-looking-more {bs} {mark} {known} {i} {next} d h e =
-    record { within = omega arith; later = rw (e, add-one) (sym (ap (looked mark known) (drop-cons bs i 0 h)) ∙ d .later) }
+-- behind the header nothing changes
+pub over : (x : ℕ) (m : Mode) (bs : List ℕ) → separator-from x 2 m bs ≡ x
+unfolding separator-from
+over x m [] = refl
+over x m (b ∷ bs) = over x (step 44 m (as-comma b) .mode) bs
 
--- what is known stays
-looked-known : (mark known : ℕ) (bs : List ℕ) → 1 < known → looked mark known bs ≡ known
-unfolding looked
-looked-known mark known [] h = refl
-looked-known mark known (b ∷ bs) h = rw (lt-ltb 1 known h) (looked-known mark known bs h)
+module _ {bs : List ℕ} {x n : ℕ} {m : Mode} {i : ℕ} (d : Looking bs x n m i) where
+  module _ (h : i < length bs) {c : ℕ} (ec : c ≡ as-comma (getD bs i 0)) {s : Step} (es : s ≡ step 44 m c) {y : ℕ} (ey : y ≡ best-after x n (s .token) (getD bs i 0)) {k : ℕ} (ek : k ≡ known-after n (s .token)) where
+    pub looking-more : Looking bs y k (s .mode) (i + 1)
+    unfolding separator-from
+    looking-more = record { later = rw (ey, ek, es, ec, add-one) (sym (ap (separator-from x n m) (drop-cons bs i 0 h)) ∙ d .later) }
 
-pub looking-known : {bs : List ℕ} {mark known i next : ℕ} → Looking bs mark known i → i < length bs → next ≡ look mark known (getD bs i 0) → 1 < next → eqb next 2 ≡ first-line-has mark bs
-unfolding first-line-has
-looking-known {bs} {mark} {known} {i} {next} d h e k = ap (λ n. eqb n 2) (sym (looked-known mark next (drop (i + 1) bs) k) ∙ looking-more d h e .later)
+    pub looking-over : k ≡ 2 → {r : ℕ} → r ≡ chosen y → r ≡ separator bs
+    unfolding separator
+    looking-over z e =
+        let q : separator-from y k (s .mode) (drop (i + 1) bs) ≡ y = rw z (over y (s .mode) (drop (i + 1) bs)) in
+        e ∙ ap chosen (sym q ∙ looking-more .later)
 
-pub looking-end : {bs : List ℕ} {mark known i : ℕ} → Looking bs mark known i → length bs ≤ i → eqb known 2 ≡ first-line-has mark bs
-unfolding looked first-line-has
-looking-end {bs} {mark} {known} {i} d h = ap (λ n. eqb n 2) (sym (ap (looked mark known) (drop-of-length-le bs {i = i} h)) ∙ d .later)
+  pub looking-end : length bs ≤ i → {r : ℕ} → r ≡ chosen x → r ≡ separator bs
+  unfolding separator separator-from
+  looking-end h e = e ∙ ap chosen (sym (ap (separator-from x n m) (drop-of-length-le bs {i = i} h)) ∙ d .later)

@@ -1,8 +1,8 @@
 -- A CSV as tokens, one for each byte and one for its end: a byte of a field is itself, and what is above the bytes ends a field or a line,
 -- says nothing or is wrong. A field may stand in quotes; inside them a doubled quote is a quote and every other byte is itself. Definitions only.
-use mathlib.Core.Bool.{Bool, cond}
+use mathlib.Core.Bool.{cond}
 use mathlib.Core.List.{List, [], _∷_}
-use Prim.Native.Nat.{ℕ, _-_}
+use Prim.Native.Nat.{ℕ}
 use lib.Dec.{ltb, eqb}
 use lib.ListN.{length, getD, drop}
 use Rattle.csv.specs.declared.Mode.{Mode}
@@ -72,27 +72,40 @@ unfoldable pub tokens : (separator : ℕ) → Mode → List ℕ → List ℕ
 tokens s m [] = ending m ∷ []
 tokens s m (b ∷ bs) = step s m b .token ∷ tokens s (step s m b .mode) bs
 
--- what is known of a mark in the first line after one byte more: 0 outside quotes, 1 inside them, 2 it is there, 3 the line has ended
-abbrev pub look : (mark known b : ℕ) → ℕ
-look m n b = cond (ltb 1 n) n (cond (eqb b 34) (1 - n) (cond (eqb n 1) 1 (cond (eqb b 10) 3 (cond (eqb b 13) 3 (cond (eqb b m) 2 0)))))
-
-unfoldable pub looked : (mark known : ℕ) → List ℕ → ℕ
-looked m n [] = n
-looked m n (b ∷ bs) = looked m (look m n b) bs
-
--- whether a mark stands in the first line outside quotes
-unfoldable pub first-line-has : (mark : ℕ) → List ℕ → Bool
-first-line-has m bs = eqb (looked m 0 bs) 2
-
--- a comma where the first line has one, else a semicolon, else a tab
-unfoldable pub separator : List ℕ → ℕ
-separator bs = cond (first-line-has 44 bs) 44 (cond (first-line-has 59 bs) 59 (cond (first-line-has 9 bs) 9 44))
-
 -- how many bytes a byte-order mark, 239 187 191, takes at the start
 abbrev pub mark-size : List ℕ → ℕ
 mark-size bs =
     cond (ltb (length bs) 3) 0
     (cond (eqb (getD bs 0 0) 239) (cond (eqb (getD bs 1 0) 187) (cond (eqb (getD bs 2 0) 191) 3 0) 0) 0)
+
+-- ---- the separator: that of the header, the first line with bytes or with a separator
+
+-- while it is looked for, a semicolon (59) and a tab (9) end a field as a comma (44) does
+abbrev pub as-comma : ℕ → ℕ
+as-comma b = cond (eqb b 59) 44 (cond (eqb b 9) 44 b)
+
+-- a comma is taken before a semicolon, and that before a tab; 0 is none so far
+abbrev pub better : (best b : ℕ) → ℕ
+better x b = cond (eqb x 44) 44 (cond (eqb b 44) 44 (cond (eqb x 59) 59 b))
+
+-- before the header (0), in it (1), behind it (2)
+abbrev pub known-after : (known token : ℕ) → ℕ
+known-after n k = cond (eqb n 2) 2 (cond (eqb k 257) (cond (eqb n 0) 0 2) (cond (ltb 257 k) n 1))
+
+abbrev pub best-after : (best known token b : ℕ) → ℕ
+best-after x n k b = cond (eqb n 2) x (cond (eqb k 256) (better x b) x)
+
+unfoldable pub separator-from : (best known : ℕ) → Mode → List ℕ → ℕ
+separator-from x n m [] = x
+separator-from x n m (b ∷ bs) =
+    separator-from (best-after x n (step 44 m (as-comma b) .token) b) (known-after n (step 44 m (as-comma b) .token)) (step 44 m (as-comma b) .mode) bs
+
+-- a comma where there is none
+abbrev pub chosen : (best : ℕ) → ℕ
+chosen x = cond (eqb x 0) 44 x
+
+unfoldable pub separator : List ℕ → ℕ
+separator bs = chosen (separator-from 0 0 Start (drop (mark-size bs) bs))
 
 -- of a whole text, without its byte-order mark
 unfoldable pub csv-tokens : List ℕ → List ℕ

@@ -3,7 +3,7 @@
 // Helpers for other crates that ask nothing of their caller: read_byte, ending, Cell::empty, progress, separator, mark_size.
 // Cell::with_byte has a requirement, which its callers prove.
 ghost use mathlib.Core.Path.{_≡_};
-ghost use Rattle.csv.specs.Tokens.{start-step, plain-step, quoted-step, closing-step, return-step, step, ending, look, first-line-has, separator, mark-size};
+ghost use Rattle.csv.specs.Tokens.{start-step, plain-step, quoted-step, closing-step, return-step, step, ending, as-comma, better, known-after, best-after, chosen, separator, mark-size};
 ghost use Rattle.csv.specs.Cells.{no-bytes, class-of, after-space, after-sign, after-figure, shape-after, more, magnitude-after, with-byte, is-negative, is-number, progress};
 ghost use Prim.Native.Nat.{_<_};
 
@@ -349,61 +349,98 @@ pub fn progress(word: &[u8], n: usize, b: u8) -> usize
     word.len() + 1
 }
 
-// What is known of a mark in the first line after one byte more: 0 outside quotes, 1 inside them, 2 it is there, 3 the line has ended.
-fn look(mark: u8, known: u32, b: u8) -> u32
-    ensures { λ r. ⌜ r ≡ look mark known b ⌝ }
+// While the separator is looked for, a semicolon and a tab end a field as a comma does.
+fn as_comma(b: u8) -> u8
+    ensures { λ r. ⌜ r ≡ as-comma b ⌝ }
 {
-    if 1 < known {
-        return known;
+    if b == b';' {
+        return b',';
     }
-    if b == b'"' {
-        return 1 - known;
+    if b == b'\t' {
+        return b',';
     }
-    if known == 1 {
-        return 1;
+    b
+}
+
+// The better of two separators: a comma, else a semicolon, else a tab; `best` is 0 where there is none so far.
+fn better(best: u8, b: u8) -> u8
+    ensures { λ r. ⌜ r ≡ better best b ⌝ }
+{
+    if best == b',' {
+        return b',';
     }
-    if b == b'\n' {
-        return 3;
+    if b == b',' {
+        return b',';
     }
-    if b == b'\r' {
-        return 3;
+    if best == b';' {
+        return b';';
     }
-    if b == mark {
+    b
+}
+
+// Where the reading is after a token: before the header (0), in it (1), behind it (2).
+fn known_after(known: u32, token: u32) -> u32
+    ensures { λ r. ⌜ r ≡ known-after known token ⌝ }
+{
+    if known == 2 {
         return 2;
     }
-    0
-}
-
-// Whether a mark stands in the first line outside quotes.
-fn first_line_has(csv: &[u8], mark: u8) -> bool
-    ensures { λ r. ⌜ r ≡ first-line-has mark (now (csv .entry)) ⌝ }
-{
-    let mut known = 0;
-    let mut i = 0;
-    while i < csv.len() {
-        known = look(mark, known, csv[i]);
-        if 1 < known {
-            return known == 2;
+    if token == LINE {
+        if known == 0 {
+            return 0;
         }
-        i += 1;
+        return 2;
     }
-    known == 2
+    if LINE < token {
+        return known;
+    }
+    1
 }
 
-// The separator of a CSV.
+// The best separator after a token of the byte b.
+fn best_after(best: u8, known: u32, token: u32, b: u8) -> u8
+    ensures { λ r. ⌜ r ≡ best-after best known token b ⌝ }
+{
+    if known == 2 {
+        return best;
+    }
+    if token == FIELD {
+        return better(best, b);
+    }
+    best
+}
+
+// A comma where there is no separator.
+fn chosen(best: u8) -> u8
+    ensures { λ r. ⌜ r ≡ chosen best ⌝ }
+{
+    if best == 0 {
+        return b',';
+    }
+    best
+}
+
+// The separator of a CSV: that of its header, the first line with bytes or with a separator.
 pub fn separator(csv: &[u8]) -> u8
     ensures { λ r. ⌜ r ≡ separator (now (csv .entry)) ⌝ }
 {
-    if first_line_has(csv, b',') {
-        return b',';
+    let mut best: u8 = 0;
+    let mut known = 0;
+    let mut mode = Mode::Start;
+    let mut i = mark_size(csv);
+    while i < csv.len() {
+        let b = csv[i];
+        let step = read_byte(b',', mode, as_comma(b));
+        let token = step.token;
+        best = best_after(best, known, token, b);
+        known = known_after(known, token);
+        if known == 2 {
+            return chosen(best);
+        }
+        mode = step.mode;
+        i += 1;
     }
-    if first_line_has(csv, b';') {
-        return b';';
-    }
-    if first_line_has(csv, b'\t') {
-        return b'\t';
-    }
-    b','
+    chosen(best)
 }
 
 // How many bytes a byte-order mark takes, 0 where there is none.

@@ -8,10 +8,11 @@ use borrow.Author.Tests.{eq-eqb, ne-eqb, eqb-true, eqb-false, ltb-true, ltb-fals
 use lib.Dec.{ltb, eqb}
 use lib.ListN.{length, getD, List·getD-map}
 use Rattle.csv.specs.declared.Mode.the-variants.{Start}
-use Rattle.csv.specs.Tokens.{tokens, looked, first-line-has, separator, mark-size, csv-tokens}
-use Rattle.csv_fleet_round_trip.specs.Writing.{quoted, fields, line}
-use Rattle.csv_fleet_round_trip.specs.Back.{All, none, more}
-use Rattle.csv_fleet_round_trip.proofs.Marks.{line-over, past-quotes, first-comma, no-mark}
+use Rattle.files.specs.Bytes.{all-bytes}
+use Rattle.csv.specs.Tokens.{tokens, separator-from, separator, mark-size, csv-tokens}
+use Rattle.csv_fleet_round_trip.specs.Writing.{quoted, line}
+use Rattle.csv_fleet_round_trip.specs.Back.{All, Unit-fits, none, more}
+use Rattle.csv_fleet_round_trip.proofs.Marks.{first-comma, no-comma, no-mark}
 use Rattle.csv_cells.specs.declared.Place.{Place}
 use Rattle.csv_cells.specs.Cells.{place-from, last-place, cell-from, cell-text, line-from, line-of}
 use Rattle.csv_cells.proofs.Steps.{row-none, text-ended, moved-good, token-end}
@@ -59,24 +60,23 @@ told-at r i (suc c) k a b = by (eqb i r) refl (λ h. told-at r (i + 1) c k h (om
     by false e g = g (below i r a (eqb-false i r e))
 
 -- ---- the separator is a comma, and there is no byte-order mark
-over : (m : ℕ) (g rest : List ℕ) → looked m 0 (line (quoted g) [] ++ rest) ≡ 3
-unfolding line fields looked
-over m g rest = rw (append-assoc (quoted g) (10 ∷ []) rest) (past-quotes m g (10 ∷ rest) ∙ line-over m rest)
+row-comma : (g : List ℕ) (gs : List (List ℕ)) (rest : List ℕ) → 1 ≤ length g → all-bytes g ≡ true → separator (line (quoted g) (map quoted gs) ++ rest) ≡ 44
+unfolding separator
+row-comma g [] rest some bytes = rw (no-mark g [] rest, no-comma g rest some bytes)
+row-comma g (h ∷ hs) rest some bytes = rw (no-mark g (map quoted (h ∷ hs)) rest, first-comma g rest some bytes (h ∷ hs) (omega arith))
 
-row-comma : (g : List ℕ) (gs : List (List ℕ)) (rest : List ℕ) → separator (line (quoted g) (map quoted gs) ++ rest) ≡ 44
-unfolding separator first-line-has
-row-comma g [] rest = rw (over 44 g rest, over 59 g rest, over 9 g rest)
-row-comma g (h ∷ hs) rest = rw (first-comma g (h ∷ hs) rest (omega arith))
+no-rows : separator [] ≡ 44
+unfolding separator separator-from
+no-rows = refl
 
-no-comma : separator [] ≡ 44
-unfolding separator first-line-has looked
-no-comma = refl
+head-bytes : {g : List ℕ} {gs : List (List ℕ)} → All Unit-fits (g ∷ gs) → all-bytes g ≡ true
+head-bytes (more x xs) = x .bytes
 
 comma : (rows : List (List (List ℕ))) → All Row-fits rows → separator (rows-csv rows) ≡ 44
 unfolding rows-csv row-line
-comma [] none = no-comma
+comma [] none = no-rows
 comma ([] ∷ rows) (more a bs) = absurd (omega (arith, a .some-fields))
-comma ((g ∷ gs) ∷ rows) (more a bs) = row-comma g gs (rows-csv rows)
+comma ((g ∷ gs) ∷ rows) (more a bs) = row-comma g gs (rows-csv rows) (a .first-filled) (head-bytes (a .fields-fit))
 
 unmarked : (rows : List (List (List ℕ))) → All Row-fits rows → mark-size (rows-csv rows) ≡ 0
 unfolding rows-csv row-line

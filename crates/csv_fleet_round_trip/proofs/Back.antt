@@ -9,7 +9,7 @@ use lib.ListN.{length}
 use lib.Seq.{take-at, drop-at}
 use Rattle.csv.specs.declared.Mode.the-variants.{Start}
 use Rattle.csv.specs.Cells.{no-bytes, read-from}
-use Rattle.csv.specs.Tokens.{tokens, first-line-has, separator, mark-size, csv-tokens}
+use Rattle.csv.specs.Tokens.{tokens, separator, mark-size, csv-tokens}
 use Rattle.csv_fleet_tokens.specs.declared.Table.{Table}
 use Rattle.csv_fleet_tokens.specs.Table.{UNIT, start}
 use Rattle.csv_fleet_tokens.proofs.Steps.{after-good, token-end, line-blank, finished-boats}
@@ -27,8 +27,10 @@ module _ (f : Fleet) (i : Fleet-fits f) where
   c = length (f .columns)
 
   comma : separator (fleet-csv f) ≡ 44
-  unfolding separator first-line-has fleet-csv
-  comma = rw (first-comma (f .corner) (f .columns) (line UNIT (map quoted (f .units)) ++ boat-lines (f .boats)) (i .some-columns))
+  unfolding separator fleet-csv
+  comma =
+      let rest = line UNIT (map quoted (f .units)) ++ boat-lines (f .boats) in
+      rw (no-mark (f .corner) (map quoted (f .columns)) rest, first-comma (f .corner) rest (i .corner-fits .some) (i .corner-fits .text .bytes) (f .columns) (i .some-columns))
 
   unmarked : mark-size (fleet-csv f) ≡ 0
   unfolding fleet-csv

@@ -1,56 +1,103 @@
--- A mark looked for in the first line of a written text: what stands in quotes is passed over, and there is no byte-order mark.
+-- The separator of a written text is a comma: what stands in quotes is passed over, and there is no byte-order mark.
 use mathlib.Core.Path.{_≡_, refl, ap, _∙_}
-use mathlib.Core.Bool.{Bool, true, false, cond}
+use mathlib.Core.Bool.{Bool, true, false, cond, _&&_}
 use mathlib.Core.List.{List, [], _∷_, _++_, map, append-assoc}
-use Prim.Native.Nat.{ℕ, _≤_}
+use Prim.Native.Nat.{ℕ, _≤_, _<_}
 use native.Mathlib.Omega.{arith}
+use borrow.Author.Tests.{ltb-true, ne-eqb, le-ltb}
 use lib.Dec.{ltb, eqb}
 use lib.ListN.{length}
-use Rattle.csv.specs.Tokens.{look, looked, mark-size}
+use Rattle.files.specs.Bytes.{all-bytes}
+use Rattle.csv.specs.declared.Mode.{Mode}
+use Rattle.csv.specs.declared.Mode.the-variants.{Start, Quoted, Closing}
+use Rattle.csv.specs.Tokens.{step, as-comma, best-after, known-after, separator-from, mark-size}
+use Rattle.csv.proofs.Looking.{over}
 use Rattle.csv_fleet_round_trip.specs.Writing.{doubled, quoted, fields, line}
 
-module _ (m : ℕ) where
-  found : (bs : List ℕ) → looked m 2 bs ≡ 2
-  unfolding looked
-  found [] = refl
-  found (b ∷ bs) = found bs
+-- ---- a comma that was met stays
+stays : (n k b : ℕ) → best-after 44 n k b ≡ 44
+stays n k b = by (eqb n 2) (eqb k 256)
+  where
+    by : (p q : Bool) → _≡_ {A = ℕ} (cond p 44 (cond q 44 44)) 44
+    by true q = refl
+    by false true = refl
+    by false false = refl
 
-  pub line-over : (bs : List ℕ) → looked m 3 bs ≡ 3
-  unfolding looked
-  line-over [] = refl
-  line-over (b ∷ bs) = line-over bs
+found : (n : ℕ) (m : Mode) (bs : List ℕ) → separator-from 44 n m bs ≡ 44
+unfolding separator-from
+found n m [] = refl
+found n m (b ∷ bs) =
+    ap (λ (x : ℕ). separator-from x (known-after n (step 44 m (as-comma b) .token)) (step 44 m (as-comma b) .mode) bs) (stays n (step 44 m (as-comma b) .token) b)
+    ∙ found (known-after n (step 44 m (as-comma b) .token)) (step 44 m (as-comma b) .mode) bs
 
-  inside : (b : ℕ) → eqb b 34 ≡ false → look m 1 b ≡ 1
-  inside b e = rw e
+-- ---- what stands in quotes is passed over
+module _ (n b : ℕ) (rest : List ℕ) (e : eqb n 2 ≡ false) (h : b < 256) where
+  text-by : (p q : Bool) → eqb b 59 ≡ p → eqb b 9 ≡ q → eqb b 34 ≡ false → separator-from 0 n Quoted (b ∷ rest) ≡ separator-from 0 1 Quoted rest
+  unfolding separator-from
+  text-by true q u v f = rw (u, e)
+  text-by false true u v f = rw (u, v, e)
+  text-by false false u v f = rw (u, v, f, e, ne-eqb b 257 (λ z. omega arith), ne-eqb b 256 (λ z. omega arith), le-ltb 257 b (omega arith))
 
-  quote-byte : (b : ℕ) (rest : List ℕ) (q : Bool) → eqb b 34 ≡ q → looked m 1 (cond q (34 ∷ 34 ∷ rest) (b ∷ rest)) ≡ looked m 1 rest
-  unfolding looked
-  quote-byte b rest true e = refl
-  quote-byte b rest false e = ap (λ n. looked m n rest) (inside b e)
+  quote-byte : separator-from 0 n Quoted (34 ∷ 34 ∷ rest) ≡ separator-from 0 1 Quoted rest → (q : Bool) → eqb b 34 ≡ q → separator-from 0 n Quoted (cond q (34 ∷ 34 ∷ rest) (b ∷ rest)) ≡ separator-from 0 1 Quoted rest
+  quote-byte d true u = d
+  quote-byte d false u = text-by (eqb b 59) (eqb b 9) refl refl u
 
-  cond-append : (q : Bool) (xs ys zs : List ℕ) → cond q xs ys ++ zs ≡ cond q (xs ++ zs) (ys ++ zs)
-  cond-append true xs ys zs = refl
-  cond-append false xs ys zs = refl
+first-doubled : (rest : List ℕ) → separator-from 0 0 Quoted (34 ∷ 34 ∷ rest) ≡ separator-from 0 1 Quoted rest
+unfolding separator-from
+first-doubled rest = refl
 
-  in-quotes : (ks rest : List ℕ) → looked m 1 (doubled ks ++ rest) ≡ looked m 1 rest
-  unfolding doubled
-  in-quotes [] rest = refl
-  in-quotes (k ∷ ks) rest = rw (cond-append (eqb k 34)) (quote-byte k (doubled ks ++ rest) (eqb k 34) refl ∙ in-quotes ks rest)
+next-doubled : (rest : List ℕ) → separator-from 0 1 Quoted (34 ∷ 34 ∷ rest) ≡ separator-from 0 1 Quoted rest
+unfolding separator-from
+next-doubled rest = refl
 
-  pub past-quotes : (ks rest : List ℕ) → looked m 0 (quoted ks ++ rest) ≡ looked m 0 rest
-  unfolding quoted looked
-  past-quotes ks rest = rw (append-assoc (doubled ks) (34 ∷ []) rest) (in-quotes ks (34 ∷ rest))
+cond-append : (q : Bool) (xs ys zs : List ℕ) → cond q xs ys ++ zs ≡ cond q (xs ++ zs) (ys ++ zs)
+cond-append true xs ys zs = refl
+cond-append false xs ys zs = refl
 
-comma-next : (f : List ℕ) (fs : List (List ℕ)) (rest : List ℕ) → looked 44 0 (fields (f ∷ fs) ++ rest) ≡ 2
-unfolding fields looked
-comma-next f fs rest = found 44 ((f ++ fields fs) ++ rest)
+first-true : (a b : Bool) → (a && b) ≡ true → (a ≡ true) × (b ≡ true)
+first-true true b e = (refl, e)
+first-true false true e = (e, refl)
+first-true false false e = (e, e)
 
-pub first-comma : (corner : List ℕ) (cs : List (List ℕ)) (rest : List ℕ) → 1 ≤ length cs → looked 44 0 (line (quoted corner) (map quoted cs) ++ rest) ≡ 2
-unfolding line
-first-comma corner [] rest h = absurd (omega arith)
-first-comma corner (c ∷ cs) rest h =
-    rw (append-assoc (quoted corner) (fields (map quoted (c ∷ cs))) rest)
-    (past-quotes 44 corner (fields (map quoted (c ∷ cs)) ++ rest) ∙ comma-next (quoted c) (map quoted cs) rest)
+module _ (k : ℕ) (ks : List ℕ) (a : all-bytes (k ∷ ks) ≡ true) where
+  head-byte : k < 256
+  unfolding all-bytes
+  head-byte = ltb-true k 256 (first-true (ltb k 256) (all-bytes ks) a .0)
+
+  tail-bytes : all-bytes ks ≡ true
+  unfolding all-bytes
+  tail-bytes = first-true (ltb k 256) (all-bytes ks) a .1
+
+in-quotes : (ks rest : List ℕ) → all-bytes ks ≡ true → separator-from 0 1 Quoted (doubled ks ++ rest) ≡ separator-from 0 1 Quoted rest
+unfolding doubled
+in-quotes [] rest a = refl
+in-quotes (k ∷ ks) rest a = rw (cond-append (eqb k 34)) (quote-byte 1 k (doubled ks ++ rest) refl (head-byte k ks a) (next-doubled (doubled ks ++ rest)) (eqb k 34) refl ∙ in-quotes ks rest (tail-bytes k ks a))
+
+begun : (k : ℕ) (ks rest : List ℕ) → all-bytes (k ∷ ks) ≡ true → separator-from 0 0 Quoted (doubled (k ∷ ks) ++ rest) ≡ separator-from 0 1 Quoted rest
+unfolding doubled
+begun k ks rest a = rw (cond-append (eqb k 34)) (quote-byte 0 k (doubled ks ++ rest) refl (head-byte k ks a) (first-doubled (doubled ks ++ rest)) (eqb k 34) refl ∙ in-quotes ks rest (tail-bytes k ks a))
+
+pub past-quotes : (ks rest : List ℕ) → 1 ≤ length ks → all-bytes ks ≡ true → separator-from 0 0 Start (quoted ks ++ rest) ≡ separator-from 0 1 Closing rest
+unfolding quoted separator-from
+past-quotes [] rest h a = absurd (omega arith)
+past-quotes (k ∷ ks) rest h a = rw (append-assoc (doubled (k ∷ ks)) (34 ∷ []) rest) (begun k ks (34 ∷ rest) a)
+
+comma-next : (f : List ℕ) (fs : List (List ℕ)) (rest : List ℕ) → separator-from 0 1 Closing (fields (f ∷ fs) ++ rest) ≡ 44
+unfolding fields separator-from
+comma-next f fs rest = found 1 Start ((f ++ fields fs) ++ rest)
+
+module _ (corner : List ℕ) (rest : List ℕ) (some : 1 ≤ length corner) (bytes : all-bytes corner ≡ true) where
+  pub first-comma : (cs : List (List ℕ)) → 1 ≤ length cs → separator-from 0 0 Start (line (quoted corner) (map quoted cs) ++ rest) ≡ 44
+  unfolding line
+  first-comma [] h = absurd (omega arith)
+  first-comma (c ∷ cs) h =
+      rw (append-assoc (quoted corner) (fields (map quoted (c ∷ cs))) rest)
+      (past-quotes corner (fields (map quoted (c ∷ cs)) ++ rest) some bytes ∙ comma-next (quoted c) (map quoted cs) rest)
+
+  -- a line of one field has no separator
+  pub no-comma : separator-from 0 0 Start (line (quoted corner) [] ++ rest) ≡ 0
+  unfolding line fields separator-from
+  no-comma = rw (append-assoc (quoted corner) (10 ∷ []) rest) (past-quotes corner (10 ∷ rest) some bytes ∙ over 0 Start rest)
 
 either : (b : Bool) → _≡_ {A = ℕ} (cond b 0 0) 0
 either true = refl

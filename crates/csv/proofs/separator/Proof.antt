@@ -1,53 +1,48 @@
--- `csv::separator` meets its contract.
-use mathlib.Core.Path.{sym, _∙_}
-use Rattle.csv.specs.Tokens.{separator}
+-- `csv::separator` meets its contract. The loop keeps `Looking`: what is left of the text decides as the whole does.
+-- A turn reads one byte.
+-- It ends: the bytes that are left fall by one.
 use borrow.Author.Needs.{needs}
+use Prim.Native.Nat.{_-_}
+use lib.ListN.{length}
+use Rattle.csv.proofs.Looking.{Looking, looking-start, looking-more, looking-over, looking-end}
 use Rattle.csv.proofs.separator.Statement.{statement}
 use Rattle.csv.proofs.separator.Tie as tie
 
-first-line-has-requires : tie.Need-first-line-has-requires
-first-line-has-requires c κs = search needs
+abbrev Inv-loop : tie.InvT-loop
+Inv-loop csv best₀ known₀ mode₀ i₀ best known mode i = Looking csv best known mode i
 
-returns : tie.Need-returns
-unfolding separator
-returns c = simp (sym (c .before .first-line-has .ensures) ∙ c .if1 .taken)
+abbrev μ-loop : tie.MeasureT-loop
+μ-loop csv best₀ known₀ mode₀ i₀ best known mode i = length csv - i
 
-first-line-has-requires-2 : tie.Need-first-line-has-requires-2
-first-line-has-requires-2 c κs = search needs
+loop-holds : tie.Need-loop-holds Inv-loop μ-loop
+loop-holds c = looking-start (c .mark-size .ensures)
 
-returns-2 : tie.Need-returns-2
-unfolding separator
-returns-2 c = simp (sym (c .before .before .before .first-line-has .ensures) ∙ c .before .before .if1 .left, sym (c .before .first-line-has2 .ensures) ∙ c .if2 .taken)
+returns : tie.Need-returns Inv-loop μ-loop
+returns c = search (needs, looking-over)
 
-first-line-has-requires-3 : tie.Need-first-line-has-requires-3
-first-line-has-requires-3 c κs = search needs
+loop-again : tie.Need-loop-again Inv-loop μ-loop
+loop-again c = search (needs, looking-more)
 
-returns-3 : tie.Need-returns-3
-unfolding separator
-returns-3 c =
-    simp (
-      sym (c .before .before .before .before .before .first-line-has .ensures) ∙ c .before .before .before .before .if1 .left,
-      sym (c .before .before .before .first-line-has2 .ensures) ∙ c .before .before .if2 .left,
-      sym (c .before .first-line-has3 .ensures) ∙ c .if3 .taken,
-    )
-
-returns-4 : tie.Need-returns-4
-unfolding separator
-returns-4 c =
-    simp (
-      sym (c .before .before .before .before .before .first-line-has .ensures) ∙ c .before .before .before .before .if1 .left,
-      sym (c .before .before .before .first-line-has2 .ensures) ∙ c .before .before .if2 .left,
-      sym (c .before .first-line-has3 .ensures) ∙ c .if3 .left,
-    )
+returns-2 : tie.Need-returns-2 Inv-loop μ-loop
+returns-2 c = search (needs, looking-end)
 
 pub separator-spec : {M : Type 1} → statement M
 separator-spec =
     tie.close
     (tie.spec
-    first-line-has-requires
+    Inv-loop
+    μ-loop
+    (λ c κs. search needs)
+    loop-holds
+    (λ c. search needs)
+    (λ c κs. search needs)
+    (λ c κs. search needs)
+    (λ c κs. search needs)
+    (λ c κs. search needs)
+    (λ c κs. search needs)
     returns
-    first-line-has-requires-2
-    returns-2
-    first-line-has-requires-3
-    returns-3
-    returns-4)
+    (λ c. search needs)
+    (λ c. search needs)
+    loop-again
+    (λ c κs. search needs)
+    returns-2)
