@@ -1,6 +1,8 @@
 -- `queue_folder::queue_of` meets its contract.
 use mathlib.Core.Path.{sym}
+use Prim.Native.Nat.{ℕ}
 use native.Mathlib.Omega.{arith}
+use lib.ListN.{length-replicate}
 use lib.Seq.{length-take-le}
 use Rattle.queue_folder.proofs.Reading.{all-room, some-queue}
 use borrow.Author.Needs.{needs}
@@ -8,7 +10,7 @@ use Rattle.queue_folder.proofs.queue_of.Statement.{statement}
 use Rattle.queue_folder.proofs.queue_of.Tie as tie
 
 slice-aggregate-read-sheets : tie.Need-slice-aggregate-read-sheets
-slice-aggregate-read-sheets c = search needs
+slice-aggregate-read-sheets c = sym (length-replicate {A = ℕ} 680017 0)
 
 read-sheets-requires : tie.Need-read-sheets-requires
 read-sheets-requires c κs = (c .before .before .before .pre, all-room 680017)
