@@ -34,6 +34,7 @@ fn read_sheet(folder: &[u8], before: usize, at: usize, buffer: &mut [u8]) -> usi
 fn read_sheets(folder: &[u8], count: usize, buffer: &mut [u8]) -> Sheets
     requires { ⌜ (count ≤ most-read) × (680017 ≤ length (now buffer)) ⌝ }
     ensures { λ r. ⌜ Some-sheets count r (now (buffer .exit)) ⌝ }
+    ensures { λ _. ⌜ length (now (buffer .exit)) ≡ length (now (buffer .entry)) ⌝ }
 {
     let mut lengths = [0u32; MOST_READ];
     let mut at = 0;
@@ -47,27 +48,28 @@ fn read_sheets(folder: &[u8], count: usize, buffer: &mut [u8]) -> Sheets
     Sheets { len: at, lengths }
 }
 
-// The first of so many sheets of a folder that this number refuses, with the book: the sheets are read again, since only a refusal needs
-// to know. All of them where none is.
-fn refused_sheet(folder: &[u8], book: &[u8], count: usize, refusal: u32) -> usize
-    requires { ⌜ count ≤ most-read ⌝ }
+// The first of the sheets that were read which this number refuses, with the book; their number where none is.
+fn refused_sheet(book: &[u8], count: usize, read: Sheets, buffer: &[u8], refusal: u32) -> usize
+    requires { ⌜ (count ≤ most-read) × ((length (now buffer) ≡ 680017) × Some-sheets count read (now buffer)) ⌝ }
     ensures { λ r. ⌜ r ≤ count ⌝ }
 {
+    let lengths = read.lengths;
+    let mut at = 0;
     let mut k = 0;
     while k < count {
-        let mut sheet = [0u8; SHEET_BYTES];
-        let n = read_sheet(folder, k, 0, &mut sheet);
-        if validation::files_refusal(book, &sheet[..n]) == refusal {
+        let end = at + lengths[k] as usize;
+        if validation::files_refusal(book, &buffer[at..end]) == refusal {
             return k;
         }
+        at = end;
         k += 1;
     }
     k
 }
 
 // Names what the printed number refuses.
-fn tell_refused(folder: &[u8], book: &[u8], count: usize, refusal: u32)
-    requires { ⌜ count ≤ most-read ⌝ }
+fn tell_refused(folder: &[u8], book: &[u8], count: usize, read: Sheets, buffer: &[u8], refusal: u32)
+    requires { ⌜ (count ≤ most-read) × ((length (now buffer) ≡ 680017) × Some-sheets count read (now buffer)) ⌝ }
 {
     if refusal == 0 {
         return;
@@ -82,7 +84,7 @@ fn tell_refused(folder: &[u8], book: &[u8], count: usize, refusal: u32)
         return;
     }
     if refusal != 44 {
-        let sheet = refused_sheet(folder, book, count, refusal);
+        let sheet = refused_sheet(book, count, read, buffer, refusal);
         let name = name_of(b"sheet", sheet, b".wsh");
         tell_of(folder, name, b": this sheet is refused\n");
         return;
@@ -106,7 +108,7 @@ fn queue_of(folder: &[u8], book: &[u8], count: usize, allowance: u32) -> Text
     let lengths = read.lengths;
     let len = read.len;
     let listed = queue_listing::queue_text(book, &lengths[..count], &buffer[..len], allowance);
-    tell_refused(folder, book, count, listed.refusal);
+    tell_refused(folder, book, count, read, &buffer, listed.refusal);
     listed.text
 }
 

@@ -62,7 +62,7 @@ same-length : tie.Need-same-length Inv-loop μ-loop
 same-length c = c .before .loop .inv .1
 
 returns : tie.Need-returns Inv-loop μ-loop
-returns c = going-end (c .before .loop .inv .0) (c .loop-test .left)
+returns c = (going-end (c .before .loop .inv .0) (c .loop-test .left), c .before .loop .inv .1)
 
 pub read-sheets-spec : {M : Type 1} → statement M
 read-sheets-spec =

@@ -1,49 +1,47 @@
 -- `queue_folder::refused_sheet` meets its contract.
-use mathlib.Core.Path.{sym}
-use Prim.Native.Nat.{_-_, _≤_}
+use Prim.Native.Nat.{_-_}
 use native.Mathlib.Omega.{arith}
-use lib.Seq.{length-take-le}
-use Rattle.queue_folder.proofs.Reading.{all-room}
+use Rattle.queue_folder.proofs.Reading.{Walked, walked-start, next-within, walked-more}
 use borrow.Author.Needs.{needs}
 use Rattle.queue_folder.proofs.refused_sheet.Statement.{statement}
 use Rattle.queue_folder.proofs.refused_sheet.Tie as tie
 
--- k is at most the number of sheets, which is at most 17; a turn tries the next; the sheets that are left grow fewer
+-- the first k of the sheets have `at` bytes; a turn tries the next, which ends within the buffer; the sheets that are left grow fewer
 abbrev Inv-loop : tie.InvT-loop
-Inv-loop folder book count refusal k₀ k = (k ≤ count) × (count ≤ 17)
+Inv-loop book count buffer refusal lengths at₀ k₀ at k = Walked count lengths buffer at k
 
 abbrev μ-loop : tie.MeasureT-loop
-μ-loop folder book count refusal k₀ k = count - k
+μ-loop book count buffer refusal lengths at₀ k₀ at k = count - k
 
 loop-holds : tie.Need-loop-holds Inv-loop μ-loop
-loop-holds c = (omega arith, c .before .before .pre)
+loop-holds c = let p = c .before .before .before .pre in walked-start (p .0) (p .1 .0) (p .1 .1)
 
-slice-aggregate-read-sheet : tie.Need-slice-aggregate-read-sheet Inv-loop μ-loop
-slice-aggregate-read-sheet c = search needs
+mul-end : tie.Need-mul-end Inv-loop μ-loop
+mul-end c = search needs
 
-read-sheet-requires : tie.Need-read-sheet-requires Inv-loop μ-loop
-read-sheet-requires c κs =
-    let inv = c .before .before .loop .inv in
-    let below = c .before .loop-test .taken in
-    (omega (arith, inv .1), all-room 40001)
+array-read-end : tie.Need-array-read-end Inv-loop μ-loop
+array-read-end c = let below = c .loop-test .taken in omega (arith, c .before .loop .inv .few)
 
-array-share-prefix-sheet : tie.Need-array-share-prefix-sheet Inv-loop μ-loop
-array-share-prefix-sheet c =
-    let read = c .before .read-sheet .ensures in
-    omega (arith, read .most, read .long, all-room 40001)
+cast-end : tie.Need-cast-end Inv-loop μ-loop
+cast-end c = let inside = next-within (c .before .loop .inv) (c .loop-test .taken) in record { fits = omega (arith, inside, c .before .loop .inv .room) }
 
-slice-aggregate-files-refusal : tie.Need-slice-aggregate-files-refusal Inv-loop μ-loop
-slice-aggregate-files-refusal c =
-    let read = c .before .before .read-sheet .ensures in
-    sym (length-take-le _ _ (omega (arith, read .most, read .long, all-room 40001)))
+add-end : tie.Need-add-end Inv-loop μ-loop
+add-end c = let inside = next-within (c .before .loop .inv) (c .loop-test .taken) in record { fits = omega (arith, inside, c .before .loop .inv .room) }
+
+sub-files-refusal : tie.Need-sub-files-refusal Inv-loop μ-loop
+sub-files-refusal c = omega arith
+
+part-files-refusal-start : tie.Need-part-files-refusal-start Inv-loop μ-loop
+part-files-refusal-start c = search needs
+
+part-files-refusal-end : tie.Need-part-files-refusal-end Inv-loop μ-loop
+part-files-refusal-end c = next-within (c .before .loop .inv) (c .loop-test .taken)
 
 files-refusal-requires : tie.Need-files-refusal-requires Inv-loop μ-loop
 files-refusal-requires c κs = search needs
 
 returns : tie.Need-returns Inv-loop μ-loop
-returns c =
-    let at-test = c .before .before .before .before .before .before in
-    at-test .before .loop .inv .0
+returns c = c .before .before .before .before .loop .inv .reached
 
 add-k : tie.Need-add-k Inv-loop μ-loop
 add-k c = search needs
@@ -52,13 +50,10 @@ loop-less : tie.Need-loop-less Inv-loop μ-loop
 loop-less c = search needs
 
 loop-again : tie.Need-loop-again Inv-loop μ-loop
-loop-again c =
-    let at-test = c .before .before .before .before .before .before in
-    let below = at-test .loop-test .taken in
-    (omega arith, at-test .before .loop .inv .1)
+loop-again c = let at-test = c .before .before .before in walked-more (at-test .before .loop .inv) (at-test .loop-test .taken)
 
 returns-2 : tie.Need-returns-2 Inv-loop μ-loop
-returns-2 c = c .before .loop .inv .0
+returns-2 c = c .before .loop .inv .reached
 
 pub refused-sheet-spec : {M : Type 1} → statement M
 refused-sheet-spec =
@@ -67,10 +62,13 @@ refused-sheet-spec =
     Inv-loop
     μ-loop
     loop-holds
-    slice-aggregate-read-sheet
-    read-sheet-requires
-    array-share-prefix-sheet
-    slice-aggregate-files-refusal
+    mul-end
+    array-read-end
+    cast-end
+    add-end
+    sub-files-refusal
+    part-files-refusal-start
+    part-files-refusal-end
     files-refusal-requires
     returns
     add-k
