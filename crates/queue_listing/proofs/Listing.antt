@@ -8,8 +8,7 @@ use native.Mathlib.Omega.{arith}
 use lib.ListN.{length, getD, set, take, replicate, length-set}
 use lib.Seq.{take-suc, take-suc-set, take-all}
 use Rattle.text.specs.declared.Text.{Text}
-use Rattle.text.specs.Texts.{Holds, Adds}
-use Rattle.text.proofs.Texts.{adds-to-empty}
+use Rattle.text.specs.Texts.{Holds}
 use Rattle.listing.specs.Lines.{refused-line}
 use Rattle.sheet_queue.specs.declared.SheetRecord.{SheetRecord}
 use Rattle.sheet_queue.specs.Queue.{lengths, sheets-of, problems, queue-steps, refusal-of, records-of, records-after, queue-slots-after}
@@ -69,14 +68,14 @@ module _ {b ns bs : List ℕ} {a : ℕ} {p : Plan} {r : Outcome} {slots′ : Lis
       R .refusal-is ∙ ap (λ (n : ℕ). refusal-of n b (plan-lengths p) bs a 4096) (P .count-is)
       ∙ ⊎-elim (λ (h : 16 < length ns). too-many (length ns) b (plan-lengths p) ns bs a 4096 h) (λ (h : length ns ≤ 16). ap (λ (ms : List ℕ). refusal-of (length ns) b ms bs a 4096) (P .lengths-are h)) (below-or-not 16 (length ns))
 
-  refused-by : {t u : Text} (n : ℕ) → (n ≡ 0 → ⊥) → Holds [] t → Adds t (refused-line n) u → Holds (queue-text n (records-after n b bs a (queue-of ns))) u
+  refused-by : {t : Text} (n : ℕ) → (n ≡ 0 → ⊥) → Holds (refused-line n) t → Holds (queue-text n (records-after n b bs a (queue-of ns))) t
   unfolding queue-text
-  refused-by zero h p q = absurd (h refl)
-  refused-by (suc n) h p q = adds-to-empty p q
+  refused-by zero h q = absurd (h refl)
+  refused-by (suc n) h q = q
 
-  pub refused-listed : {t u : Text} → (r .refusal ≡ 0 → ⊥) → Holds [] t → Adds t (refused-line (r .refusal)) u → Holds (queue-listing b ns bs a) u
+  pub refused-listed : {t : Text} → (r .refusal ≡ 0 → ⊥) → Holds (refused-line (r .refusal)) t → Holds (queue-listing b ns bs a) t
   unfolding queue-listing
-  refused-listed h p q = rw (sym number-is) (refused-by (r .refusal) h p q)
+  refused-listed h q = rw (sym number-is) (refused-by (r .refusal) h q)
 
   -- of a queue that is not refused
   module _ (z : r .refusal ≡ 0) where

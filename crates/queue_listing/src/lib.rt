@@ -7,16 +7,11 @@ ghost use lib.ListN.{length, take};
 ghost use Rattle.text.specs.Texts.{text-limit, Holds, Adds};
 ghost use Rattle.queue_listing.specs.Lines.{named, verdict-words, sheet-line, sheet-lines, listing-refusal, queue-listing, Listed-right};
 ghost use Rattle.queue_listing.specs.Plans.{Plans};
+use listing::Listed;
 use queue_rounds::Outcome;
 use queue_rounds::Plan;
 use sheet_queue::SheetRecord;
 use text::Text;
-
-// The number that refuses a queue, or 0, and its text.
-pub struct Listed {
-    pub refusal: u32,
-    pub text: Text,
-}
 
 // ---- Lines
 
@@ -119,7 +114,7 @@ pub fn queue_text(book: &[u8], lengths: &[u32], sheets: &[u8], allowance: u32) -
     let outcome = queue_rounds::run_plan(plan, book, sheets, allowance, &mut shares);
     let refusal = outcome.refusal;
     if refusal != 0 {
-        let text = Text::empty().with_line(b"refused ", refusal as u64);
+        let text = listing::refused_listing(refusal);
         return Listed { refusal, text };
     }
     let text = lines(outcome);

@@ -13,24 +13,15 @@ slice-aggregate-run-plan c = search needs
 run-plan-requires : tie.Need-run-plan-requires
 run-plan-requires c κs = search needs
 
-empty-requires : tie.Need-empty-requires
-empty-requires c κs = search needs
-
-slice-aggregate-with-line : tie.Need-slice-aggregate-with-line
-slice-aggregate-with-line c = search needs
-
-cast-with-line : tie.Need-cast-with-line
-cast-with-line c = search needs
-
-with-line-requires : tie.Need-with-line-requires
-with-line-requires c κs = search needs
+refused-listing-requires : tie.Need-refused-listing-requires
+refused-listing-requires c κs = search needs
 
 returns : tie.Need-returns
 returns c =
-    let at-run = c .before .before .before .before .before in
+    let at-run = c .before .before .before in
     let R = at-run .run-plan .ensures in
     let P = at-run .before .before .plan-of .ensures in
-    (number-is P R, (refused-listed P R (c .before .before .before .if1 .taken) (c .before .before .empty .ensures) (c .with-line .ensures .0), listed-right _ _ _ _))
+    (number-is P R, (refused-listed P R (c .before .if1 .taken) (c .refused-listing .ensures), listed-right _ _ _ _))
 
 lines-requires : tie.Need-lines-requires
 lines-requires c κs =
@@ -51,10 +42,7 @@ queue-text-spec =
     plan-of-requires
     slice-aggregate-run-plan
     run-plan-requires
-    empty-requires
-    slice-aggregate-with-line
-    cast-with-line
-    with-line-requires
+    refused-listing-requires
     returns
     lines-requires
     returns-2)
