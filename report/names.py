@@ -39,16 +39,17 @@ class NotThis(Exception):
 # ---------------------------------------------------------------- tables
 
 
-def clean(text):
-    """A name on one line: characters that control, format or are no text are left out, and each run of white space is one space."""
+def clean(field):
+    """The field of a table as a name on one line: characters that control, format or are no text are left out, and each run of white space is one space."""
+    text = decoded(field.encode("latin-1"))
     kept = "".join(" " if c.isspace() else c for c in text if c.isspace() or unicodedata.category(c)[0] != "C")
     return " ".join(kept.split())
 
 
 def decoded(content):
-    """UTF-8 with or without a byte-order mark, else as spreadsheets on Windows write."""
+    """UTF-8, else as spreadsheets on Windows write."""
     try:
-        return content.decode("utf-8-sig")
+        return content.decode("utf-8")
     except UnicodeDecodeError:
         return content.decode("cp1252", errors="replace")
 
@@ -61,13 +62,14 @@ def separator_of(text):
 
 
 def table(content):
-    """The lines of a CSV as lists of fields, without empty lines; none where it is no CSV of two lines and more."""
-    text = decoded(content)
+    """The lines of a CSV as lists of fields, without empty lines; none where it is no CSV of two lines and more. A letter stands for each byte, since names
+    are the same where their bytes are."""
+    text = content.removeprefix(b"\xef\xbb\xbf").decode("latin-1")
     try:
         lines = list(csv.reader(io.StringIO(text, newline=""), delimiter=separator_of(text), strict=True))
     except csv.Error:
         return []
-    lines = [line for line in lines if any(cell.strip() for cell in line)]
+    lines = [line for line in lines if any(line)]
     return lines if len(lines) > 1 and len(lines[0]) > 1 else []
 
 
