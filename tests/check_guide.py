@@ -58,7 +58,24 @@ def examples(guide, fleet, data, book, sheet):
     wrong = [name for name, right in (("the book of examples/yard", made[4] == book), ("the sheet of examples/yard", asked[4] == sheet)) if not right]
     wrong += ["the lines of a program: %r" % text for text in (made[3], asked[3], exact.listing(book, sheet), exact.listing(book, other), data, leanings.printed(leanings.FOLDERS[""]), queues.printed(queues.FOLDERS[""], 7))
               if block(text) not in guide]
-    return wrong + [figure for figure in figures if figure not in guide]
+    return wrong + [figure for figure in figures if figure not in guide] + estimate(guide, fleet, data, book, other)
+
+
+def estimate(guide, fleet, data, book, other):
+    """What is wrong with the example of a value that is left open: its lines, the search, and what the mixture has there."""
+    hull, factors = re.search(r"(?m)^    (.*,,.*)\n    (factor,.*)$", guide).groups()
+    lines = data.decode().splitlines()
+    sheet = csv_sheets.made(fleet, "\n".join([lines[0], hull, *lines[2:], factors, ""]).encode())[4]
+    given, left = lines[1].split(","), hull.split(",")
+    place = left.index("")
+    wrong = [] if given[:place] + [""] + given[place + 1:] == left and sheet else ["the line of a value left open"]
+    if exact.listing(book, sheet) != exact.listing(book, other):
+        wrong.append("a value left open changes the search")
+    shares = [line.split()[1:] for line in exact.listing(book, sheet).decode().splitlines() if line.startswith("boat ")]
+    values = [(int(share), int(fleet.decode().splitlines()[2 + int(boat)].split(",")[place])) for boat, share in shares]
+    total, weight = sum(a * b for a, b in values), sum(a for a, _ in values)
+    said = ("%d / %d = %.2f thousandths" % (total, weight, total / weight), "(%s) / %d = %d / %d" % (" + ".join("%d × %d" % pair for pair in values), weight, total, weight))
+    return wrong + ["not on the page: " + text for text in said if text not in guide]
 
 
 def thousandths(guide, fleet):

@@ -243,13 +243,22 @@ def column_names(rows, last_line):
     return fields[1:]
 
 
-def numbers(line, fields, names, limits):
-    """The numbers of a line, one for each name, or one where there is no list of names."""
+def left_out(rows):
+    """The fields with the factor 0, by the last line of factors."""
+    fields = next((fields for _, fields in reversed(rows) if fields[:1] == ["factor"]), [])
+    return {index for index, text in enumerate(fields) if index and number(text) == 0}
+
+
+def numbers(line, fields, names, limits, may_be_empty=()):
+    """The numbers of a line, one for each name, or one where there is no list of names; 0 for an empty field where that is allowed."""
     count = 1 if names is None else len(names)
     found = []
     for index in range(1, count + 1):
         text = fields[index] if index < len(fields) else ""
         place = (line, index, (fields[0],) if names is None else (fields[0], names[index - 1]))
+        if not text and index in may_be_empty:
+            found.append(0)
+            continue
         if not text:
             raise SheetFault(FEW, "no value", *place)
         value = number(text)
@@ -278,7 +287,7 @@ def lines_by_word(rows, names):
             raise SheetFault(NAMELESS, "the hull has no name", line)
         limits = WORDS[word] if word else HULL
         each_column = word in ("", "factor")
-        found[kind] = (word, numbers(line, fields, names if each_column else None, limits) if limits else None)
+        found[kind] = (word, numbers(line, fields, names if each_column else None, limits, () if word else left_out(rows)) if limits else None)
     for kind, fault, words in (("", HULLLESS, "no hull"), ("steps", STEPLESS, 'no line "steps"'), ("tolerance", TOLERANCELESS, 'no line "tolerance"')):
         if kind not in found:
             raise SheetFault(fault, words)

@@ -37,6 +37,8 @@ tolerance each,5
 
 FACTORS = b"factor,1,1,1,0,1,1,1,1\n"
 NAMES = SHEET.split(b"\n")[0]
+# the electrical weight is left open
+OPEN = SHEET.replace(b"82,59,", b"82,,") + FACTORS
 
 
 def other(old, new, data=SHEET):
@@ -61,6 +63,22 @@ def faulty():
     yield other(b"steps,360", b"steps, ")
     yield other(b",-39,74", b",-39")
     yield other(b"338,163,", b"338,,")
+    # no value where the factor is not 0, or no number, or where the line is another
+    yield other(b"338,163,", b"338,,", OPEN)
+    yield other(b",0,", b",1,", OPEN)
+    yield other(b",0,", b",,", OPEN)
+    yield other(b",0,", b",x,", OPEN)
+    yield other(b",0,", b",0.0,", OPEN)
+    yield other(FACTORS, b"Factor,1,1,1,0,1,1,1,1\n", OPEN)
+    yield other(FACTORS, FACTORS + FACTORS.replace(b"0", b"1"), OPEN)
+    yield other(FACTORS, FACTORS.replace(b"0", b"1") + FACTORS, OPEN)
+    yield other(b"82,,", b"82, ,", OPEN)
+    yield other(b"82,,", b'82," ",', OPEN)
+    yield other(b"82,,", b"82,-,", OPEN)
+    yield other(b"82,,", b"82,2001,", OPEN)
+    yield other(b",74\n", b",74,0\n", OPEN)
+    yield other(b"steps,360", b"steps,", other(b"r,1", b"r,0", OPEN))
+    yield NAMES + b"\nHull 41\nsteps,360\ntolerance,5\nfactor,0,0,0,0,0,0,0,0\n"
     yield other(b"steps,360", b"steps")
     yield other(b"tolerance each,5", b"tolerance,,5")
     yield other(b"Hull 41,338", b"Hull 41,338,4")
@@ -127,6 +145,16 @@ def allowed():
     yield other(b"steps", b"factor,57,1,1,1,1,1,1,1\nsteps")
     yield other(b"steps", b"factor,64,0,0,0,0,0,0,0\nsteps")
     yield other(b"steps", b"factor,0,0,0,0,0,-0,0,1\nsteps")
+    # a value may be left open where the factor is 0
+    yield OPEN
+    yield other(b"82,,", b'82,"",', OPEN)
+    yield other(b",0,", b", 0 ,", OPEN)
+    yield other(b",0,", b",-00,", OPEN)
+    yield other(b"Hull 41", FACTORS + b"Hull 41", other(FACTORS, b"", OPEN))
+    yield other(b",1,1\n", b",0,0\n", other(b",-39,74", b"", OPEN))
+    yield other(b",1,1\n", b",1,0\n", other(b",-39,74\n", b",-39,,,\n", OPEN))
+    yield NAMES + b"\nfactor,0,0,0,0,0,0,0,64\nHull 41,,,,,,,,74\nsteps,360\ntolerance,5\n"
+    yield other(b"82,,", b"82,0,", OPEN)
     yield other(b"steps", b"unit\nsteps")
     yield other(b"steps", "unit,‰ D,‰ D,‰ D,‰ D,‰ D,‰ D,‰ D L,‰ D L,and more,text\nsteps".encode())
     yield SHEET + b"displacement t,29.4\nlength m,17.6\n"
@@ -199,6 +227,11 @@ def by_hand():
     yield table_of(2, 63), sheet_of(names[:63], ["0"] * 64)
     yield table_of(2, 1), sheet_of(["c0"], ["1", "2"])
     yield table_of(2, 1), sheet_of(["c0"], ["1"])
+    # a column of the name 0 has no factor by it; columns in another order than the fleet's
+    yield b"boat,0,b\nB,1,2\n", sheet_of(["0", "b"], ["", "1"])
+    yield b"boat,0,b\nB,1,2\n", sheet_of(["b", "0"], ["1", ""], ("factor,1,0", "steps,9", "tolerance,1"))
+    yield b"boat,0,b\nB,1,2\n", sheet_of(["b", "0"], ["1", ""], ("factor,0,1", "steps,9", "tolerance,1"))
+    yield table_of(2, 64), sheet_of(names, ["7"] + [""] * 63, ("factor,64" + ",0" * 63, "tolerance,4000", "steps,360"))
     long = "".join(chr(97 + j % 26) for j in range(200))
     yield ("boat,%s\nb,1\n" % long).encode(), sheet_of([long], ["1.5"])
     yield ("boat,%s\nb,1\n" % long).encode(), sheet_of([long[:-1] + "?"], ["1"])
@@ -258,7 +291,11 @@ def sheet_lines(draws, names):
         rows.append(["tolerance each", str([5, 0, 32000, draws.draw(6000)][draws.draw(4)])])
     if draws.draw(2):
         most = [2, 64 // len(names), 64][draws.draw(3) if draws.draw(3) == 0 else 1]
-        rows.append(["factor"] + [str(draws.draw(most + 1)) for _ in names])
+        rows.append(["factor"] + [str(draws.draw(most + 1) if draws.draw(3) else 0) for _ in names])
+        # mostly left open where the factor is 0
+        for j, factor in enumerate(rows[-1]):
+            if j and draws.draw(3) < (2 if factor == "0" else draws.draw(12) == 0):
+                rows[0][j] = ""
     if draws.draw(3) == 0:
         rows.append(["unit"] + [WORDS[draws.draw(len(WORDS))] for _ in range(draws.draw(len(names) + 2))])
     if draws.draw(4) == 0:
@@ -346,6 +383,7 @@ def kinds(found):
 FOLDERS = {
     "": {"fleet.csv": FLEET, "sheet.csv": SHEET},
     "factors": {"fleet.csv": FLEET, "sheet.csv": other(b"steps", FACTORS + b"steps"), "sheet.wsh": b"an older sheet"},
+    "open": {"fleet.csv": FLEET, "sheet.csv": OPEN, "sheet.wsh": b"an older sheet"},
     "faulty": {"fleet.csv": FLEET, "sheet.csv": other(b"steps,360", b"steps,400"), "sheet.wsh": b"an older sheet"},
     "fleet": {"fleet.csv": FLEET.replace(b"Eider II,341", b"Eider II,2500"), "sheet.csv": SHEET, "sheet.wsh": b"an older sheet"},
     "alone": {"sheet.csv": SHEET, "sheet.wsh": b"an older sheet"},

@@ -371,6 +371,14 @@ def estimates():
         agree("not left open, " + label, names.names_of(book, sheet, None, None).hull, "The sheet")
     with_value = hand_report(*case, factors=[1, 0, 1], fronts=(fronts[0], fronts[1].replace(b"9,,3", b"9,0,3")))
     agree("a value that is given is no estimate", (with_value.names.hull, any(with_value.names.estimated)), ("Hull 9", False))
+    # the sheets that mixsheet makes of these tables: the one above, and Hull 41 with its electrical weight left open, which is 1158 / 28 of 29.4 kg by docs/guide.md
+    made = csv_sheets.made(OPEN_FLEET.encode(), OPEN_SHEET.encode())[4]
+    agree("mixsheet leaves it open", (made.startswith(OPEN_SHEET.encode()), exact.read_sheet(made)[0]), (True, [15, 0, 3]))
+    book, sheet = csv_books.made(csv_sheets.FLEET)[4], csv_sheets.made(csv_sheets.FLEET, csv_sheets.OPEN)[4]
+    card = exact.write_card(book, sheet, bytes(1060))
+    files = {"fleet.wbk": book, "sheet.wsh": sheet, "card.wcd": card[3][:card[2]]}
+    report = mixreport.report_of(files, exact.card_listing(book, sheet, files["card.wcd"]).decode(), (None, None), DATE, *SIZES, filed=FILED)
+    agree("Hull 41 with an estimate", joined(list(words.estimate_blocks(report))[1]), ["elec weight|‰ D|41.36|1216 kg|29|52"])
 
 
 def stored():

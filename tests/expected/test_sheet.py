@@ -57,8 +57,8 @@ def main():
     if missing or refused or {sheet[-4:] for sheet in sheets} != {b"WSH1", b"WSH2"}:
         sys.exit("csv_sheets.py has no case of: %s, or a sheet that is refused: %d" % (missing, len(refused)))
     out = [b"case %d\n" % number + made_of(*pair) for number, pair in enumerate(found)]
-    names = ("", "factors", "faulty", "fleet", "alone", "longer", "none")
-    sys.stdout.buffer.write(b"".join([*out, *limits(), *(folder(name) for name in names), *(worked(name) for name in ("", "factors"))]))
+    names = ("", "factors", "open", "faulty", "fleet", "alone", "longer", "none")
+    sys.stdout.buffer.write(b"".join([*out, *limits(), *(folder(name) for name in names), *(worked(name) for name in ("", "factors", "open"))]))
 
 
 main()

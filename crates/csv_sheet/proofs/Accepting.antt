@@ -2,6 +2,7 @@
 use mathlib.Core.Path.{_≡_, refl, sym, ap, subst, _∙_}
 use mathlib.Core.Bool.{Bool, true, false, cond}
 use mathlib.Core.List.{List, [], _∷_, map}
+use mathlib.Core.Logic.{inl, inr}
 use Prim.Native.Nat.{ℕ, zero, suc, _≤_, _<_}
 use native.Mathlib.Omega.{arith}
 use borrow.Author.Tests.{eq-eqb, ne-eqb, lt-ltb, le-ltb, ltb-false}
@@ -35,6 +36,7 @@ use Rattle.csv_cells_round_trip.specs.Back.{Row-fits, Rows-read-back}
 use Rattle.csv_cells_round_trip.proofs.Back.{rows-read-back}
 use Rattle.csv_sheet_rows.specs.declared.Finding.{Finding}
 use Rattle.csv_sheet_rows.specs.Rows.{sheet-names, rows-fault}
+use Rattle.csv_sheet_rows.specs.Sound.{Said-or-open}
 use Rattle.csv_sheet_rows.proofs.Soundness.{sound}
 use Rattle.csv_column_match.specs.declared.Mismatch.{Mismatch}
 use Rattle.csv_column_match.specs.Match.{mismatch}
@@ -55,19 +57,35 @@ getD-map f (x ∷ xs) (suc i) a b h = getD-map f xs i a b (omega arith)
 again : {v : ℤ} {w u : List ℕ} → w ≡ u → Says-value v w → Says-value v u
 again {v} e s = subst (λ (x : List ℕ). Says-value v x) e s
 
+value-again : {v : ℤ} {w u : List ℕ} {r factor : ℕ} → w ≡ u → Said-or-open v w r factor → Said-or-open v u r factor
+value-again {v} {r = r} {factor = factor} e s = subst (λ (x : List ℕ). Said-or-open v x r factor) e s
+
 said-again : {fleet csv : List ℕ} {s : Sheet} (rows : List (List (List ℕ))) → All Row-fits rows → csv ≡ rows-csv rows → Figures-said (λ r f. cell-text r f csv) fleet csv s →
     Figures-said (λ r f. getD (getD rows r []) f []) fleet csv s
 unfolding Rows-read-back
 said-again {fleet} {csv} {s} rows i e g =
     let same : (r f : ℕ) → cell-text r f csv ≡ getD (getD rows r []) f [] = λ r f. ap (cell-text r f) e ∙ rows-read-back rows i .cells-back r f in
     record {
-      values = λ j h. again (same _ _) (g .values j h);
+      values = λ j h. value-again (same _ _) (g .values j h);
       factors = λ n j h. again (same _ _) (g .factors n j h);
       steps = again (same _ _) (g .steps);
       tolerance-number = g .tolerance-number;
       tolerance-said = again (same _ _) (g .tolerance-said);
       tolerance = g .tolerance;
     }
+
+-- ---- the factor of a column whose value is left open
+with-factor : (csv : List ℕ) (f : ℕ) {v : ℤ} {text : List ℕ} → Said-or-open v text (row-for 2 csv) (cell-at (row-for 2 csv) f csv .magnitude) → Said-or-open v text (row-for 2 csv) (factor-at (row-for 2 csv) csv f)
+unfolding factor-at
+with-factor csv f (inl s) = inl s
+with-factor csv f (inr o) =
+    inr
+    (record {
+      no-text = o .no-text;
+      value-none = o .value-none;
+      factors-there = o .factors-there;
+      factor-none = rw (ne-eqb (row-for 2 csv) 0 (o .factors-there)) (o .factor-none);
+    })
 
 -- ---- the sheet of a CSV without fault
 module _ {ps csv : List ℕ} (d : Ready ps csv) (z : total-fault ps csv ≡ 0) where
@@ -117,7 +135,9 @@ module _ {ps csv : List ℕ} (d : Ready ps csv) (z : total-fault ps csv ≡ 0) w
   figures fleet e =
       let g = sound csv (d .faultless) in
       record {
-        values = λ i h. rw (← e, getD-map (value-at (row-for 0 csv) csv) ps i (pos 0) 0 (rw e h)) (g .values-said (getD ps i 0) (d .first i (rw e h)) (d .last i (rw e h)));
+        values = λ i h.
+            rw (← e, getD-map (value-at (row-for 0 csv) csv) ps i (pos 0) 0 (rw e h), getD-map (factor-at (row-for 2 csv) csv) ps i 0 0 (rw e h))
+            (with-factor csv (getD ps i 0) (g .values-said (getD ps i 0) (d .first i (rw e h)) (d .last i (rw e h))));
         factors = λ n i h.
             rw (← e, getD-map (factor-at (row-for 2 csv) csv) ps i 0 0 (rw e h), ne-eqb (row-for 2 csv) 0 n) (g .factors-said n (getD ps i 0) (d .first i (rw e h)) (d .last i (rw e h)));
         steps = g .steps-said;

@@ -15,14 +15,17 @@ use Rattle.csv_cells_round_trip.specs.Writing.{rows-csv}
 use Rattle.csv_cells_round_trip.specs.Back.{Row-fits}
 use Rattle.csv_sheet_rows.specs.Kinds.{kind-at}
 use Rattle.csv_sheet_rows.specs.Rows.{sheet-names}
+use Rattle.csv_sheet_rows.specs.Sound.{Said-or-open}
 use Rattle.csv_column_match.specs.Matched.{Matched}
 use Rattle.csv_sheet.specs.Sheets.{row-for, places, tolerance-by, asked}
 use Rattle.csv_sheet.specs.declared.Made.{Made}
 
 -- what a sheet asks for is what the figures in the fields say, of which `text` gives field f of row r: each value and factor those of the field of its
--- column, the steps and the tolerance those of their rows; one tolerance for each column stands for its square times the total of the factors
+-- column, the steps and the tolerance those of their rows; one tolerance for each column stands for its square times the total of the factors. A value
+-- may be left open where the column's factor is 0: its field has no byte, and the sheet has 0
 pub record Figures-said (text : (r f : ℕ) → List ℕ) (fleet csv : List ℕ) (s : Sheet) : Type 0 where
-  pub values : (i : ℕ) → i < length (places fleet csv) → Says-value (getD (s .target) i (pos 0)) (text (row-for 0 csv) (getD (places fleet csv) i 0))
+  pub values : (i : ℕ) → i < length (places fleet csv) →
+      Said-or-open (getD (s .target) i (pos 0)) (text (row-for 0 csv) (getD (places fleet csv) i 0)) (row-for 2 csv) (getD (s .factors) i 0)
   pub factors : (row-for 2 csv ≡ 0 → ⊥) → (i : ℕ) → i < length (places fleet csv) → Says-value (pos (getD (s .factors) i 0)) (text (row-for 2 csv) (getD (places fleet csv) i 0))
   pub steps : Says-value (pos (s .steps)) (text (row-for 3 csv) 1)
   pub tolerance-number : ℕ

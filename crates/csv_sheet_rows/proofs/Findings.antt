@@ -15,7 +15,7 @@ use Rattle.csv_cells.specs.Cells.{last-place, cell-text, line-of, width}
 use Rattle.csv_cells.specs.declared.Place.{Place}
 use Rattle.csv_sheet_rows.specs.declared.Finding.{Finding}
 use Rattle.csv_sheet_rows.specs.Kinds.{kind-at, place, row-of}
-use Rattle.csv_sheet_rows.specs.Rows.{count-of, least, most, is-out, number-fault, field-fault, faulty-field, none, found-in, many-finding, numbers-finding, kind-finding, row-finding, rows-finding, sheet-names, nameless, names-finding, last-row, without, missing-finding, content-finding, rows-fault}
+use Rattle.csv_sheet_rows.specs.Rows.{count-of, least, most, is-out, number-fault, is-left-out, is-open, value-fault, field-fault, faulty-field, none, found-in, many-finding, numbers-finding, kind-finding, row-finding, rows-finding, sheet-names, nameless, names-finding, last-row, factor-row, without, missing-finding, content-finding, rows-fault}
 use Rattle.csv_sheet_rows.proofs.First.{first-stays}
 
 -- ---- how many numbers, and from where to where
@@ -126,36 +126,74 @@ module _ (k : ℕ) (c : Cell) where
       unfolding number-fault
       number-good q = rw (ne-eqb (c .size) 0 h, ← eb, p, ← eo, q)
 
-pub field-read : (k r f : ℕ) (csv : List ℕ) {c : Cell} → c ≡ read (cell-text r f csv) → {x : ℕ} → x ≡ number-fault k c → x ≡ field-fault k r f csv
+-- ---- a column to be estimated
+module _ (w : ℕ) (c : Cell) where
+  pub left-none : w ≡ 0 → false ≡ is-left-out w c
+  unfolding is-left-out
+  left-none h = rw (eq-eqb w 0 h)
+
+  module _ (h : w ≡ 0 → ⊥) {b : Bool} (eb : b ≡ is-number c) where
+    pub left-number : b ≡ true → eqb (c .magnitude) 0 ≡ is-left-out w c
+    unfolding is-left-out
+    left-number p = rw (ne-eqb w 0 h, ← eb, p)
+
+    pub left-other : b ≡ false → false ≡ is-left-out w c
+    unfolding is-left-out
+    left-other p = rw (ne-eqb w 0 h, ← eb, p)
+
+module _ (k w : ℕ) (v c : Cell) where
+  pub open-other : (k ≡ 0 → ⊥) → false ≡ is-open k w v c
+  unfolding is-open
+  open-other h = rw (ne-eqb k 0 h)
+
+  module _ (h : k ≡ 0) where
+    pub open-valued : (v .size ≡ 0 → ⊥) → false ≡ is-open k w v c
+    unfolding is-open
+    open-valued p = rw (eq-eqb k 0 h, ne-eqb (v .size) 0 p)
+
+    pub open-left : v .size ≡ 0 → {b : Bool} → b ≡ is-left-out w c → b ≡ is-open k w v c
+    unfolding is-open
+    open-left p e = e ∙ rw (eq-eqb k 0 h, eq-eqb (v .size) 0 p)
+
+  module _ {o : Bool} (eo : o ≡ is-open k w v c) where
+    pub value-open : o ≡ true → 0 ≡ value-fault k w v c
+    unfolding value-fault
+    value-open h = rw (← eo, h)
+
+    pub value-number : o ≡ false → {x : ℕ} → x ≡ number-fault k v → x ≡ value-fault k w v c
+    unfolding value-fault
+    value-number h e = e ∙ rw (← eo, h)
+
+pub field-read : (k w r f : ℕ) (csv : List ℕ) {v : Cell} → v ≡ read (cell-text r f csv) → {c : Cell} → c ≡ read (cell-text w f csv) → {x : ℕ} → x ≡ value-fault k w v c → x ≡ field-fault k w r f csv
 unfolding field-fault
-field-read k r f csv ec e = e ∙ rw ec
+field-read k w r f csv ev ec e = e ∙ rw (ev, ec)
 
 -- ---- the first faulty field
-faulty-step : (k r : ℕ) (csv : List ℕ) (n : ℕ) →
-    faulty-field k r (suc n) csv ≡ cond (eqb (faulty-field k r n csv) 0) (cond (eqb (field-fault k r (suc n) csv) 0) 0 (suc n)) (faulty-field k r n csv)
+faulty-step : (k w r : ℕ) (csv : List ℕ) (n : ℕ) →
+    faulty-field k w r (suc n) csv ≡ cond (eqb (faulty-field k w r n csv) 0) (cond (eqb (field-fault k w r (suc n) csv) 0) 0 (suc n)) (faulty-field k w r n csv)
 unfolding faulty-field
-faulty-step k r csv n = refl
+faulty-step k w r csv n = refl
 
 -- none of fields 1 to f is faulty
-pub record Faultless (k r n : ℕ) (csv : List ℕ) (f : ℕ) : Type 0 where
+pub record Faultless (k w r n : ℕ) (csv : List ℕ) (f : ℕ) : Type 0 where
   pub within : f ≤ n
-  pub so-far : faulty-field k r f csv ≡ 0
+  pub so-far : faulty-field k w r f csv ≡ 0
 
-pub faultless-start : {k r n : ℕ} {csv : List ℕ} → Faultless k r n csv 0
+pub faultless-start : {k w r n : ℕ} {csv : List ℕ} → Faultless k w r n csv 0
 unfolding faulty-field
 faultless-start = record { within = omega arith; so-far = refl }
 
-module _ {k r n : ℕ} {csv : List ℕ} {f : ℕ} (d : Faultless k r n csv f) where
-  pub faultless-more : f < n → {x : ℕ} → x ≡ field-fault k r (f + 1) csv → x ≡ 0 → Faultless k r n csv (f + 1)
-  faultless-more l ex h = record { within = omega arith; so-far = rw add-one (faulty-step k r csv f ∙ rw (d .so-far, ← (rw add-one at ex), h)) }
+module _ {k w r n : ℕ} {csv : List ℕ} {f : ℕ} (d : Faultless k w r n csv f) where
+  pub faultless-more : f < n → {x : ℕ} → x ≡ field-fault k w r (f + 1) csv → x ≡ 0 → Faultless k w r n csv (f + 1)
+  faultless-more l ex h = record { within = omega arith; so-far = rw add-one (faulty-step k w r csv f ∙ rw (d .so-far, ← (rw add-one at ex), h)) }
 
-  pub faultless-found : f < n → {x : ℕ} → x ≡ field-fault k r (f + 1) csv → (x ≡ 0 → ⊥) → f + 1 ≡ faulty-field k r n csv
+  pub faultless-found : f < n → {x : ℕ} → x ≡ field-fault k w r (f + 1) csv → (x ≡ 0 → ⊥) → f + 1 ≡ faulty-field k w r n csv
   faultless-found l {x} ex h =
-      let e : faulty-field k r (f + 1) csv ≡ f + 1 = rw add-one (faulty-step k r csv f ∙ rw (d .so-far, ← (rw add-one at ex), ne-eqb x 0 h)) in
+      let e : faulty-field k w r (f + 1) csv ≡ f + 1 = rw add-one (faulty-step k w r csv f ∙ rw (d .so-far, ← (rw add-one at ex), ne-eqb x 0 h)) in
       sym e
-      ∙ first-stays (λ y. y) (λ m. faulty-field k r m csv) (λ m. cond (eqb (field-fault k r m csv) 0) 0 m) (faulty-step k r csv) (f + 1) n (omega arith) (λ z. omega (arith, e))
+      ∙ first-stays (λ y. y) (λ m. faulty-field k w r m csv) (λ m. cond (eqb (field-fault k w r m csv) 0) 0 m) (faulty-step k w r csv) (f + 1) n (omega arith) (λ z. omega (arith, e))
 
-  pub faultless-end : n ≤ f → 0 ≡ faulty-field k r n csv
+  pub faultless-end : n ≤ f → 0 ≡ faulty-field k w r n csv
   faultless-end h = let e : n ≡ f = omega (arith, d .within) in rw e (sym (d .so-far))
 
 -- ---- the first column without a name
@@ -199,22 +237,22 @@ module _ (n r : ℕ) (csv : List ℕ) {w : ℕ} (ew : w ≡ width r csv) where
   unfolding many-finding
   many-none h e = e ∙ rw (← ew, le-ltb (n + 1) w h)
 
-module _ (k n r : ℕ) (csv : List ℕ) where
-  pub numbers-none : n ≡ 0 → {x : Finding} → x ≡ none → x ≡ numbers-finding k n r csv
+module _ (k w n r : ℕ) (csv : List ℕ) where
+  pub numbers-none : n ≡ 0 → {x : Finding} → x ≡ none → x ≡ numbers-finding k w n r csv
   unfolding numbers-finding
   numbers-none h e = e ∙ rw (eq-eqb n 0 h)
 
-  module _ (h : n ≡ 0 → ⊥) {f : ℕ} (ef : f ≡ faulty-field k r n csv) where
-    pub numbers-many : f ≡ 0 → {x : Finding} → x ≡ many-finding n r csv → x ≡ numbers-finding k n r csv
+  module _ (h : n ≡ 0 → ⊥) {f : ℕ} (ef : f ≡ faulty-field k w r n csv) where
+    pub numbers-many : f ≡ 0 → {x : Finding} → x ≡ many-finding n r csv → x ≡ numbers-finding k w n r csv
     unfolding numbers-finding
     numbers-many z e = e ∙ rw (ne-eqb n 0 h, ← ef, eq-eqb f 0 z)
 
-    pub numbers-faulty : (f ≡ 0 → ⊥) → {y : ℕ} → y ≡ field-fault k r f csv → {x : Finding} → x ≡ found-in r f y csv → x ≡ numbers-finding k n r csv
+    pub numbers-faulty : (f ≡ 0 → ⊥) → {y : ℕ} → y ≡ field-fault k w r f csv → {x : Finding} → x ≡ found-in r f y csv → x ≡ numbers-finding k w n r csv
     unfolding numbers-finding
     numbers-faulty z ey e = e ∙ rw (ey, ne-eqb n 0 h, ← ef, ne-eqb f 0 z)
 
-module _ (k c r : ℕ) (csv : List ℕ) where
-  pub row-blank : k ≡ 8 → {x : Finding} → x ≡ none → x ≡ kind-finding k c r csv
+module _ (k w c r : ℕ) (csv : List ℕ) where
+  pub row-blank : k ≡ 8 → {x : Finding} → x ≡ none → x ≡ kind-finding k w c r csv
   unfolding kind-finding
   row-blank h e = e ∙ rw (eq-eqb k 8 h)
 
@@ -222,47 +260,47 @@ module _ (k c r : ℕ) (csv : List ℕ) where
     before : o ≡ row-of (place k) (r - 1) csv
     before = eo ∙ ap (λ q. row-of q (r - 1) csv) ep
 
-    pub row-again : (o ≡ 0 → ⊥) → {x : Finding} → x ≡ found-in r 0 14 csv → x ≡ kind-finding k c r csv
+    pub row-again : (o ≡ 0 → ⊥) → {x : Finding} → x ≡ found-in r 0 14 csv → x ≡ kind-finding k w c r csv
     unfolding kind-finding
     row-again z e = e ∙ rw (ne-eqb k 8 h, ← before, ne-eqb o 0 z)
 
     module _ (z : o ≡ 0) {s : ℕ} (es : s ≡ length (cell-text r 0 csv)) where
-      pub row-nameless : s ≡ 0 → {x : Finding} → x ≡ found-in r 0 2 csv → x ≡ kind-finding k c r csv
+      pub row-nameless : s ≡ 0 → {x : Finding} → x ≡ found-in r 0 2 csv → x ≡ kind-finding k w c r csv
       unfolding kind-finding
       row-nameless y e = e ∙ rw (ne-eqb k 8 h, ← before, eq-eqb o 0 z, ← es, eq-eqb s 0 y)
 
-      pub row-numbers : (s ≡ 0 → ⊥) → {n : ℕ} → n ≡ count-of k c → {x : Finding} → x ≡ numbers-finding k n r csv → x ≡ kind-finding k c r csv
+      pub row-numbers : (s ≡ 0 → ⊥) → {n : ℕ} → n ≡ count-of k c → {x : Finding} → x ≡ numbers-finding k w n r csv → x ≡ kind-finding k w c r csv
       unfolding kind-finding
       row-numbers y en e = e ∙ rw (en, ne-eqb k 8 h, ← before, eq-eqb o 0 z, ← es, ne-eqb s 0 y)
 
-pub row-of-kind : (c r : ℕ) (csv : List ℕ) {k : ℕ} → k ≡ kind-at r csv → {x : Finding} → x ≡ kind-finding k c r csv → x ≡ row-finding c r csv
-row-of-kind c r csv ek e = e ∙ rw ek
+pub row-of-kind : (w c r : ℕ) (csv : List ℕ) {k : ℕ} → k ≡ kind-at r csv → {x : Finding} → x ≡ kind-finding k w c r csv → x ≡ row-finding w c r csv
+row-of-kind w c r csv ek e = e ∙ rw ek
 
 -- ---- the first faulty row
-rows-step : (c : ℕ) (csv : List ℕ) (n : ℕ) →
-    rows-finding c (suc n) csv ≡ cond (eqb (rows-finding c n csv .fault) 0) (row-finding c (suc n) csv) (rows-finding c n csv)
+rows-step : (w c : ℕ) (csv : List ℕ) (n : ℕ) →
+    rows-finding w c (suc n) csv ≡ cond (eqb (rows-finding w c n csv .fault) 0) (row-finding w c (suc n) csv) (rows-finding w c n csv)
 unfolding rows-finding
-rows-step c csv n = refl
+rows-step w c csv n = refl
 
 -- x is what was found in rows 1 to r
-pub record Rows-read (c n : ℕ) (csv : List ℕ) (x : Finding) (r : ℕ) : Type 0 where
+pub record Rows-read (w c n : ℕ) (csv : List ℕ) (x : Finding) (r : ℕ) : Type 0 where
   pub within : r ≤ n
-  pub so-far : x ≡ rows-finding c r csv
+  pub so-far : x ≡ rows-finding w c r csv
 
-pub rows-start : {c n : ℕ} {csv : List ℕ} {x : Finding} → x ≡ none → Rows-read c n csv x 0
+pub rows-start : {w c n : ℕ} {csv : List ℕ} {x : Finding} → x ≡ none → Rows-read w c n csv x 0
 unfolding rows-finding
 rows-start e = record { within = omega arith; so-far = e }
 
-module _ {c n : ℕ} {csv : List ℕ} {x : Finding} {r : ℕ} (d : Rows-read c n csv x r) where
-  pub rows-more : r < n → x .fault ≡ 0 → {y : Finding} → y ≡ row-finding c (r + 1) csv → Rows-read c n csv y (r + 1)
-  rows-more l h e = record { within = omega arith; so-far = e ∙ rw add-one (sym (rows-step c csv r ∙ rw (← d .so-far, eq-eqb (x .fault) 0 h))) }
+module _ {w c n : ℕ} {csv : List ℕ} {x : Finding} {r : ℕ} (d : Rows-read w c n csv x r) where
+  pub rows-more : r < n → x .fault ≡ 0 → {y : Finding} → y ≡ row-finding w c (r + 1) csv → Rows-read w c n csv y (r + 1)
+  rows-more l h e = record { within = omega arith; so-far = e ∙ rw add-one (sym (rows-step w c csv r ∙ rw (← d .so-far, eq-eqb (x .fault) 0 h))) }
 
-  pub rows-found : r < n → (x .fault ≡ 0 → ⊥) → x ≡ rows-finding c n csv
+  pub rows-found : r < n → (x .fault ≡ 0 → ⊥) → x ≡ rows-finding w c n csv
   rows-found l h =
       d .so-far
-      ∙ first-stays (λ y. y .fault) (λ m. rows-finding c m csv) (λ m. row-finding c m csv) (rows-step c csv) r n (omega arith) (λ z. h (ap (λ y. y .fault) (d .so-far) ∙ z))
+      ∙ first-stays (λ y. y .fault) (λ m. rows-finding w c m csv) (λ m. row-finding w c m csv) (rows-step w c csv) r n (omega arith) (λ z. h (ap (λ y. y .fault) (d .so-far) ∙ z))
 
-  pub rows-end : n ≤ r → x ≡ rows-finding c n csv
+  pub rows-end : n ≤ r → x ≡ rows-finding w c n csv
   rows-end h = let e : n ≡ r = omega (arith, d .within) in rw e (d .so-far)
 
 -- ---- the column names
@@ -328,9 +366,9 @@ module _ (csv : List ℕ) {l : ℕ} (el : l ≡ last-row csv) where
     unfolding content-finding
     content-names p = rw (few, ← ex, ne-eqb (x .fault) 0 p)
 
-    module _ (p : x .fault ≡ 0) {c : ℕ} (ec : c ≡ sheet-names csv) {y : Finding} (ey : y ≡ rows-finding c l csv) where
-      rows-are : y ≡ rows-finding (sheet-names csv) (last-row csv) csv
-      rows-are = ey ∙ rw (ec, el)
+    module _ (p : x .fault ≡ 0) {w : ℕ} (ew : w ≡ row-of 2 l csv) {c : ℕ} (ec : c ≡ sheet-names csv) {y : Finding} (ey : y ≡ rows-finding w c l csv) where
+      rows-are : y ≡ rows-finding (factor-row csv) (sheet-names csv) (last-row csv) csv
+      rows-are = ey ∙ rw (ew, ec, el)
 
       pub content-rows : (y .fault ≡ 0 → ⊥) → y ≡ content-finding csv
       unfolding content-finding

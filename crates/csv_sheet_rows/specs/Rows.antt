@@ -33,16 +33,29 @@ is-out k c =
 unfoldable pub number-fault : (kind : ℕ) → Cell → ℕ
 number-fault k c = cond (eqb (c .size) 0) 5 (cond (is-number c) (cond (is-out k c) 7 0) 6)
 
-unfoldable pub field-fault : (kind r f : ℕ) → List ℕ → ℕ
-field-fault k r f csv = number-fault k (read (cell-text r f csv))
+-- ---- a column to be estimated: w is the row of factors, 0 where there is none
+
+-- whether the field of a column in that row says that it is left out
+unfoldable pub is-left-out : (w : ℕ) → Cell → Bool
+is-left-out w c = cond (eqb w 0) false (cond (is-number c) (eqb (c .magnitude) 0) false)
+
+-- a hull may have no value in a column that is left out
+unfoldable pub is-open : (kind w : ℕ) → (value factor : Cell) → Bool
+is-open k w v c = cond (eqb k 0) (cond (eqb (v .size) 0) (is-left-out w c) false) false
+
+unfoldable pub value-fault : (kind w : ℕ) → (value factor : Cell) → ℕ
+value-fault k w v c = cond (is-open k w v c) 0 (number-fault k v)
+
+unfoldable pub field-fault : (kind w r f : ℕ) → List ℕ → ℕ
+field-fault k w r f csv = value-fault k w (read (cell-text r f csv)) (read (cell-text w f csv))
 
 -- the first of fields 1 to n that is faulty, 0 if none is
-unfoldable pub faulty-field : (kind r n : ℕ) → List ℕ → ℕ
-faulty-field k r zero csv = 0
-faulty-field k r (suc n) csv =
-    cond (eqb (faulty-field k r n csv) 0) (cond (eqb (field-fault k r (suc n) csv) 0) 0 (suc n)) (faulty-field k r n csv)
+unfoldable pub faulty-field : (kind w r n : ℕ) → List ℕ → ℕ
+faulty-field k w r zero csv = 0
+faulty-field k w r (suc n) csv =
+    cond (eqb (faulty-field k w r n csv) 0) (cond (eqb (field-fault k w r (suc n) csv) 0) 0 (suc n)) (faulty-field k w r n csv)
 
--- ---- a row after that of the column names, c columns
+-- ---- a row after that of the column names, c columns, factors in row w
 
 abbrev pub none : Finding
 none = record { fault = 0; line = 0; row = 0; field = 0 }
@@ -54,25 +67,25 @@ found-in r f x csv = record { fault = x; line = line-of r csv; row = r; field = 
 unfoldable pub many-finding : (n r : ℕ) → List ℕ → Finding
 many-finding n r csv = cond (ltb (n + 1) (width r csv)) (found-in r (n + 1) 24 csv) none
 
-unfoldable pub numbers-finding : (kind n r : ℕ) → List ℕ → Finding
-numbers-finding k n r csv =
+unfoldable pub numbers-finding : (kind w n r : ℕ) → List ℕ → Finding
+numbers-finding k w n r csv =
     cond (eqb n 0) none
-    (cond (eqb (faulty-field k r n csv) 0) (many-finding n r csv) (found-in r (faulty-field k r n csv) (field-fault k r (faulty-field k r n csv) csv) csv))
+    (cond (eqb (faulty-field k w r n csv) 0) (many-finding n r csv) (found-in r (faulty-field k w r n csv) (field-fault k w r (faulty-field k w r n csv) csv) csv))
 
 -- 14 a second row of a kind, 2 a hull without a name
-unfoldable pub kind-finding : (kind c r : ℕ) → List ℕ → Finding
-kind-finding k c r csv =
+unfoldable pub kind-finding : (kind w c r : ℕ) → List ℕ → Finding
+kind-finding k w c r csv =
     cond (eqb k 8) none
     (cond (eqb (row-of (place k) (r - 1) csv) 0)
-    (cond (eqb (length (cell-text r 0 csv)) 0) (found-in r 0 2 csv) (numbers-finding k (count-of k c) r csv)) (found-in r 0 14 csv))
+    (cond (eqb (length (cell-text r 0 csv)) 0) (found-in r 0 2 csv) (numbers-finding k w (count-of k c) r csv)) (found-in r 0 14 csv))
 
-abbrev pub row-finding : (c r : ℕ) → List ℕ → Finding
-row-finding c r csv = kind-finding (kind-at r csv) c r csv
+abbrev pub row-finding : (w c r : ℕ) → List ℕ → Finding
+row-finding w c r csv = kind-finding (kind-at r csv) w c r csv
 
 -- the first of rows 1 to n that is faulty
-unfoldable pub rows-finding : (c n : ℕ) → List ℕ → Finding
-rows-finding c zero csv = none
-rows-finding c (suc n) csv = cond (eqb (rows-finding c n csv .fault) 0) (row-finding c (suc n) csv) (rows-finding c n csv)
+unfoldable pub rows-finding : (w c n : ℕ) → List ℕ → Finding
+rows-finding w c zero csv = none
+rows-finding w c (suc n) csv = cond (eqb (rows-finding w c n csv .fault) 0) (row-finding w c (suc n) csv) (rows-finding w c n csv)
 
 -- ---- the column names
 
@@ -96,6 +109,10 @@ names-finding csv =
 abbrev pub last-row : List ℕ → ℕ
 last-row csv = last-place csv .row - 1
 
+-- the row of factors, before or after the hull's; 0 where there is none
+abbrev pub factor-row : List ℕ → ℕ
+factor-row csv = row-of 2 (last-row csv) csv
+
 abbrev pub without : (fault : ℕ) → Finding
 without x = record { fault = x; line = 0; row = 0; field = 0 }
 
@@ -111,7 +128,8 @@ unfoldable pub content-finding : List ℕ → Finding
 content-finding csv =
     cond (ltb 16 (last-place csv .row)) (found-in 16 0 13 csv)
     (cond (eqb (names-finding csv .fault) 0)
-    (cond (eqb (rows-finding (sheet-names csv) (last-row csv) csv .fault) 0) (missing-finding (last-row csv) csv) (rows-finding (sheet-names csv) (last-row csv) csv)) (names-finding csv))
+    (cond (eqb (rows-finding (factor-row csv) (sheet-names csv) (last-row csv) csv .fault) 0) (missing-finding (last-row csv) csv)
+    (rows-finding (factor-row csv) (sheet-names csv) (last-row csv) csv)) (names-finding csv))
 
 -- the first fault, that of quotes and lengths before the others
 unfoldable pub rows-fault : List ℕ → Finding

@@ -9,7 +9,7 @@ ghost use Rattle.csv.specs.Cells.{read};
 ghost use Rattle.csv_cells.specs.Cells.{cell-text};
 ghost use Rattle.csv_slots.specs.Slots.{Room, Held};
 ghost use Rattle.csv_sheet_rows.specs.Kinds.{kind-of, kind-at, place, row-of};
-ghost use Rattle.csv_sheet_rows.specs.Rows.{count-of, least, most, is-out, number-fault, field-fault, faulty-field, none, found-in, many-finding, numbers-finding, kind-finding, row-finding, rows-finding, sheet-names, nameless, names-finding, last-row, without, missing-finding, content-finding, rows-fault};
+ghost use Rattle.csv_sheet_rows.specs.Rows.{count-of, least, most, is-out, number-fault, is-left-out, is-open, value-fault, field-fault, faulty-field, none, found-in, many-finding, numbers-finding, kind-finding, row-finding, rows-finding, sheet-names, nameless, names-finding, last-row, without, missing-finding, content-finding, rows-fault};
 use csv::Cell;
 
 // What a row is: a hull, units, factors, steps, a tolerance in all or for each column, two for the report, or without text.
@@ -268,28 +268,80 @@ fn number_fault(kind: u32, cell: Cell) -> u32
     NOT_WHOLE
 }
 
-// What is wrong with a field of a row, or 0.
-fn field_fault(csv: &[u8], kind: u32, row: usize, field: usize) -> u32
-    requires { ⌜ length (now csv) ≤ 200000 ⌝ }
-    ensures { λ r. ⌜ r ≡ field-fault kind row field (now (csv .entry)) ⌝ }
+// Whether a column is left out: it has the factor 0. `factors` is the row of factors, 0 where there is none.
+fn is_left_out(factors: usize, factor: Cell) -> bool
+    ensures { λ r. ⌜ r ≡ is-left-out factors factor ⌝ }
 {
-    number_fault(kind, cell_at(csv, row, field))
+    if factors == 0 {
+        return false;
+    }
+    if factor.is_number() {
+        return factor.magnitude == 0;
+    }
+    false
+}
+
+// Whether a hull's value is left open.
+fn is_open(kind: u32, factors: usize, value: Cell, factor: Cell) -> bool
+    ensures { λ r. ⌜ r ≡ is-open kind factors value factor ⌝ }
+{
+    if kind != HULL {
+        return false;
+    }
+    if value.size != 0 {
+        return false;
+    }
+    is_left_out(factors, factor)
+}
+
+// What is wrong with a number of a row, or 0: a hull may have none in a column that is left out.
+fn value_fault(kind: u32, factors: usize, value: Cell, factor: Cell) -> u32
+    ensures { λ r. ⌜ r ≡ value-fault kind factors value factor ⌝ }
+{
+    if is_open(kind, factors, value, factor) {
+        return 0;
+    }
+    number_fault(kind, value)
+}
+
+// What is wrong with a field of a row, or 0.
+fn field_fault(csv: &[u8], kind: u32, factors: usize, row: usize, field: usize) -> u32
+    requires { ⌜ length (now csv) ≤ 200000 ⌝ }
+    ensures { λ r. ⌜ r ≡ field-fault kind factors row field (now (csv .entry)) ⌝ }
+{
+    let value = cell_at(csv, row, field);
+    let factor = cell_at(csv, factors, field);
+    value_fault(kind, factors, value, factor)
+}
+
+// The number in a field of the one row whose fields are in the slots.
+fn read_slot(sizes: &[u8], cells: &[u8], field: usize) -> Cell
+    requires { ⌜ Room 1 (now sizes) (now cells) ⌝ }
+    requires { ⌜ field ≤ 64 ⌝ }
+    ensures { λ r. ⌜ ((row : ℕ) (csv : List ℕ) → Held row 1 csv (now (sizes .entry)) (now (cells .entry)) → r ≡ read (cell-text row field csv)) ⌝ }
+{
+    let text = csv_slots::cell(cells, sizes, field);
+    read(text)
 }
 
 // The first of fields 1 to `n` that is faulty, 0 if none is.
-fn faulty_field(csv: &[u8], kind: u32, row: usize, n: usize) -> usize
+fn faulty_field(csv: &[u8], kind: u32, factors: usize, row: usize, n: usize) -> usize
     requires { ⌜ length (now csv) ≤ 200000 ⌝ }
     requires { ⌜ n ≤ 64 ⌝ }
-    ensures { λ r. ⌜ r ≡ faulty-field kind row n (now (csv .entry)) ⌝ }
+    ensures { λ r. ⌜ r ≡ faulty-field kind factors row n (now (csv .entry)) ⌝ }
 {
     let mut sizes = [0u8; 65];
     let mut cells = [0u8; 13000];
     csv_slots::put_rows(csv, row, 1, &mut sizes, &mut cells);
+    let mut factor_sizes = [0u8; 65];
+    let mut factor_cells = [0u8; 13000];
+    csv_slots::put_rows(csv, factors, 1, &mut factor_sizes, &mut factor_cells);
     let mut field = 0;
     while field < n {
         field += 1;
-        let text = csv_slots::cell(&cells, &sizes, field);
-        if number_fault(kind, read(text)) != 0 {
+        let value = read_slot(&sizes, &cells, field);
+        let factor = read_slot(&factor_sizes, &factor_cells, field);
+        if value_fault(kind, factors, value, factor) != 0 {
             return field;
         }
     }
@@ -334,28 +386,28 @@ fn many_finding(csv: &[u8], n: usize, row: usize) -> Finding
 }
 
 // What is wrong with the `n` numbers of a row.
-fn numbers_finding(csv: &[u8], kind: u32, n: usize, row: usize) -> Finding
+fn numbers_finding(csv: &[u8], kind: u32, factors: usize, n: usize, row: usize) -> Finding
     requires { ⌜ length (now csv) ≤ 200000 ⌝ }
     requires { ⌜ n ≤ 64 ⌝ }
-    ensures { λ r. ⌜ r ≡ numbers-finding kind n row (now (csv .entry)) ⌝ }
+    ensures { λ r. ⌜ r ≡ numbers-finding kind factors n row (now (csv .entry)) ⌝ }
 {
     if n == 0 {
         return none();
     }
-    let field = faulty_field(csv, kind, row, n);
+    let field = faulty_field(csv, kind, factors, row, n);
     if field == 0 {
         return many_finding(csv, n, row);
     }
-    found_in(csv, row, field, field_fault(csv, kind, row, field))
+    found_in(csv, row, field, field_fault(csv, kind, factors, row, field))
 }
 
 // What is wrong with a row of a kind, whose kind may not stand before it.
-fn kind_finding(csv: &[u8], kind: u32, columns: usize, row: usize) -> Finding
+fn kind_finding(csv: &[u8], kind: u32, factors: usize, columns: usize, row: usize) -> Finding
     requires { ⌜ length (now csv) ≤ 200000 ⌝ }
     requires { ⌜ columns ≤ 64 ⌝ }
     requires { ⌜ 1 ≤ row ⌝ }
     requires { ⌜ row ≤ 15 ⌝ }
-    ensures { λ r. ⌜ r ≡ kind-finding kind columns row (now (csv .entry)) ⌝ }
+    ensures { λ r. ⌜ r ≡ kind-finding kind factors columns row (now (csv .entry)) ⌝ }
 {
     if kind == BLANK {
         return none();
@@ -366,26 +418,26 @@ fn kind_finding(csv: &[u8], kind: u32, columns: usize, row: usize) -> Finding
     if size_at(csv, row, 0) == 0 {
         return found_in(csv, row, 0, NAMELESS);
     }
-    numbers_finding(csv, kind, count_of(kind, columns), row)
+    numbers_finding(csv, kind, factors, count_of(kind, columns), row)
 }
 
 // What is wrong with a row after that of the column names.
-fn row_finding(csv: &[u8], columns: usize, row: usize) -> Finding
+fn row_finding(csv: &[u8], factors: usize, columns: usize, row: usize) -> Finding
     requires { ⌜ length (now csv) ≤ 200000 ⌝ }
     requires { ⌜ columns ≤ 64 ⌝ }
     requires { ⌜ 1 ≤ row ⌝ }
     requires { ⌜ row ≤ 15 ⌝ }
-    ensures { λ r. ⌜ r ≡ row-finding columns row (now (csv .entry)) ⌝ }
+    ensures { λ r. ⌜ r ≡ row-finding factors columns row (now (csv .entry)) ⌝ }
 {
-    kind_finding(csv, kind_at(csv, row), columns, row)
+    kind_finding(csv, kind_at(csv, row), factors, columns, row)
 }
 
-// What is wrong with the first of rows 1 to `n` that is faulty.
-fn rows_finding(csv: &[u8], columns: usize, n: usize) -> Finding
+// What is wrong with the first of rows 1 to `n` that is faulty; `factors` is the row of factors, 0 where there is none.
+fn rows_finding(csv: &[u8], factors: usize, columns: usize, n: usize) -> Finding
     requires { ⌜ length (now csv) ≤ 200000 ⌝ }
     requires { ⌜ columns ≤ 64 ⌝ }
     requires { ⌜ n ≤ 15 ⌝ }
-    ensures { λ r. ⌜ r ≡ rows-finding columns n (now (csv .entry)) ⌝ }
+    ensures { λ r. ⌜ r ≡ rows-finding factors columns n (now (csv .entry)) ⌝ }
 {
     let mut found = none();
     let mut row = 0;
@@ -394,7 +446,7 @@ fn rows_finding(csv: &[u8], columns: usize, n: usize) -> Finding
             return found;
         }
         row += 1;
-        found = row_finding(csv, columns, row);
+        found = row_finding(csv, factors, columns, row);
     }
     found
 }
@@ -502,7 +554,8 @@ fn content_finding(csv: &[u8]) -> Finding
     if names.fault != 0 {
         return names;
     }
-    let rows = rows_finding(csv, columns(csv), last);
+    let factors = row_of(csv, FACTORS, last);
+    let rows = rows_finding(csv, factors, columns(csv), last);
     if rows.fault != 0 {
         return rows;
     }

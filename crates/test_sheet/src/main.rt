@@ -83,6 +83,7 @@ fn main() {
     limits();
     folder(b"");
     folder(b"factors");
+    folder(b"open");
     folder(b"faulty");
     folder(b"fleet");
     folder(b"alone");
@@ -90,4 +91,5 @@ fn main() {
     folder(b"none");
     worked(b"");
     worked(b"factors");
+    worked(b"open");
 }

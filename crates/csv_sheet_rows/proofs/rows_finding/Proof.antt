@@ -6,10 +6,10 @@ use Rattle.csv_sheet_rows.proofs.rows_finding.Statement.{statement}
 use Rattle.csv_sheet_rows.proofs.rows_finding.Tie as tie
 
 abbrev Inv-loop : tie.InvT-loop
-Inv-loop csv columns n found₀ row₀ found row = Rows-read columns n csv found row
+Inv-loop csv factors columns n found₀ row₀ found row = Rows-read factors columns n csv found row
 
 abbrev μ-loop : tie.MeasureT-loop
-μ-loop csv columns n found₀ row₀ found row = n - row
+μ-loop csv factors columns n found₀ row₀ found row = n - row
 
 loop-holds : tie.Need-loop-holds Inv-loop μ-loop
 loop-holds c = search (needs, rows-start)
