@@ -37,7 +37,9 @@ returns-2 c =
     set-refuses (start .args .released) _ _ (start .pre) (at-book .book-refusal .ensures) (at-if1 .if1 .left) (at-boats .boats .ensures) _ (c .before .set-refusal .ensures) (c .if2 .taken)
 
 columns-requires : tie.Need-columns-requires
-columns-requires c κs = book-accepted _ (sym (c .before .before .before .before .book-refusal .ensures) ∙ c .before .before .before .if1 .left) .at-least
+columns-requires c κs =
+    let at-book-refusal = c .before .before .before .before in
+    book-accepted _ (sym (at-book-refusal .book-refusal .ensures) ∙ c .before .before .before .if1 .left) .at-least
 
 cast-sheet-refusal : tie.Need-cast-sheet-refusal
 cast-sheet-refusal c = search needs

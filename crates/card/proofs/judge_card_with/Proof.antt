@@ -47,44 +47,49 @@ form-refusal-requires c κs =
 
 returns-2 : tie.Need-returns-2
 returns-2 c =
+    let at-if1 = c .before .before .before .before in
     let at-layout-of = c .before .before .before .before .before in
     let start = at-layout-of .before .before .before .before .before .before in
     let accepted = start .pre in
-    refused-by-form (start .args .released) (start .args .lent) (start .args .table .now) _ _ _ _ accepted (at-layout-of .layout-of .ensures) (c .before .before .before .before .if1 .left) refl (c .before .before .steps2 .ensures ∙ rw (c .before .before .before .steps .ensures)) (c .before .form-refusal .ensures) (c .if2 .taken)
+    refused-by-form (start .args .released) (start .args .lent) (start .args .table .now) _ _ _ _ accepted (at-layout-of .layout-of .ensures) (at-if1 .if1 .left) refl (c .before .before .steps2 .ensures ∙ rw (c .before .before .before .steps .ensures)) (c .before .form-refusal .ensures) (c .if2 .taken)
 
 pair-count-requires : tie.Need-pair-count-requires
 pair-count-requires c κs =
+    let at-if1 = c .before .before .before .before in
     let at-layout-of = c .before .before .before .before .before in
     let start = at-layout-of .before .before .before .before .before .before in
     let accepted = start .pre in
-    formed _ _ _ _ (form-zero (start .args .released) (start .args .lent) (start .args .table .now) _ _ _ (now (start .args .shares)) accepted (at-layout-of .layout-of .ensures) (c .before .before .before .before .if1 .left) refl (c .before .before .steps2 .ensures ∙ rw (c .before .before .before .steps .ensures)) (c .before .form-refusal .ensures) (c .if2 .left)) .readable .long
+    formed _ _ _ _ (form-zero (start .args .released) (start .args .lent) (start .args .table .now) _ _ _ (now (start .args .shares)) accepted (at-layout-of .layout-of .ensures) (at-if1 .if1 .left) refl (c .before .before .steps2 .ensures ∙ rw (c .before .before .before .steps .ensures)) (c .before .form-refusal .ensures) (c .if2 .left)) .readable .long
 
 sub-shares-of : tie.Need-sub-shares-of
 sub-shares-of c =
+    let at-steps = c .before .before .before .before in
     let at-if1 = c .before .before .before .before .before in
     let at-layout-of = at-if1 .before in
     let start = at-layout-of .before .before .before .before .before .before in
     let accepted = start .pre in
-    formed _ _ _ _ (form-zero (start .args .released) (start .args .lent) (start .args .table .now) _ _ _ (now (start .args .shares)) accepted (at-layout-of .layout-of .ensures) (at-if1 .if1 .left) refl (c .before .before .before .steps2 .ensures ∙ rw (c .before .before .before .before .steps .ensures)) (c .before .before .form-refusal .ensures) (c .before .if2 .left)) .readable .long
+    formed _ _ _ _ (form-zero (start .args .released) (start .args .lent) (start .args .table .now) _ _ _ (now (start .args .shares)) accepted (at-layout-of .layout-of .ensures) (at-if1 .if1 .left) refl (c .before .before .before .steps2 .ensures ∙ rw (at-steps .steps .ensures)) (c .before .before .form-refusal .ensures) (c .before .if2 .left)) .readable .long
 
 mul-shares-of : tie.Need-mul-shares-of
 mul-shares-of c = search needs
 
 sub-shares-of-2 : tie.Need-sub-shares-of-2
 sub-shares-of-2 c =
+    let at-steps = c .before .before .before .before in
     let at-if1 = c .before .before .before .before .before in
     let at-layout-of = at-if1 .before in
     let start = at-layout-of .before .before .before .before .before .before in
     let accepted = start .pre in
-    pairs-room (call-terms (start .args .released) (start .args .lent) (start .args .table .now)) _ _ _ (files-ok (call-terms (start .args .released) (start .args .lent) (start .args .table .now)) _ _ accepted) (form-zero (start .args .released) (start .args .lent) (start .args .table .now) _ _ _ (now (start .args .shares)) accepted (at-layout-of .layout-of .ensures) (at-if1 .if1 .left) refl (c .before .before .before .steps2 .ensures ∙ rw (c .before .before .before .before .steps .ensures)) (c .before .before .form-refusal .ensures) (c .before .if2 .left)) (c .pair-count .ensures .0)
+    pairs-room (call-terms (start .args .released) (start .args .lent) (start .args .table .now)) _ _ _ (files-ok (call-terms (start .args .released) (start .args .lent) (start .args .table .now)) _ _ accepted) (form-zero (start .args .released) (start .args .lent) (start .args .table .now) _ _ _ (now (start .args .shares)) accepted (at-layout-of .layout-of .ensures) (at-if1 .if1 .left) refl (c .before .before .before .steps2 .ensures ∙ rw (at-steps .steps .ensures)) (c .before .before .form-refusal .ensures) (c .before .if2 .left)) (c .pair-count .ensures .0)
 
 shares-of-requires : tie.Need-shares-of-requires
 shares-of-requires c κs =
+    let at-steps = c .before .before .before .before in
     let at-if1 = c .before .before .before .before .before in
     let at-layout-of = at-if1 .before in
     let start = at-layout-of .before .before .before .before .before .before in
     let accepted = start .pre in
-    pairs-asked (call-terms (start .args .released) (start .args .lent) (start .args .table .now)) _ _ _ (files-ok (call-terms (start .args .released) (start .args .lent) (start .args .table .now)) _ _ accepted) (form-zero (start .args .released) (start .args .lent) (start .args .table .now) _ _ _ (now (start .args .shares)) accepted (at-layout-of .layout-of .ensures) (at-if1 .if1 .left) refl (c .before .before .before .steps2 .ensures ∙ rw (c .before .before .before .before .steps .ensures)) (c .before .before .form-refusal .ensures) (c .before .if2 .left)) (c .pair-count .ensures .0)
+    pairs-asked (call-terms (start .args .released) (start .args .lent) (start .args .table .now)) _ _ _ (files-ok (call-terms (start .args .released) (start .args .lent) (start .args .table .now)) _ _ accepted) (form-zero (start .args .released) (start .args .lent) (start .args .table .now) _ _ _ (now (start .args .shares)) accepted (at-layout-of .layout-of .ensures) (at-if1 .if1 .left) refl (c .before .before .before .steps2 .ensures ∙ rw (at-steps .steps .ensures)) (c .before .before .form-refusal .ensures) (c .before .if2 .left)) (c .pair-count .ensures .0)
 
 rests-requires : tie.Need-rests-requires
 rests-requires c κs =

@@ -43,8 +43,10 @@ run-requires c κs =
 
 holding-requires : tie.Need-holding-requires
 holding-requires c κs =
+    let at-if1 = c .before .before .before .before in
+    let at-call-refusal = at-if1 .before in
     let start = c .before .before .before .before .before .before .before .before .before .before in
-    rw (c .before .before .before .boats .ensures) (book-fits _ _ (files-ok (call-terms (start .args .released) (start .args .lent) (start .args .table .now)) _ _ (sym (c .before .before .before .before .before .call-refusal .ensures) ∙ c .before .before .before .before .if1 .left)) .most-boats)
+    rw (c .before .before .before .boats .ensures) (book-fits _ _ (files-ok (call-terms (start .args .released) (start .args .lent) (start .args .table .now)) _ _ (sym (at-call-refusal .call-refusal .ensures) ∙ at-if1 .if1 .left)) .most-boats)
 
 mul-back : tie.Need-mul-back
 mul-back c = search needs

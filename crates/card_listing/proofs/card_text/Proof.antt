@@ -12,10 +12,11 @@ outcome-listing-requires c κs = check-listable _ _ _ (replicate 256 0) (c .befo
 
 returns : tie.Need-returns
 returns c =
+    let at-shared-slice-known3 = c .before .before .before .before in
     let found = c .before .before .check-card .ensures in
     let told = c .outcome-listing .ensures in (
       told .0 ∙ check-number _ _ _ (replicate 256 0) (found .0),
-      (check-listed _ _ _ (replicate 256 0) (found .0) (found .1 .0) (told .1), listed-right _ _ _ (all-bytes-known _ (c .before .before .before .before .shared-slice-known3 .given))),
+      (check-listed _ _ _ (replicate 256 0) (found .0) (found .1 .0) (told .1), listed-right _ _ _ (all-bytes-known _ (at-shared-slice-known3 .shared-slice-known3 .given))),
     )
 
 pub card-text-spec : {M : Type 1} → statement M

@@ -30,8 +30,9 @@ array-read-put-pair c = search needs
 
 put-pair-requires : tie.Need-put-pair-requires Inv-loop μ-loop
 put-pair-requires c κs =
-    let l : length (c .before .before .before .before .args .t2) ≡ 256 = search needs in
-    pair-room (c .before .before .loop .inv) (omega arith) (c .before .loop-test .taken) (c .before .before .before .before .pre .1)
+    let start = c .before .before .before .before in
+    let l : length (start .args .t2) ≡ 256 = search needs in
+    pair-room (c .before .before .loop .inv) (omega arith) (c .before .loop-test .taken) (start .pre .1)
 
 add-i : tie.Need-add-i Inv-loop μ-loop
 add-i c = search needs

@@ -48,7 +48,8 @@ answer-of-requires c κs =
 
 steps-requires : tie.Need-steps-requires
 steps-requires c κs =
-    sheet-fits _ _ (c .before .before .before .before .before .before .before .before .before .pre .0) .at-least
+    let start = c .before .before .before .before .before .before .before .before .before in
+    sheet-fits _ _ (start .pre .0) .at-least
 
 steps-requires-2 : tie.Need-steps-requires-2
 steps-requires-2 c κs = search needs
@@ -77,7 +78,8 @@ u32-at-requires c κs =
 
 tolerance-requires : tie.Need-tolerance-requires
 tolerance-requires c κs =
-    sheet-fits _ _ (c .before .before .before .before .before .before .before .before .before .before .before .before .before .before .pre .0) .at-least
+    let start = c .before .before .before .before .before .before .before .before .before .before .before .before .before .before in
+    sheet-fits _ _ (start .pre .0) .at-least
 
 returns-3 : tie.Need-returns-3
 returns-3 c =

@@ -17,8 +17,9 @@ returns-4 c = simp (ne-eqb _ _ (c .before .before .before .if1 .left), ne-eqb _ 
 
 returns-5 : tie.Need-returns-5
 returns-5 c =
+    let at-if1 = c .before .before .before .before in
     simp (
-      ne-eqb _ _ (c .before .before .before .before .if1 .left),
+      ne-eqb _ _ (at-if1 .if1 .left),
       ne-eqb _ _ (c .before .before .before .if2 .left),
       ne-eqb _ _ (c .before .before .if3 .left),
       le-ltb _ _ (c .before .if4 .left),
@@ -27,8 +28,9 @@ returns-5 c =
 
 returns-6 : tie.Need-returns-6
 returns-6 c =
+    let at-if1 = c .before .before .before .before in
     simp (
-      ne-eqb _ _ (c .before .before .before .before .if1 .left),
+      ne-eqb _ _ (at-if1 .if1 .left),
       ne-eqb _ _ (c .before .before .before .if2 .left),
       ne-eqb _ _ (c .before .before .if3 .left),
       le-ltb _ _ (c .before .if4 .left),

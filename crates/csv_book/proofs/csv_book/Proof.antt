@@ -25,10 +25,14 @@ returns-3 c =
 
 -- past the tests
 faultless : (c : tie.Else3) → last-table (c .before .before .before .before .before .before .before .before .before .before .args .csv .now) .fault ≡ 0
-faultless c = sym (ap (λ (t : Table). t .fault) (c .before .before .before .before .read-fleet .ensures .0)) ∙ c .if3 .left
+faultless c =
+    let at-read-fleet = c .before .before .before .before in
+    sym (ap (λ (t : Table). t .fault) (at-read-fleet .read-fleet .ensures .0)) ∙ c .if3 .left
 
 few : (c : tie.Else3) → c .before .before .before .before .read-fleet .result .values ≤ 16384
-few c = omega (arith, few-values _ (faultless c), c .before .before .before .before .read-fleet .ensures .1 .1 .0)
+few c =
+    let at-read-fleet = c .before .before .before .before in
+    omega (arith, few-values _ (faultless c), at-read-fleet .read-fleet .ensures .1 .1 .0)
 
 long : (c : tie.After-read-fleet) → length (c .read-fleet .last .1 .0) ≡ 32780
 long c = search needs
@@ -42,10 +46,13 @@ mul-body c = omega (arith, few (c .before))
 put-book-trailer-requires : tie.Need-put-book-trailer-requires
 put-book-trailer-requires c κs =
     let at-if3 = c .before .before in
-    omega (arith, few at-if3, long (at-if3 .before .before .before .before))
+    let at-long = at-if3 .before .before .before .before in
+    omega (arith, few at-if3, long at-long)
 
 add-len : tie.Need-add-len
-add-len c = omega (arith, few (c .before .before .before .before))
+add-len c =
+    let at-few = c .before .before .before .before in
+    omega (arith, few at-few)
 
 array-share-prefix-book : tie.Need-array-share-prefix-book
 array-share-prefix-book c =

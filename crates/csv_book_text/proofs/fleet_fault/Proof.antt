@@ -21,7 +21,8 @@ boat-inside c =
 
 boat-is : (c : tie.After-put-looked) → (let x = c .before .before .before .before .args in take (c .put-looked .result) (c .put-looked .last .1 .1 .1 .1 .0) ≡ looked (c .before .before .wants-boat .result) (x .made .line) 0 (x .csv .now))
 boat-is c =
-    let x = c .before .before .before .before .args in
+    let start = c .before .before .before .before in
+    let x = start .args in
     front-taken (replicate 200 0) (looked (c .before .before .wants-boat .result) (x .made .line) 0 (x .csv .now)) (c .put-looked .ensures .1) (c .put-looked .ensures .0)
     (few-looked (c .before .before .wants-boat .result) (x .made .line) 0 (x .csv .now))
 
@@ -38,7 +39,8 @@ column-inside c =
 
 column-is : (c : tie.After-put-looked2) → (let x = c .before .before .before .before .before .before .before .before .args in take (c .put-looked2 .result) (c .put-looked2 .last .1 .1 .1 .1 .0) ≡ looked (c .before .before .wants-column .result) 0 (x .made .field) (x .csv .now))
 column-is c =
-    let x = c .before .before .before .before .before .before .before .before .args in
+    let start = c .before .before .before .before .before .before .before .before in
+    let x = start .args in
     front-taken (replicate 200 0) (looked (c .before .before .wants-column .result) 0 (x .made .field) (x .csv .now)) (c .put-looked2 .ensures .1) (c .put-looked2 .ensures .0)
     (few-looked (c .before .before .wants-column .result) 0 (x .made .field) (x .csv .now))
 
@@ -55,7 +57,8 @@ value-inside c =
 
 value-is : (c : tie.After-put-looked3) → (let x = c .before .before .before .before .before .before .before .before .before .before .before .before .args in take (c .put-looked3 .result) (c .put-looked3 .last .1 .1 .1 .1 .0) ≡ looked (c .before .before .wants-value .result) (x .made .line) (x .made .field) (x .csv .now))
 value-is c =
-    let x = c .before .before .before .before .before .before .before .before .before .before .before .before .args in
+    let start = c .before .before .before .before .before .before .before .before .before .before .before .before in
+    let x = start .args in
     front-taken (replicate 200 0) (looked (c .before .before .wants-value .result) (x .made .line) (x .made .field) (x .csv .now)) (c .put-looked3 .ensures .1) (c .put-looked3 .ensures .0)
     (few-looked (c .before .before .wants-value .result) (x .made .line) (x .made .field) (x .csv .now))
 
@@ -63,25 +66,39 @@ value-few : (c : tie.After-put-looked3) → length (take (c .put-looked3 .result
 value-few c = rw (length-take-le (c .put-looked3 .result) (c .put-looked3 .last .1 .1 .1 .1 .0) (value-inside c)) (value-fits c)
 
 array-share-prefix-boat : tie.Need-array-share-prefix-boat
-array-share-prefix-boat c = boat-inside (c .before .before .before .before .before .before .before .before .before)
+array-share-prefix-boat c =
+    let at-boat-inside = c .before .before .before .before .before .before .before .before .before in
+    boat-inside at-boat-inside
 
 slice-aggregate-line-of : tie.Need-slice-aggregate-line-of
-slice-aggregate-line-of c = sym (length-take-le _ _ (boat-inside (c .before .before .before .before .before .before .before .before .before .before)))
+slice-aggregate-line-of c =
+    let at-boat-inside = c .before .before .before .before .before .before .before .before .before .before in
+    sym (length-take-le _ _ (boat-inside at-boat-inside))
 
 array-share-prefix-column : tie.Need-array-share-prefix-column
-array-share-prefix-column c = column-inside (c .before .before .before .before .before .before)
+array-share-prefix-column c =
+    let at-column-inside = c .before .before .before .before .before .before in
+    column-inside at-column-inside
 
 slice-aggregate-line-of-2 : tie.Need-slice-aggregate-line-of-2
-slice-aggregate-line-of-2 c = sym (length-take-le _ _ (column-inside (c .before .before .before .before .before .before .before)))
+slice-aggregate-line-of-2 c =
+    let at-column-inside = c .before .before .before .before .before .before .before in
+    sym (length-take-le _ _ (column-inside at-column-inside))
 
 array-share-prefix-value : tie.Need-array-share-prefix-value
 array-share-prefix-value c = value-inside (c .before .before .before)
 
 slice-aggregate-line-of-3 : tie.Need-slice-aggregate-line-of-3
-slice-aggregate-line-of-3 c = sym (length-take-le _ _ (value-inside (c .before .before .before .before)))
+slice-aggregate-line-of-3 c =
+    let at-value-inside = c .before .before .before .before in
+    sym (length-take-le _ _ (value-inside at-value-inside))
 
 line-of-requires : tie.Need-line-of-requires
-line-of-requires c κs = (boat-few (c .before .before .before .before .before .before .before .before .before .before .before .before), (column-few (c .before .before .before .before .before .before .before .before), value-few (c .before .before .before .before)))
+line-of-requires c κs =
+    let at-value-few = c .before .before .before .before in
+    let at-column-few = at-value-few .before .before .before .before in
+    let at-boat-few = at-column-few .before .before .before .before in
+    (boat-few at-boat-few, (column-few at-column-few, value-few at-value-few))
 
 returns : tie.Need-returns
 returns c =

@@ -25,15 +25,17 @@ loop-holds c = positions-start _ _ _ _ _
 
 slice-write-output : tie.Need-slice-write-output Inv-loop μ-loop
 slice-write-output c =
+    let start = c .before .before .before .before .before .before .before .before .before .before .before .before .before .before .before .before .before .before .before .before in
     let at-loop = c .before .before .before .before .before .before in
-    omega (arith, at-loop .loop .inv .so-far .long, c .before .before .before .before .before .before .before .before .before .before .before .before .before .before .before .before .before .before .before .before .pre .1 .1 .1 .1)
+    omega (arith, at-loop .loop .inv .so-far .long, start .pre .1 .1 .1 .1)
 
 loop-again : tie.Need-loop-again Inv-loop μ-loop
 loop-again c =
+    let start = c .before .before .before .before .before .before .before .before .before .before .before .before .before .before .before .before .before .before .before .before in
     let in-loop = c .before .before .before .before .before in
     let at-second = in-loop .before .before .before .before in
     let at-first = at-second .before .before .before .before .before in
-    positions-more _ _ _ (in-loop .before .loop .inv) (c .before .before .before .before .before .before .before .before .before .before .before .before .before .before .before .before .before .before .before .before .pre .1 .1 .1 .1) (in-loop .loop-test .taken) (position-held (at-first .put-rows .ensures) (at-second .put-rows2 .ensures) _ _ (c .same-column .ensures .0))
+    positions-more _ _ _ (in-loop .before .loop .inv) (start .pre .1 .1 .1 .1) (in-loop .loop-test .taken) (position-held (at-first .put-rows .ensures) (at-second .put-rows2 .ensures) _ _ (c .same-column .ensures .0))
 
 same-length : tie.Need-same-length Inv-loop μ-loop
 same-length c = c .before .loop .inv .so-far .long

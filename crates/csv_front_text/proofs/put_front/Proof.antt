@@ -19,7 +19,8 @@ returns-2 : tie.Need-returns-2
 returns-2 c =
     let at-put = c .before .before in
     let told = at-put .before .before in
-    names-put _ _ (told .enum-told2 .given .1) (told .before .before .before .before .pre .1) (at-put .put-names .ensures .0) (at-put .put-names .ensures .1)
+    let start = told .before .before .before .before in
+    names-put _ _ (told .enum-told2 .given .1) (start .pre .1) (at-put .put-names .ensures .0) (at-put .put-names .ensures .1)
 
 returns-3 : tie.Need-returns-3
 returns-3 c = nothing-put _ _ (c .enum-told3 .given .1)

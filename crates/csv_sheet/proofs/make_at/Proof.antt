@@ -24,10 +24,13 @@ total-is c = c .total .ensures ∙ ap sum (taken (c .before .before .before))
 slice-aggregate-total : tie.Need-slice-aggregate-total
 slice-aggregate-total c =
     let at-put = c .before .before in
-    sym (length-take-le _ (at-put .put-factors .last .1 .1 .0) (omega (arith, long at-put, at-put .before .before .before .before .before .pre .0 .few)))
+    let start = at-put .before .before .before .before .before in
+    sym (length-take-le _ (at-put .put-factors .last .1 .1 .0) (omega (arith, long at-put, start .pre .0 .few)))
 
 total-requires : tie.Need-total-requires
-total-requires c κs = omega (arith, slice-aggregate-total c, c .before .before .before .before .before .before .before .pre .0 .few)
+total-requires c κs =
+    let start = c .before .before .before .before .before .before .before in
+    omega (arith, slice-aggregate-total c, start .pre .0 .few)
 
 returns : tie.Need-returns
 returns c =
@@ -48,13 +51,15 @@ returns-2 c =
 slice-aggregate-put-file : tie.Need-slice-aggregate-put-file
 slice-aggregate-put-file c =
     let at-put = c .before .before .before .before .before .before .before .before .before in
-    sym (length-take-le _ (at-put .put-factors .last .1 .1 .0) (omega (arith, long at-put, at-put .before .before .before .before .before .pre .0 .few)))
+    let start = at-put .before .before .before .before .before in
+    sym (length-take-le _ (at-put .put-factors .last .1 .1 .0) (omega (arith, long at-put, start .pre .0 .few)))
 
 put-file-requires : tie.Need-put-file-requires
 put-file-requires c κs =
     let at-tolerance = c .before .before .before .before in
     let at-total = at-tolerance .before .before .before in
-    let p = at-total .before .before .before .before .before .before .before .before .pre in
+    let start = at-total .before .before .before .before .before .before .before .before in
+    let p = start .pre in
     (p .0, (taken (at-total .before .before .before), (c .before .before .steps-of .ensures, (at-tolerance .tolerance-for .ensures ∙ rw (total-is at-total), p .1))))
 
 returns-3 : tie.Need-returns-3

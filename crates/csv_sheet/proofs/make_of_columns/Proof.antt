@@ -23,26 +23,32 @@ find-mismatch-requires c κs =
     (start .pre .0, (omega (arith, start .pre .1 .1 .1 .0), (few start, c .columns .ensures .1)))
 
 found : (c : tie.After-find-mismatch) → c .find-mismatch .result ≡ mismatch (last-table (c .before .before .before .before .before .args .fleet .now) .columns) (sheet-names (c .before .before .before .before .before .args .csv .now)) (c .before .before .before .before .before .args .fleet .now) (c .before .before .before .before .before .args .csv .now)
-found c = c .find-mismatch .ensures ∙ rw (c .before .before .before .before .before .pre .1 .1 .0, c .before .columns .ensures .0)
+found c =
+    let start = c .before .before .before .before .before in
+    c .find-mismatch .ensures ∙ rw (start .pre .1 .1 .0, c .before .columns .ensures .0)
 
 returns : tie.Need-returns
 returns c = columns-out _ _ _ (found (c .before .before .before)) (c .before .if1 .taken) (c .nothing .ensures)
 
 put-positions-requires : tie.Need-put-positions-requires
 put-positions-requires c κs =
+    let at-columns = c .before .before .before .before in
     let start = c .before .before .before .before .before .before .before .before in
-    (omega (arith, start .pre .0, start .pre .1 .1 .1 .0), (omega (arith, start .pre .0, start .pre .1 .1 .1 .0), (few start, (c .before .before .before .before .columns .ensures .1, few start))))
+    (omega (arith, start .pre .0, start .pre .1 .1 .1 .0), (omega (arith, start .pre .0, start .pre .1 .1 .1 .0), (few start, (at-columns .columns .ensures .1, few start))))
 
 long : (c : tie.After-put-positions) → length (c .put-positions .last .1 .1 .1 .1 .0) ≡ 64
 long c = search needs
 
 array-share-prefix-places : tie.Need-array-share-prefix-places
-array-share-prefix-places c = omega (arith, long (c .before), few (c .before .before .before .before .before .before .before .before .before .before))
+array-share-prefix-places c =
+    let at-few = c .before .before .before .before .before .before .before .before .before .before in
+    omega (arith, long (c .before), few at-few)
 
 slice-aggregate-make-at : tie.Need-slice-aggregate-make-at
 slice-aggregate-make-at c =
     let at-put = c .before .before in
-    sym (length-take-le _ (at-put .put-positions .last .1 .1 .1 .1 .0) (omega (arith, long at-put, few (at-put .before .before .before .before .before .before .before .before .before))))
+    let at-few = at-put .before .before .before .before .before .before .before .before .before in
+    sym (length-take-le _ (at-put .put-positions .last .1 .1 .1 .1 .0) (omega (arith, long at-put, few at-few)))
 
 taken : (c : tie.After-put-positions) → take (c .before .before .before .before .before .before .before .before .before .args .columns) (c .put-positions .last .1 .1 .1 .1 .0) ≡ places (c .before .before .before .before .before .before .before .before .before .args .fleet .now) (c .before .before .before .before .before .before .before .before .before .args .csv .now)
 taken c =
@@ -52,8 +58,9 @@ taken c =
 make-at-requires : tie.Need-make-at-requires
 make-at-requires c κs =
     let at-put = c .before .before .before in
+    let start = at-put .before .before .before .before .before .before .before .before .before in
     let at-if1 = at-put .before .before in
-    let p = at-put .before .before .before .before .before .before .before .before .before .pre in
+    let p = start .pre in
     (rw (taken at-put) (ready _ _ (p .1 .0) (p .1 .1 .1 .0) (p .1 .1 .1 .1 .0) (sym (ap (λ (m : Mismatch). m .fault) (found (at-if1 .before .before))) ∙ at-if1 .if1 .left)), p .1 .1 .1 .1 .1)
 
 returns-2 : tie.Need-returns-2

@@ -28,7 +28,9 @@ loop-holds : tie.Need-loop-holds Inv-loop μ-loop
 loop-holds c = factors-start
 
 cast-factor-in : tie.Need-cast-factor-in Inv-loop μ-loop
-cast-factor-in c = omega (arith, c .shared-slice-known3 .given (c .before .before .before .before .loop .i))
+cast-factor-in c =
+    let at-loop = c .before .before .before .before in
+    omega (arith, c .shared-slice-known3 .given (at-loop .loop .i))
 
 factor-in-requires : tie.Need-factor-in-requires Inv-loop μ-loop
 factor-in-requires c κs =
@@ -42,7 +44,8 @@ small c =
     let in-loop = c .before .before .before .before in
     let at-put = in-loop .before .before .before .before in
     let at-row = at-put .before .before .before in
-    rw (c .factor-in .ensures _ (at-put .put-rows .ensures), at-row .row-for .ensures) (factor-small (at-row .before .before .before .before .pre .0) (in-loop .before .loop .i) (in-loop .loop-test .taken))
+    let start = at-row .before .before .before .before in
+    rw (c .factor-in .ensures _ (at-put .put-rows .ensures), at-row .row-for .ensures) (factor-small (start .pre .0) (in-loop .before .loop .i) (in-loop .loop-test .taken))
 
 cast-output : tie.Need-cast-output Inv-loop μ-loop
 cast-output c = omega (arith, small c)
@@ -50,13 +53,15 @@ cast-output c = omega (arith, small c)
 slice-write-output : tie.Need-slice-write-output Inv-loop μ-loop
 slice-write-output c =
     let at-loop = c .before .before .before .before .before in
-    omega (arith, at-loop .loop .inv .so-far .long, at-loop .before .before .before .before .before .before .before .before .before .before .pre .1)
+    let start = at-loop .before .before .before .before .before .before .before .before .before .before in
+    omega (arith, at-loop .loop .inv .so-far .long, start .pre .1)
 
 loop-again : tie.Need-loop-again Inv-loop μ-loop
 loop-again c =
     let in-loop = c .before .before .before .before in
     let at-put = in-loop .before .before .before .before in
-    factors-more (in-loop .before .loop .inv) (at-put .before .before .before .before .before .before .before .pre .1) (in-loop .loop-test .taken) (c .factor-in .ensures _ (at-put .put-rows .ensures))
+    let start = at-put .before .before .before .before .before .before .before in
+    factors-more (in-loop .before .loop .inv) (start .pre .1) (in-loop .loop-test .taken) (c .factor-in .ensures _ (at-put .put-rows .ensures))
 
 same-length : tie.Need-same-length Inv-loop μ-loop
 same-length c = c .before .loop .inv .so-far .long
@@ -64,7 +69,8 @@ same-length c = c .before .loop .inv .so-far .long
 returns : tie.Need-returns Inv-loop μ-loop
 returns c =
     let at-row = c .before .before .before .before .before .before .before in
-    factors-end (c .before .loop .inv) (at-row .before .before .before .before .pre .1) (c .loop-test .left) (at-row .row-for .ensures)
+    let start = at-row .before .before .before .before in
+    factors-end (c .before .loop .inv) (start .pre .1) (c .loop-test .left) (at-row .row-for .ensures)
 
 pub put-factors-spec : {M : Type 1} → statement M
 put-factors-spec =

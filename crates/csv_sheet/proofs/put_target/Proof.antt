@@ -30,13 +30,16 @@ loop-holds : tie.Need-loop-holds Inv-loop μ-loop
 loop-holds c = values-start
 
 cast-cell : tie.Need-cast-cell Inv-loop μ-loop
-cast-cell c = omega (arith, c .shared-slice-known3 .given (c .before .before .before .before .loop .i))
+cast-cell c =
+    let at-loop = c .before .before .before .before in
+    omega (arith, c .shared-slice-known3 .given (at-loop .loop .i))
 
 cell-requires : tie.Need-cell-requires Inv-loop μ-loop
 cell-requires c κs =
     let in-loop = c .before .before .before in
     let at-put = in-loop .before .before .before .before in
-    slot-fits (at-put .put-rows .ensures .room) _ (omega (arith, place-few (at-put .before .before .before .before .before .before .before .pre .0) (in-loop .before .loop .i) (in-loop .loop-test .taken)))
+    let start = at-put .before .before .before .before .before .before .before in
+    slot-fits (at-put .put-rows .ensures .room) _ (omega (arith, place-few (start .pre .0) (in-loop .before .loop .i) (in-loop .loop-test .taken)))
 
 read-requires : tie.Need-read-requires Inv-loop μ-loop
 read-requires c κs =
@@ -51,31 +54,37 @@ read-requires c κs =
     )
 
 mul-put : tie.Need-mul-put Inv-loop μ-loop
-mul-put c = omega (arith, c .before .before .before .before .before .before .before .before .before .before .before .before .before .before .before .before .before .pre .0 .few)
+mul-put c =
+    let start = c .before .before .before .before .before .before .before .before .before .before .before .before .before .before .before .before .before in
+    omega (arith, start .pre .0 .few)
 
 cell-is : (c : tie.After-read Inv-loop μ-loop) → c .read .result ≡ read (cell-text (c .before .before .before .before .before .before .before .before .before .before .before .before .row-for .result) (getD (c .before .before .before .before .before .before .before .before .before .before .before .before .before .before .before .before .args .places .now) (c .before .before .before .before .before .before .loop .i) 0) (c .before .before .before .before .before .before .before .before .before .before .before .before .before .before .before .before .args .csv .now))
 cell-is c =
     let in-loop = c .before .before .before .before .before in
     let at-put = in-loop .before .before .before .before in
-    c .read .ensures ∙ ap read (c .before .cell .ensures ∙ field-held (at-put .put-rows .ensures) _ (place-few (at-put .before .before .before .before .before .before .before .pre .0) (in-loop .before .loop .i) (in-loop .loop-test .taken)))
+    let start = at-put .before .before .before .before .before .before .before in
+    c .read .ensures ∙ ap read (c .before .cell .ensures ∙ field-held (at-put .put-rows .ensures) _ (place-few (start .pre .0) (in-loop .before .loop .i) (in-loop .loop-test .taken)))
 
 value-bits-requires : tie.Need-value-bits-requires Inv-loop μ-loop
 value-bits-requires c κs =
     let in-loop = c .before .before .before .before .before .before in
     let at-row = in-loop .before .before .before .before .before .before .before in
-    rw (cell-is (c .before), at-row .row-for .ensures) (value-small (at-row .before .before .before .before .pre .0) (in-loop .before .loop .i) (in-loop .loop-test .taken))
+    let start = at-row .before .before .before .before in
+    rw (cell-is (c .before), at-row .row-for .ensures) (value-small (start .pre .0) (in-loop .before .loop .i) (in-loop .loop-test .taken))
 
 put-requires : tie.Need-put-requires Inv-loop μ-loop
 put-requires c κs =
     let in-loop = c .before .before .before .before .before .before .before in
-    values-room (in-loop .before .loop .inv) (in-loop .before .before .before .before .before .before .before .before .before .before .before .pre .1) (in-loop .loop-test .taken)
+    let start = in-loop .before .before .before .before .before .before .before .before .before .before .before in
+    values-room (in-loop .before .loop .inv) (start .pre .1) (in-loop .loop-test .taken)
 
 loop-again : tie.Need-loop-again Inv-loop μ-loop
 loop-again c =
     let at-put = c .before .before in
     let at-read = at-put .before .before .before in
     let in-loop = at-read .before .before .before .before .before in
-    values-more (in-loop .before .loop .inv) (in-loop .before .before .before .before .before .before .before .before .before .before .before .pre .1) (in-loop .loop-test .taken) (cell-is at-read) (at-put .before .value-bits .ensures) (at-put .put .ensures)
+    let start = in-loop .before .before .before .before .before .before .before .before .before .before .before in
+    values-more (in-loop .before .loop .inv) (start .pre .1) (in-loop .loop-test .taken) (cell-is at-read) (at-put .before .value-bits .ensures) (at-put .put .ensures)
 
 same-length : tie.Need-same-length Inv-loop μ-loop
 same-length c = c .before .loop .inv .so-far .long
@@ -83,7 +92,8 @@ same-length c = c .before .loop .inv .so-far .long
 returns : tie.Need-returns Inv-loop μ-loop
 returns c =
     let at-row = c .before .before .before .before .before .before .before in
-    values-end (c .before .loop .inv) (at-row .before .before .before .before .pre .1) (c .loop-test .left) (at-row .row-for .ensures)
+    let start = at-row .before .before .before .before in
+    values-end (c .before .loop .inv) (start .pre .1) (c .loop-test .left) (at-row .row-for .ensures)
 
 pub put-target-spec : {M : Type 1} → statement M
 put-target-spec =

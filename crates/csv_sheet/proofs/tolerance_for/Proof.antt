@@ -17,8 +17,9 @@ mul-result c = omega (arith, mul-le-mul (small c) (small c))
 
 mul-result-2 : tie.Need-mul-result-2
 mul-result-2 c =
+    let start = c .before .before .before .before .before .before in
     let squared = mul-le-mul (small c) (small c) in
-    omega (arith, mul-le-mul squared (c .before .before .before .before .before .before .pre .1 .1))
+    omega (arith, mul-le-mul squared (start .pre .1 .1))
 
 returns : tie.Need-returns
 returns c =

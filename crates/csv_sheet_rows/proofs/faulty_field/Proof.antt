@@ -29,14 +29,16 @@ read-slot-requires c κs =
     let in-loop = c .before .before in
     let at-factors = in-loop .before .before .before .before in
     let at-values = at-factors .before .before .before .before .before in
-    (at-values .put-rows .ensures .room, omega (arith, in-loop .loop-test .taken, at-values .before .before .before .before .pre .1))
+    let start = at-values .before .before .before .before in
+    (at-values .put-rows .ensures .room, omega (arith, in-loop .loop-test .taken, start .pre .1))
 
 read-slot-requires-2 : tie.Need-read-slot-requires-2 Inv-loop μ-loop
 read-slot-requires-2 c κs =
     let in-loop = c .before .before .before .before .before in
     let at-factors = in-loop .before .before .before .before in
     let at-values = at-factors .before .before .before .before .before in
-    (at-factors .put-rows2 .ensures .room, omega (arith, in-loop .loop-test .taken, at-values .before .before .before .before .pre .1))
+    let start = at-values .before .before .before .before in
+    (at-factors .put-rows2 .ensures .room, omega (arith, in-loop .loop-test .taken, start .pre .1))
 
 returns : tie.Need-returns Inv-loop μ-loop
 returns c =

@@ -20,7 +20,9 @@ loop-holds : tie.Need-loop-holds Inv-loop μ-loop
 loop-holds c = search (needs, named-start)
 
 array-read : tie.Need-array-read-if1 Inv-loop μ-loop
-array-read c = omega (arith, c .loop-test .taken, c .before .before .before .before .before .before .before .before .pre .1)
+array-read c =
+    let start = c .before .before .before .before .before .before .before .before in
+    omega (arith, c .loop-test .taken, start .pre .1)
 
 returns : tie.Need-returns Inv-loop μ-loop
 returns c =

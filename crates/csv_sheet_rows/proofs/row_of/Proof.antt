@@ -25,7 +25,8 @@ kind-in-requires : tie.Need-kind-in-requires Inv-loop μ-loop
 kind-in-requires c κs =
     let at-loop = c .before .before .before in
     let at-put = at-loop .before .before .before in
-    (at-put .put-rows .ensures .room, omega (arith, at-loop .loop .inv .0, at-put .before .before .before .before .pre .1))
+    let start = at-put .before .before .before .before in
+    (at-put .put-rows .ensures .room, omega (arith, at-loop .loop .inv .0, start .pre .1))
 
 returns : tie.Need-returns Inv-loop μ-loop
 returns c =

@@ -11,22 +11,32 @@ slice-aggregate-kind-of : tie.Need-slice-aggregate-kind-of
 slice-aggregate-kind-of c = looked-count _ _ _ _ (c .before .before .put-looked .ensures .0) (c .before .before .put-looked .ensures .1)
 
 array-share-prefix-row-2 : tie.Need-array-share-prefix-row-2
-array-share-prefix-row-2 c = looked-inside _ _ _ _ (c .before .before .before .before .before .before .before .before .before .before .before .put-looked .ensures .0) (c .before .before .before .before .before .before .before .before .before .before .before .put-looked .ensures .1)
+array-share-prefix-row-2 c =
+    let at-put-looked = c .before .before .before .before .before .before .before .before .before .before .before in
+    looked-inside _ _ _ _ (at-put-looked .put-looked .ensures .0) (at-put-looked .put-looked .ensures .1)
 
 slice-aggregate-row-line : tie.Need-slice-aggregate-row-line
-slice-aggregate-row-line c = looked-count _ _ _ _ (c .before .before .before .before .before .before .before .before .before .before .before .before .put-looked .ensures .0) (c .before .before .before .before .before .before .before .before .before .before .before .before .put-looked .ensures .1)
+slice-aggregate-row-line c =
+    let at-put-looked = c .before .before .before .before .before .before .before .before .before .before .before .before in
+    looked-count _ _ _ _ (at-put-looked .put-looked .ensures .0) (at-put-looked .put-looked .ensures .1)
 
 array-share-prefix-column : tie.Need-array-share-prefix-column
-array-share-prefix-column c = looked-inside _ _ _ _ (c .before .before .before .before .before .before .put-looked2 .ensures .0) (c .before .before .before .before .before .before .put-looked2 .ensures .1)
+array-share-prefix-column c =
+    let at-put-looked2 = c .before .before .before .before .before .before in
+    looked-inside _ _ _ _ (at-put-looked2 .put-looked2 .ensures .0) (at-put-looked2 .put-looked2 .ensures .1)
 
 slice-aggregate-row-line-2 : tie.Need-slice-aggregate-row-line-2
-slice-aggregate-row-line-2 c = looked-count _ _ _ _ (c .before .before .before .before .before .before .before .put-looked2 .ensures .0) (c .before .before .before .before .before .before .before .put-looked2 .ensures .1)
+slice-aggregate-row-line-2 c =
+    let at-put-looked2 = c .before .before .before .before .before .before .before in
+    looked-count _ _ _ _ (at-put-looked2 .put-looked2 .ensures .0) (at-put-looked2 .put-looked2 .ensures .1)
 
 array-share-prefix-value : tie.Need-array-share-prefix-value
 array-share-prefix-value c = looked-inside _ _ _ _ (c .before .before .before .put-looked3 .ensures .0) (c .before .before .before .put-looked3 .ensures .1)
 
 slice-aggregate-row-line-3 : tie.Need-slice-aggregate-row-line-3
-slice-aggregate-row-line-3 c = looked-count _ _ _ _ (c .before .before .before .before .put-looked3 .ensures .0) (c .before .before .before .before .put-looked3 .ensures .1)
+slice-aggregate-row-line-3 c =
+    let at-put-looked3 = c .before .before .before .before in
+    looked-count _ _ _ _ (at-put-looked3 .put-looked3 .ensures .0) (at-put-looked3 .put-looked3 .ensures .1)
 
 row-line-requires : tie.Need-row-line-requires
 row-line-requires c κs =

@@ -20,10 +20,14 @@ boats-requires : tie.Need-boats-requires Inv-loop μ-loop
 boats-requires c κs = book-accepted _ (c .before .before .before .pre .0) .at-least
 
 columns-requires : tie.Need-columns-requires Inv-loop μ-loop
-columns-requires c κs = book-accepted _ (c .before .before .before .before .pre .0) .at-least
+columns-requires c κs =
+    let start = c .before .before .before .before in
+    book-accepted _ (start .pre .0) .at-least
 
 book-body-requires : tie.Need-book-body-requires Inv-loop μ-loop
-book-body-requires c κs = book-accepted _ (c .before .before .before .before .before .pre .0) .whole
+book-body-requires c κs =
+    let start = c .before .before .before .before .before in
+    book-accepted _ (start .pre .0) .whole
 
 loop-holds : tie.Need-loop-holds Inv-loop μ-loop
 loop-holds c = rowing-start _ _ _

@@ -45,7 +45,9 @@ shared-slice-read-with-number c =
     factor-inside _ (at-first .before .factors-of .ensures) (at-first .first-other .ensures) (at-first .before .before .before .pre .1)
 
 cast-with-number : tie.Need-cast-with-number
-cast-with-number c = omega (arith, c .shared-slice-known2 .given (c .before .before .before .before .before .before .before .first-other .result))
+cast-with-number c =
+    let at-first-other = c .before .before .before .before .before .before .before in
+    omega (arith, c .shared-slice-known2 .given (at-first-other .first-other .result))
 
 with-number-requires-2 : tie.Need-with-number-requires-2
 with-number-requires-2 c κs = search needs

@@ -26,7 +26,9 @@ unfolding reply-of
 returns c = cc
 
 returns-2 : tie.Need-returns-2
-returns-2 c = answered (c .before .before .before .before .found2 .given .1) (c .before .before .verdict-number .ensures) (toZ-ofZ (sfits-of (c .before .floor-of .ok))) (c .before .floor-of .ensures) (c .shortfall-of .ensures)
+returns-2 c =
+    let at-found2 = c .before .before .before .before in
+    answered (at-found2 .found2 .given .1) (c .before .before .verdict-number .ensures) (toZ-ofZ (sfits-of (c .before .floor-of .ok))) (c .before .floor-of .ensures) (c .shortfall-of .ensures)
 
 pub reply-of-spec : {M : Type 1} → statement M
 reply-of-spec =

@@ -9,7 +9,9 @@ use Rattle.factored_run.proofs.derived_run.Statement.{statement}
 use Rattle.factored_run.proofs.derived_run.Tie as tie
 
 factors-of-requires : tie.Need-factors-of-requires
-factors-of-requires c κs = (whole _ _ (c .before .before .before .before .pre .0), c .before .before .before .before .pre .1 .1 .0)
+factors-of-requires c κs =
+    let start = c .before .before .before .before in
+    (whole _ _ (start .pre .0), start .pre .1 .1 .0)
 
 put-book-requires : tie.Need-put-book-requires
 put-book-requires c κs =

@@ -6,7 +6,9 @@ use Rattle.factored_run.proofs.run.Statement.{statement}
 use Rattle.factored_run.proofs.run.Tie as tie
 
 is-plain-requires : tie.Need-is-plain-requires
-is-plain-requires c κs = whole _ _ (c .before .before .before .before .pre .0)
+is-plain-requires c κs =
+    let start = c .before .before .before .before in
+    whole _ _ (start .pre .0)
 
 returns : tie.Need-returns
 returns c =

@@ -22,21 +22,24 @@ slice-aggregate-products-of c = search needs
 
 products-of-requires : tie.Need-products-of-requires
 products-of-requires c κs =
-    let p = c .before .before .before .before .pre in
+    let start = c .before .before .before .before in
+    let p = start .pre in
     let S = schedule-sized _ (p .1 .0) in
     let h = pick-below _ _ (p .0) S (p .1 .1 .1) in
     (p .0, (p .1 .1 .0, (h, book-fits _ _ (p .0) .most-boats)))
 
 mul-own : tie.Need-mul-own
 mul-own c =
-    let p = c .before .before .before .before .before .before .pre in
+    let start = c .before .before .before .before .before .before in
+    let p = start .pre in
     let S = schedule-sized _ (p .1 .0) in
     let h = pick-below _ _ (p .0) S (p .1 .1 .1) in
     record { fits = omega (arith, h, book-fits _ _ (p .0) .most-boats) }
 
 array-copy-out-own : tie.Need-array-copy-out-own
 array-copy-out-own c =
-    let p = c .before .before .before .before .before .before .pre in
+    let start = c .before .before .before .before .before .before in
+    let p = start .pre in
     let S = schedule-sized _ (p .1 .0) in
     let h = pick-below _ _ (p .0) S (p .1 .1 .1) in
     omega (arith, h, book-fits _ _ (p .0) .most-boats)
@@ -46,14 +49,16 @@ slice-aggregate-least-product c = search needs
 
 least-product-requires : tie.Need-least-product-requires
 least-product-requires c κs =
-    let p = c .before .before .before .before .before .before .before .before .pre in
+    let start = c .before .before .before .before .before .before .before .before in
+    let p = start .pre in
     let S = schedule-sized _ (p .1 .0) in
     let h = pick-below _ _ (p .0) S (p .1 .1 .1) in
     scan-asks _ _ (p .0) (p .1 .1 .0) h _ (c .before .before .before .products-of .ensures .0)
 
 share-requires : tie.Need-share-requires
 share-requires c κs =
-    let p = c .before .before .before .before .before .before .before .before .before .pre in
+    let start = c .before .before .before .before .before .before .before .before .before in
+    let p = start .pre in
     let S = schedule-sized _ (p .1 .0) in
     let h = pick-below _ _ (p .0) S (p .1 .1 .1) in
     first-gives _ _ (p .0) S (p .1 .1 .1)
@@ -63,7 +68,8 @@ cast-z c = search needs
 
 distance-after-requires : tie.Need-distance-after-requires
 distance-after-requires c κs =
-    let p = c .before .before .before .before .before .before .before .before .before .before .pre in
+    let start = c .before .before .before .before .before .before .before .before .before .before in
+    let p = start .pre in
     let S = schedule-sized _ (p .1 .0) in
     let h = pick-below _ _ (p .0) S (p .1 .1 .1) in
     let at-products-of = c .before .before .before .before .before in
@@ -73,7 +79,8 @@ distance-after-requires c κs =
 
 cast-target-score : tie.Need-cast-target-score
 cast-target-score c =
-    let p = c .before .before .before .before .before .before .before .before .before .before .before .pre in
+    let start = c .before .before .before .before .before .before .before .before .before .before .before in
+    let p = start .pre in
     let S = schedule-sized _ (p .1 .0) in
     let h = pick-below _ _ (p .0) S (p .1 .1 .1) in
     let at-products-of = c .before .before .before .before .before .before in
@@ -83,7 +90,8 @@ cast-target-score c =
 
 mul-target-score : tie.Need-mul-target-score
 mul-target-score c =
-    let p = c .before .before .before .before .before .before .before .before .before .before .before .pre in
+    let start = c .before .before .before .before .before .before .before .before .before .before .before in
+    let p = start .pre in
     let S = schedule-sized _ (p .1 .0) in
     let h = pick-below _ _ (p .0) S (p .1 .1 .1) in
     let at-products-of = c .before .before .before .before .before .before in
@@ -93,41 +101,48 @@ mul-target-score c =
 
 mul-least : tie.Need-mul-least
 mul-least c =
-    let p = c .before .before .before .before .before .before .before .before .before .before .before .before .before .pre in
+    let at-least-product = c .before .before .before .before in
+    let start = at-least-product .before .before .before .before .before .before .before .before .before in
+    let p = start .pre in
     let S = schedule-sized _ (p .1 .0) in
     let h = pick-below _ _ (p .0) S (p .1 .1 .1) in
     let at-products-of = c .before .before .before .before .before .before .before .before in
     let own = product-there _ _ (p .0) (p .1 .1 .0) h _ (at-products-of .products-of .ensures .0) h in
-    let pick = least-right _ _ (p .0) (p .1 .1 .0) h _ (at-products-of .products-of .ensures .0) (c .before .before .before .before .least-product .ensures) in
+    let pick = least-right _ _ (p .0) (p .1 .1 .0) h _ (at-products-of .products-of .ensures .0) (at-least-product .least-product .ensures) in
     let k = c .before .before .before .share .ensures in
-    times-fits (share-most _ _ (p .0) S (p .1 .1 .1) k own (at-products-of .products-of .ensures .1)) (c .before .before .before .before .least-product .result .score) (least-size _ _ (p .0) S (p .1 .1 .1) k own (at-products-of .products-of .ensures .1) pick)
+    times-fits (share-most _ _ (p .0) S (p .1 .1 .1) k own (at-products-of .products-of .ensures .1)) (at-least-product .least-product .result .score) (least-size _ _ (p .0) S (p .1 .1 .1) k own (at-products-of .products-of .ensures .1) pick)
 
 answered-requires : tie.Need-answered-requires
 answered-requires c κs =
-    let p = c .before .before .before .before .before .before .before .before .before .before .before .before .before .pre in
+    let at-least-product = c .before .before .before .before in
+    let start = at-least-product .before .before .before .before .before .before .before .before .before in
+    let p = start .pre in
     let S = schedule-sized _ (p .1 .0) in
     let h = pick-below _ _ (p .0) S (p .1 .1 .1) in
     let at-products-of = c .before .before .before .before .before .before .before .before in
     let own = product-there _ _ (p .0) (p .1 .1 .0) h _ (at-products-of .products-of .ensures .0) h in
-    let pick = least-right _ _ (p .0) (p .1 .1 .0) h _ (at-products-of .products-of .ensures .0) (c .before .before .before .before .least-product .ensures) in
+    let pick = least-right _ _ (p .0) (p .1 .1 .0) h _ (at-products-of .products-of .ensures .0) (at-least-product .least-product .ensures) in
     let k = c .before .before .before .share .ensures in
     let few = share-most _ _ (p .0) S (p .1 .1 .1) k own (at-products-of .products-of .ensures .1) in
     let target = times-read few (toZ w32 (ofZ w32 (at-products-of .products-of .result))) (first-moves _ _ (p .0) S (p .1 .1 .1) k own (at-products-of .products-of .ensures .1) .target-size) in
-    let score = times-read few (c .before .before .before .before .least-product .result .score) (least-size _ _ (p .0) S (p .1 .1 .1) k own (at-products-of .products-of .ensures .1) pick) in
+    let score = times-read few (at-least-product .least-product .result .score) (least-size _ _ (p .0) S (p .1 .1 .1) k own (at-products-of .products-of .ensures .1) pick) in
     first-answerable _ _ (p .0) S (p .1 .1 .1) k own (at-products-of .products-of .ensures .1) (c .before .before .distance-after .ensures) target pick score
 
 returns : tie.Need-returns
 returns c =
-    let p = c .before .before .before .before .before .before .before .before .before .before .before .before .before .before .pre in
+    let at-share = c .before .before .before .before in
+    let at-least-product = at-share .before in
+    let start = at-least-product .before .before .before .before .before .before .before .before .before in
+    let p = start .pre in
     let S = schedule-sized _ (p .1 .0) in
     let h = pick-below _ _ (p .0) S (p .1 .1 .1) in
     let at-products-of = c .before .before .before .before .before .before .before .before .before in
     let own = product-there _ _ (p .0) (p .1 .1 .0) h _ (at-products-of .products-of .ensures .0) h in
-    let pick = least-right _ _ (p .0) (p .1 .1 .0) h _ (at-products-of .products-of .ensures .0) (c .before .before .before .before .before .least-product .ensures) in
-    let k = c .before .before .before .before .share .ensures in
+    let pick = least-right _ _ (p .0) (p .1 .1 .0) h _ (at-products-of .products-of .ensures .0) (at-least-product .least-product .ensures) in
+    let k = at-share .share .ensures in
     let few = share-most _ _ (p .0) S (p .1 .1 .1) k own (at-products-of .products-of .ensures .1) in
     let target = times-read few (toZ w32 (ofZ w32 (at-products-of .products-of .result))) (first-moves _ _ (p .0) S (p .1 .1 .1) k own (at-products-of .products-of .ensures .1) .target-size) in
-    let score = times-read few (c .before .before .before .before .before .least-product .result .score) (least-size _ _ (p .0) S (p .1 .1 .1) k own (at-products-of .products-of .ensures .1) pick) in
+    let score = times-read few (at-least-product .least-product .result .score) (least-size _ _ (p .0) S (p .1 .1 .1) k own (at-products-of .products-of .ensures .1) pick) in
     first-right _ _ (p .0) S (p .1 .1 .1) k own (at-products-of .products-of .ensures .1) (c .before .before .before .distance-after .ensures) target pick score (c .answered .ensures)
 
 pub first-answer-spec : {M : Type 1} → statement M

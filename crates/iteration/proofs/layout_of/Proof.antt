@@ -17,10 +17,14 @@ columns-requires : tie.Need-columns-requires
 columns-requires c κs = book-fits _ _ (c .before .before .before .pre) .at-least
 
 book-body-requires : tie.Need-book-body-requires
-book-body-requires c κs = book-fits _ _ (c .before .before .before .before .pre) .whole
+book-body-requires c κs =
+    let start = c .before .before .before .before in
+    book-fits _ _ (start .pre) .whole
 
 sheet-body-requires : tie.Need-sheet-body-requires
-sheet-body-requires c κs = sheet-fits _ _ (c .before .before .before .before .before .pre) .whole
+sheet-body-requires c κs =
+    let start = c .before .before .before .before .before in
+    sheet-fits _ _ (start .pre) .whole
 
 returns : tie.Need-returns
 unfolding file-layout

@@ -11,13 +11,20 @@ columns-requires : tie.Need-columns-requires
 columns-requires c κs = book-length _ _ (c .before .before .before .pre)
 
 tolerance-requires : tie.Need-tolerance-requires
-tolerance-requires c κs = sheet-length _ _ (c .before .before .before .before .pre)
+tolerance-requires c κs =
+    let start = c .before .before .before .before in
+    sheet-length _ _ (start .pre)
 
 steps-requires : tie.Need-steps-requires
-steps-requires c κs = sheet-length _ _ (c .before .before .before .before .before .pre)
+steps-requires c κs =
+    let start = c .before .before .before .before .before in
+    sheet-length _ _ (start .pre)
 
 with-boats-requires : tie.Need-with-boats-requires
-with-boats-requires c κs = (rw (c .before .before .before .before .boats .ensures) (few-boats _ _ (c .before .before .before .before .before .before .before .pre)), c .head .ensures .1)
+with-boats-requires c κs =
+    let at-boats = c .before .before .before .before in
+    let start = at-boats .before .before .before in
+    (rw (at-boats .boats .ensures) (few-boats _ _ (start .pre)), c .head .ensures .1)
 
 returns : tie.Need-returns
 returns c =

@@ -21,10 +21,14 @@ columns-requires : tie.Need-columns-requires Inv-loop μ-loop
 columns-requires c κs = book-accepted _ (c .before .before .before .pre .0 .0) .at-least
 
 boats-requires : tie.Need-boats-requires Inv-loop μ-loop
-boats-requires c κs = book-accepted _ (c .before .before .before .before .pre .0 .0) .at-least
+boats-requires c κs =
+    let start = c .before .before .before .before in
+    book-accepted _ (start .pre .0 .0) .at-least
 
 book-body-requires : tie.Need-book-body-requires Inv-loop μ-loop
-book-body-requires c κs = book-accepted _ (c .before .before .before .before .before .pre .0 .0) .whole
+book-body-requires c κs =
+    let start = c .before .before .before .before .before in
+    book-accepted _ (start .pre .0 .0) .whole
 
 mul-body-end : tie.Need-mul-body-end Inv-loop μ-loop
 mul-body-end c =

@@ -17,14 +17,17 @@ part-line-of-end : tie.Need-part-line-of-end
 part-line-of-end c = search needs
 
 line-of-requires : tie.Need-line-of-requires
-line-of-requires c κs = part-accepted (c .before .before .before .before .merge-books .ensures .1 .1)
+line-of-requires c κs =
+    let at-merge-books = c .before .before .before .before in
+    part-accepted (at-merge-books .merge-books .ensures .1 .1)
 
 same-length : tie.Need-same-length
 same-length c = search needs
 
 returns : tie.Need-returns
 returns c =
-    let given = c .before .before .before .before .before .merge-books .ensures in
+    let at-merge-books = c .before .before .before .before .before in
+    let given = at-merge-books .merge-books .ensures in
     (given .0, (given .1 .0, (merge-listed _ _ _ (given .0) (given .1 .0) (c .line-of .ensures), given .1 .1)))
 
 pub merge-text-spec : {M : Type 1} → statement M

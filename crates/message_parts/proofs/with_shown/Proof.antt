@@ -43,7 +43,9 @@ loop-again : tie.Need-loop-again Inv-loop μ-loop
 loop-again c = search (needs, shown-more)
 
 add-t14 : tie.Need-add-t14 Inv-loop μ-loop
-add-t14 c = omega (arith, c .before .loop .inv .within, length-map (c .before .before .before .before .args .name .now) shown)
+add-t14 c =
+    let start = c .before .before .before .before in
+    omega (arith, c .before .loop .inv .within, length-map (start .args .name .now) shown)
 
 returns : tie.Need-returns Inv-loop μ-loop
 returns c = search (needs, shown-end)

@@ -34,7 +34,9 @@ least-score-requires c κs =
     (all-rows _ _ (p .0) (p .1 .1 .0), entries _ _ (p .0) S (p .1 .1 .0) (start .args .shares) (p .1 .1 .1 .0 .0) few (p .1 .1 .1 .1) (search needs) (c .before .residual-of .result) (search needs) (c .before .residual-of .ensures))
 
 total-requires : tie.Need-total-requires
-total-requires c κs = c .before .before .before .before .before .before .pre .1 .1 .1 .0 .1
+total-requires c κs =
+    let start = c .before .before .before .before .before .before in
+    start .pre .1 .1 .1 .0 .1
 
 slice-aggregate-measured : tie.Need-slice-aggregate-measured
 slice-aggregate-measured c = search needs

@@ -74,6 +74,8 @@ same-length c = search needs
 
 returns-5 : tie.Need-returns-5
 returns-5 c =
+    let at-if4 = c .before .before .before .before in
+    let at-if3 = at-if4 .before in
     let at-size = c .before .before .before .before .before .before in
     let at-number = at-size .before in
     let at-else = at-number .before in
@@ -81,7 +83,7 @@ returns-5 c =
     let at-refusal = at-plain .before .before in
     let start = at-refusal .before .before .before in
     let h = all-bytes-known _ (at-refusal .before .before .shared-slice-known .given) in
-    wrote _ (now (start .args .output)) h (sym (at-refusal .sheet-refusal-in .ensures) ∙ at-plain .before .if1 .left) _ (at-plain .is-plain .ensures) (at-else .if2 .left) _ (at-size .other-size .ensures) (c .before .before .before .before .before .if3 .left) (c .before .before .before .before .if4 .left) _ (at-number .other-number .ensures)
+    wrote _ (now (start .args .output)) h (sym (at-refusal .sheet-refusal-in .ensures) ∙ at-plain .before .if1 .left) _ (at-plain .is-plain .ensures) (at-else .if2 .left) _ (at-size .other-size .ensures) (at-if3 .if3 .left) (at-if4 .if4 .left) _ (at-number .other-number .ensures)
     (c .before .before .put-other .ensures ∙ placed-after _ _)
 
 pub other-edition-spec : {M : Type 1} → statement M

@@ -18,8 +18,9 @@ same-length c = search needs
 
 returns : tie.Need-returns
 returns c =
+    let at-if1 = c .before .before .before .before in
     let start = c .before .before .before .before .before .before in
-    ending-put _ _ _ _ (start .pre .1) (c .before .before .before .before .if1 .taken) (c .before .before .put-sheet-trailer .ensures)
+    ending-put _ _ _ _ (start .pre .1) (at-if1 .if1 .taken) (c .before .before .put-sheet-trailer .ensures)
 
 mul-put-bytes : tie.Need-mul-put-bytes
 mul-put-bytes c = search needs
@@ -28,7 +29,9 @@ array-share-prefix-ones : tie.Need-array-share-prefix-ones
 array-share-prefix-ones c = search needs
 
 slice-aggregate-put-bytes : tie.Need-slice-aggregate-put-bytes
-slice-aggregate-put-bytes c = ones-long _ (c .before .before .before .before .pre .0)
+slice-aggregate-put-bytes c =
+    let start = c .before .before .before .before in
+    ones-long _ (start .pre .0)
 
 put-bytes-requires : tie.Need-put-bytes-requires
 put-bytes-requires c κs =

@@ -32,7 +32,9 @@ slice-set-from-to c =
     omega (arith, c .before .loop-test .taken, stored-long (start .pre .0) (c .before .before .loop .inv) (start .pre .1 .1), start .pre .1 .1)
 
 add-row : tie.Need-add-row Inv-loop μ-loop
-add-row c = omega (arith, row-span (c .before .before .before .before .pre .0) (c .before .loop-test .taken) (c .before .before .loop .inv .place))
+add-row c =
+    let start = c .before .before .before .before in
+    omega (arith, row-span (start .pre .0) (c .before .loop-test .taken) (c .before .before .loop .inv .place))
 
 loop-again : tie.Need-loop-again Inv-loop μ-loop
 loop-again c =

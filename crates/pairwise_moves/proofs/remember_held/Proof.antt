@@ -22,27 +22,39 @@ mul-if1 : tie.Need-mul-if1 Inv-loop μ-loop
 mul-if1 c = search needs
 
 shared-slice-read-if1 : tie.Need-shared-slice-read-if1 Inv-loop μ-loop
-shared-slice-read-if1 c = inside-shares _ _ (c .before .before .before .before .before .before .pre .1 .0) (c .before .before .before .before .before .before .args .shares .now) (c .before .before .before .before .before .before .pre .1 .1 .0) (c .before .loop-test .taken)
+shared-slice-read-if1 c =
+    let start = c .before .before .before .before .before .before in
+    inside-shares _ _ (start .pre .1 .0) (start .args .shares .now) (start .pre .1 .1 .0) (c .before .loop-test .taken)
 
 mul-at : tie.Need-mul-at Inv-loop μ-loop
-mul-at c = row-fits _ _ (c .before .before .before .before .before .before .before .pre .0) (c .before .before .before .before .before .before .before .pre .1 .1 .1) (c .before .before .before .loop .inv) (inside-boats _ _ (c .before .before .before .before .before .before .before .pre .1 .0) (c .before .before .loop-test .taken)) (c .before .before .before .before .before .before .before .pre .1 .0)
+mul-at c =
+    let start = c .before .before .before .before .before .before .before in
+    row-fits _ _ (start .pre .0) (start .pre .1 .1 .1) (c .before .before .before .loop .inv) (inside-boats _ _ (start .pre .1 .0) (c .before .before .loop-test .taken)) (start .pre .1 .0)
 
 mul-products-of : tie.Need-mul-products-of Inv-loop μ-loop
-mul-products-of c = row-bytes-fit _ _ (c .before .before .before .before .before .before .before .pre .0) (c .before .before .before .before .before .before .before .pre .1 .1 .1) (c .before .before .before .loop .inv) (inside-boats _ _ (c .before .before .before .before .before .before .before .pre .1 .0) (c .before .before .loop-test .taken)) (c .before .before .before .before .before .before .before .pre .1 .0)
+mul-products-of c =
+    let start = c .before .before .before .before .before .before .before in
+    row-bytes-fit _ _ (start .pre .0) (start .pre .1 .1 .1) (c .before .before .before .loop .inv) (inside-boats _ _ (start .pre .1 .0) (c .before .before .loop-test .taken)) (start .pre .1 .0)
 
 sub-products-of : tie.Need-sub-products-of Inv-loop μ-loop
-sub-products-of c = row-starts _ _ (c .before .before .before .before .before .before .before .pre .0) (c .before .before .before .before .before .before .before .pre .1 .1 .1) (c .before .before .before .loop .inv) (inside-boats _ _ (c .before .before .before .before .before .before .before .pre .1 .0) (c .before .before .loop-test .taken)) (c .before .before .before .before .before .before .before .pre .1 .0)
+sub-products-of c =
+    let start = c .before .before .before .before .before .before .before in
+    row-starts _ _ (start .pre .0) (start .pre .1 .1 .1) (c .before .before .before .loop .inv) (inside-boats _ _ (start .pre .1 .0) (c .before .before .loop-test .taken)) (start .pre .1 .0)
 
 part-products-of-start : tie.Need-part-products-of-start Inv-loop μ-loop
-part-products-of-start c = row-starts _ _ (c .before .before .before .before .before .before .before .pre .0) (c .before .before .before .before .before .before .before .pre .1 .1 .1) (c .before .before .before .loop .inv) (inside-boats _ _ (c .before .before .before .before .before .before .before .pre .1 .0) (c .before .before .loop-test .taken)) (c .before .before .before .before .before .before .before .pre .1 .0)
+part-products-of-start c =
+    let start = c .before .before .before .before .before .before .before in
+    row-starts _ _ (start .pre .0) (start .pre .1 .1 .1) (c .before .before .before .loop .inv) (inside-boats _ _ (start .pre .1 .0) (c .before .before .loop-test .taken)) (start .pre .1 .0)
 
 part-products-of-end : tie.Need-part-products-of-end Inv-loop μ-loop
 part-products-of-end c = search needs
 
 products-of-requires : tie.Need-products-of-requires Inv-loop μ-loop
 products-of-requires c κs =
-    let h = inside-boats _ _ (c .before .before .before .before .before .before .before .before .pre .1 .0) (c .before .before .before .loop-test .taken) in
-    ((c .before .before .before .before .before .before .before .before .pre .0), (c .before .before .before .before .before .before .before .before .pre .1 .0, (h, row-part _ _ (c .before .before .before .before .before .before .before .before .pre .0) (c .before .before .before .before .before .before .before .before .pre .1 .1 .1) (c .before .before .before .before .loop .inv) h (c .before .before .before .before .before .before .before .before .pre .1 .0))))
+    let at-loop = c .before .before .before .before in
+    let start = at-loop .before .before .before .before in
+    let h = inside-boats _ _ (start .pre .1 .0) (c .before .before .before .loop-test .taken) in
+    ((start .pre .0), (start .pre .1 .0, (h, row-part _ _ (start .pre .0) (start .pre .1 .1 .1) (at-loop .loop .inv) h (start .pre .1 .0))))
 
 add-i : tie.Need-add-i Inv-loop μ-loop
 add-i c = search needs
@@ -52,7 +64,8 @@ loop-less c = search needs
 
 loop-again : tie.Need-loop-again Inv-loop μ-loop
 loop-again c =
-    let k = c .before .before .before .before .before .before .before .pre in
+    let start = c .before .before .before .before .before .before .before in
+    let k = start .pre in
     let h = inside-boats _ _ (k .1 .0) (c .before .before .loop-test .taken) in
     let g = c .before .before .before .loop .inv in
     ⊎-elim
@@ -64,7 +77,9 @@ same-length : tie.Need-same-length Inv-loop μ-loop
 same-length c = c .before .loop .inv .slots
 
 returns : tie.Need-returns Inv-loop μ-loop
-returns c = remembering-end _ _ (c .before .before .before .before .before .pre .0) (c .before .before .before .before .before .pre .1 .1 .1) (c .before .loop .inv) (all-boats _ _ (c .before .before .before .before .before .pre .1 .0) (c .loop-test .left))
+returns c =
+    let start = c .before .before .before .before .before in
+    remembering-end _ _ (start .pre .0) (start .pre .1 .1 .1) (c .before .loop .inv) (all-boats _ _ (start .pre .1 .0) (c .loop-test .left))
 
 pub remember-held-spec : {M : Type 1} → statement M
 remember-held-spec =

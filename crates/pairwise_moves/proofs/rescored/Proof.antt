@@ -38,25 +38,40 @@ mul-if1 : tie.Need-mul-if1 Inv-loop μ-loop
 mul-if1 c = search needs
 
 shared-slice-read-if1 : tie.Need-shared-slice-read-if1 Inv-loop μ-loop
-shared-slice-read-if1 c = omega (arith, c .before .loop-test .taken, c .before .before .before .before .before .before .pre .1 .in-shares)
+shared-slice-read-if1 c =
+    let start = c .before .before .before .before .before .before in
+    omega (arith, c .before .loop-test .taken, start .pre .1 .in-shares)
 
 above-requires : tie.Need-above-requires Inv-loop μ-loop
-above-requires c κs = c .before .before .before .before .before .before .before .pre .1 .products _ (c .before .before .loop-test .taken)
+above-requires c κs =
+    let start = c .before .before .before .before .before .before .before in
+    start .pre .1 .products _ (c .before .before .loop-test .taken)
 
 mul-moved-score : tie.Need-mul-moved-score Inv-loop μ-loop
 mul-moved-score c = search needs
 
 slice-copy-out-moved-score : tie.Need-slice-copy-out-moved-score Inv-loop μ-loop
-slice-copy-out-moved-score c = omega (arith, c .before .before .before .loop-test .taken, passing-long (c .before .before .before .before .before .before .before .before .pre .1) (c .before .before .before .before .loop .inv .passing), c .before .before .before .before .before .before .before .before .pre .1 .score-sizes .long)
+slice-copy-out-moved-score c =
+    let at-loop = c .before .before .before .before in
+    let start = at-loop .before .before .before .before in
+    omega (arith, c .before .before .before .loop-test .taken, passing-long (start .pre .1) (at-loop .loop .inv .passing), start .pre .1 .score-sizes .long)
 
 moved-score-requires : tie.Need-moved-score-requires Inv-loop μ-loop
-moved-score-requires c κs = read-sized (score-sized (c .before .before .before .before .before .before .before .before .before .pre .1) (c .before .before .before .before .before .loop .inv .passing) (c .before .before .before .before .loop-test .taken) (c .before .above .ensures))
+moved-score-requires c κs =
+    let at-test = c .before .before .before .before in
+    let at-loop = at-test .before in
+    let start = at-loop .before .before .before .before in
+    read-sized (score-sized (start .pre .1) (at-loop .loop .inv .passing) (at-test .loop-test .taken) (c .before .above .ensures))
 
 mul-score : tie.Need-mul-score Inv-loop μ-loop
 mul-score c = search needs
 
 slice-set-from-score : tie.Need-slice-set-from-score Inv-loop μ-loop
-slice-set-from-score c = omega (arith, c .before .before .before .before .before .loop-test .taken, passing-long (c .before .before .before .before .before .before .before .before .before .before .pre .1) (c .before .before .before .before .before .before .loop .inv .passing), c .before .before .before .before .before .before .before .before .before .before .pre .1 .score-sizes .long)
+slice-set-from-score c =
+    let at-test = c .before .before .before .before .before in
+    let at-loop = at-test .before in
+    let start = at-loop .before .before .before .before in
+    omega (arith, at-test .loop-test .taken, passing-long (start .pre .1) (at-loop .loop .inv .passing), start .pre .1 .score-sizes .long)
 
 higher-requires : tie.Need-higher-requires Inv-loop μ-loop
 higher-requires c κs = tt
@@ -71,17 +86,24 @@ mul-i : tie.Need-mul-i Inv-loop μ-loop
 mul-i c = search (needs, list-goes-on (c .before .before .before .before .before .before .before .pre .1) (c .before .before .before .loop .inv) (c .before .before .loop-test .taken))
 
 shared-slice-read-i-2 : tie.Need-shared-slice-read-i-2 Inv-loop μ-loop
-shared-slice-read-i-2 c = list-goes-on (c .before .before .before .before .before .before .before .before .pre .1) (c .before .before .before .before .loop .inv) (c .before .before .before .loop-test .taken)
+shared-slice-read-i-2 c =
+    let at-loop = c .before .before .before .before in
+    let start = at-loop .before .before .before .before in
+    list-goes-on (start .pre .1) (at-loop .loop .inv) (c .before .before .before .loop-test .taken)
 
 loop-less : tie.Need-loop-less Inv-loop μ-loop
 loop-less c =
-    let z = c .before .before .before .before .before .before .before .before .pre .1 in
-    omega (arith, walking-later z (c .before .before .before .before .loop .inv) (c .before .before .before .loop-test .taken), walking-most z (c .before .before .before .before .loop .inv) (c .before .before .before .loop-test .taken))
+    let at-loop = c .before .before .before .before in
+    let start = at-loop .before .before .before .before in
+    let z = start .pre .1 in
+    omega (arith, walking-later z (at-loop .loop .inv) (c .before .before .before .loop-test .taken), walking-most z (at-loop .loop .inv) (c .before .before .before .loop-test .taken))
 
 loop-again : tie.Need-loop-again Inv-loop μ-loop
 loop-again c =
-    let z = c .before .before .before .before .before .before .before .before .pre .1 in
-    let d = c .before .before .before .before .loop .inv in
+    let at-loop = c .before .before .before .before in
+    let start = at-loop .before .before .before .before in
+    let z = start .pre .1 in
+    let d = at-loop .loop .inv in
     let h = c .before .before .before .loop-test .taken in
     ⊎-elim
     (λ w. walking-next z d h (passing-moved z (d .passing) h (w .0 .taken) (w .1 .ensures)
@@ -90,10 +112,14 @@ loop-again c =
     (c .before .if1 .came)
 
 same-length : tie.Need-same-length Inv-loop μ-loop
-same-length c = passing-long (c .before .before .before .before .before .pre .1) (c .before .loop .inv .passing)
+same-length c =
+    let start = c .before .before .before .before .before in
+    passing-long (start .pre .1) (c .before .loop .inv .passing)
 
 returns : tie.Need-returns Inv-loop μ-loop
-returns c = walking-end (c .before .before .before .before .before .pre .1) (c .before .loop .inv) (c .loop-test .left)
+returns c =
+    let start = c .before .before .before .before .before in
+    walking-end (start .pre .1) (c .before .loop .inv) (c .loop-test .left)
 
 pub rescored-spec : {M : Type 1} → statement M
 rescored-spec =

@@ -115,46 +115,56 @@ array-copy-out-slope-of c =
 
 mul-slope-of-2 : tie.Need-mul-slope-of-2 Inv-loop μ-loop
 mul-slope-of-2 c =
+    let at-loop = c .before .before .before .before in
     let start = c .before .before .before .before .before .before .before .before .before .before .before .before .before .before .before .before .before .before .before .before .before .before .before .before .before .before in
-    record { fits = omega (arith, to-below _ _ (start .pre .0) (c .before .before .before .before .loop .inv) (start .pre .1 .0), book-fits _ _ (start .pre .0) .most-boats) }
+    record { fits = omega (arith, to-below _ _ (start .pre .0) (at-loop .loop .inv) (start .pre .1 .0), book-fits _ _ (start .pre .0) .most-boats) }
 
 array-copy-out-slope-of-2 : tie.Need-array-copy-out-slope-of-2 Inv-loop μ-loop
 array-copy-out-slope-of-2 c =
+    let at-loop = c .before .before .before .before in
     let start = c .before .before .before .before .before .before .before .before .before .before .before .before .before .before .before .before .before .before .before .before .before .before .before .before .before .before in
-    omega (arith, to-below _ _ (start .pre .0) (c .before .before .before .before .loop .inv) (start .pre .1 .0), book-fits _ _ (start .pre .0) .most-boats)
+    omega (arith, to-below _ _ (start .pre .0) (at-loop .loop .inv) (start .pre .1 .0), book-fits _ _ (start .pre .0) .most-boats)
 
 slope-of-requires : tie.Need-slope-of-requires Inv-loop μ-loop
 slope-of-requires c κs =
+    let at-loop = c .before .before .before .before .before in
     let start = c .before .before .before .before .before .before .before .before .before .before .before .before .before .before .before .before .before .before .before .before .before .before .before .before .before .before .before in
-    slope-asks _ _ (start .pre .0) (c .before .before .before .before .before .loop .inv) (start .pre .1 .0)
+    slope-asks _ _ (start .pre .0) (at-loop .loop .inv) (start .pre .1 .0)
 
 mul-amount-of : tie.Need-mul-amount-of Inv-loop μ-loop
 mul-amount-of c =
+    let at-loop = c .before .before .before .before .before .before in
     let start = c .before .before .before .before .before .before .before .before .before .before .before .before .before .before .before .before .before .before .before .before .before .before .before .before .before .before .before .before in
-    record { fits = omega (arith, from-below _ _ (start .pre .0) (c .before .before .before .before .before .before .loop .inv) (start .pre .1 .0), book-fits _ _ (start .pre .0) .most-boats) }
+    record { fits = omega (arith, from-below _ _ (start .pre .0) (at-loop .loop .inv) (start .pre .1 .0), book-fits _ _ (start .pre .0) .most-boats) }
 
 array-read-amount-of : tie.Need-array-read-amount-of Inv-loop μ-loop
 array-read-amount-of c =
+    let at-loop = c .before .before .before .before .before .before in
     let start = c .before .before .before .before .before .before .before .before .before .before .before .before .before .before .before .before .before .before .before .before .before .before .before .before .before .before .before .before in
-    omega (arith, from-below _ _ (start .pre .0) (c .before .before .before .before .before .before .loop .inv) (start .pre .1 .0), book-fits _ _ (start .pre .0) .most-boats)
+    omega (arith, from-below _ _ (start .pre .0) (at-loop .loop .inv) (start .pre .1 .0), book-fits _ _ (start .pre .0) .most-boats)
 
 amount-of-requires : tie.Need-amount-of-requires Inv-loop μ-loop
 amount-of-requires c κs =
+    let at-loop = c .before .before .before .before .before .before in
     let start = c .before .before .before .before .before .before .before .before .before .before .before .before .before .before .before .before .before .before .before .before .before .before .before .before .before .before .before .before in
-    amount-asks _ _ (start .pre .0) (c .before .before .before .before .before .before .loop .inv) (start .pre .1 .0) (c .slope-of .ensures) (c .before .before .before .apart-of .ensures)
+    amount-asks _ _ (start .pre .0) (at-loop .loop .inv) (start .pre .1 .0) (c .slope-of .ensures) (c .before .before .before .apart-of .ensures)
 
 returns : tie.Need-returns Inv-loop μ-loop
 returns c =
+    let at-apart-of = c .before .before .before .before .before in
+    let at-loop = at-apart-of .before .before .before in
     let start = c .before .before .before .before .before .before .before .before .before .before .before .before .before .before .before .before .before .before .before .before .before .before .before .before .before .before .before .before .before .before in
-    stopped _ _ (start .pre .0) (c .before .before .before .before .before .before .before .before .loop .inv) (start .pre .1 .0) (c .before .before .slope-of .ensures) (c .before .before .before .before .before .apart-of .ensures) (c .before .amount-of .ensures) (c .if1 .taken)
+    stopped _ _ (start .pre .0) (at-loop .loop .inv) (start .pre .1 .0) (c .before .before .slope-of .ensures) (at-apart-of .apart-of .ensures) (c .before .amount-of .ensures) (c .if1 .taken)
 
 slice-aggregate-exchange : tie.Need-slice-aggregate-exchange Inv-loop μ-loop
 slice-aggregate-exchange c = search needs
 
 exchange-requires : tie.Need-exchange-requires Inv-loop μ-loop
 exchange-requires c κs =
+    let at-apart-of = c .before .before .before .before .before .before in
+    let at-loop = at-apart-of .before .before .before in
     let start = c .before .before .before .before .before .before .before .before .before .before .before .before .before .before .before .before .before .before .before .before .before .before .before .before .before .before .before .before .before .before .before in
-    exchange-asks _ _ (start .pre .0) (c .before .before .before .before .before .before .before .before .before .loop .inv) (start .pre .1 .0) (c .before .before .before .slope-of .ensures) (c .before .before .before .before .before .before .apart-of .ensures) (c .before .before .amount-of .ensures) (c .before .if1 .left)
+    exchange-asks _ _ (start .pre .0) (at-loop .loop .inv) (start .pre .1 .0) (c .before .before .before .slope-of .ensures) (at-apart-of .apart-of .ensures) (c .before .before .amount-of .ensures) (c .before .if1 .left)
 
 slice-aggregate-rescored-5 : tie.Need-slice-aggregate-rescored-5 Inv-loop μ-loop
 slice-aggregate-rescored-5 c = search needs
@@ -170,21 +180,35 @@ slice-aggregate-rescored-8 c = search needs
 
 rescored-requires-2 : tie.Need-rescored-requires-2 Inv-loop μ-loop
 rescored-requires-2 c κs =
+    let at-exchange = c .before .before .before .before .before in
+    let at-if1 = at-exchange .before .before in
+    let at-amount-of = at-if1 .before in
+    let at-slope-of = at-amount-of .before in
+    let at-apart-of = at-slope-of .before .before .before in
+    let at-loop = at-apart-of .before .before .before in
     let start = c .before .before .before .before .before .before .before .before .before .before .before .before .before .before .before .before .before .before .before .before .before .before .before .before .before .before .before .before .before .before .before .before .before .before .before .before .before in
-    rescore-asks _ _ (start .pre .0) (c .before .before .before .before .before .before .before .before .before .before .before .before .before .before .before .loop .inv) (start .pre .1 .0) (c .before .before .before .before .before .before .before .before .before .slope-of .ensures) (c .before .before .before .before .before .before .before .before .before .before .before .before .apart-of .ensures) (c .before .before .before .before .before .before .before .before .amount-of .ensures) (c .before .before .before .before .before .before .before .if1 .left) (c .before .before .before .before .before .exchange .ensures)
+    rescore-asks _ _ (start .pre .0) (at-loop .loop .inv) (start .pre .1 .0) (at-slope-of .slope-of .ensures) (at-apart-of .apart-of .ensures) (at-amount-of .amount-of .ensures) (at-if1 .if1 .left) (at-exchange .exchange .ensures)
 
 add-made : tie.Need-add-made Inv-loop μ-loop
 add-made c =
+    let at-test = c .before .before .before .before .before .before .before .before .before .before .before .before .before .before .before .before in
     let start = c .before .before .before .before .before .before .before .before .before .before .before .before .before .before .before .before .before .before .before .before .before .before .before .before .before .before .before .before .before .before .before .before .before .before .before .before .before .before .before in
-    record { fits = omega (arith, c .before .before .before .before .before .before .before .before .before .before .before .before .before .before .before .before .loop-test .taken, start .fits) }
+    record { fits = omega (arith, at-test .loop-test .taken, start .fits) }
 
 loop-less : tie.Need-loop-less Inv-loop μ-loop
 loop-less c = search needs
 
 loop-again : tie.Need-loop-again Inv-loop μ-loop
 loop-again c =
+    let at-exchange = c .before .before .before .before .before .before .before in
+    let at-if1 = at-exchange .before .before in
+    let at-amount-of = at-if1 .before in
+    let at-slope-of = at-amount-of .before in
+    let at-apart-of = at-slope-of .before .before .before in
+    let at-test = at-apart-of .before .before in
+    let at-loop = at-test .before in
     let start = c .before .before .before .before .before .before .before .before .before .before .before .before .before .before .before .before .before .before .before .before .before .before .before .before .before .before .before .before .before .before .before .before .before .before .before .before .before .before .before in
-    working-next _ _ (start .pre .0) (c .before .before .before .before .before .before .before .before .before .before .before .before .before .before .before .before .before .loop .inv) (start .pre .1 .0) (c .before .before .before .before .before .before .before .before .before .before .before .slope-of .ensures) (c .before .before .before .before .before .before .before .before .before .before .before .before .before .before .apart-of .ensures) (c .before .before .before .before .before .before .before .before .before .before .amount-of .ensures) (c .before .before .before .before .before .before .before .before .before .if1 .left) (c .before .before .before .before .before .before .before .exchange .ensures) (c .before .rescored2 .ensures .0) (c .before .rescored2 .ensures .1) (c .before .before .before .before .before .before .before .before .before .before .before .before .before .before .before .before .loop-test .taken)
+    working-next _ _ (start .pre .0) (at-loop .loop .inv) (start .pre .1 .0) (at-slope-of .slope-of .ensures) (at-apart-of .apart-of .ensures) (at-amount-of .amount-of .ensures) (at-if1 .if1 .left) (at-exchange .exchange .ensures) (c .before .rescored2 .ensures .0) (c .before .rescored2 .ensures .1) (at-test .loop-test .taken)
 
 returns-2 : tie.Need-returns-2 Inv-loop μ-loop
 returns-2 c =

@@ -61,12 +61,13 @@ stops-requires c κs = search needs
 
 add-shares-requires : tie.Need-add-shares-requires
 add-shares-requires c κs =
+    let at-first-answer = c .before .before .before .before .before in
     let at-fresh = c .before .before .before .before .before .before in
     let at-clear = at-fresh .before .before .before in
     let at-layout-of = at-clear .before .before in
     let start = at-layout-of .before .before .before .before .before in
     let S = schedule-sized (schedule-of (start .args .lent) (start .args .table .now)) (start .pre .1 .0) in
-    rw (first-weight _ _ (start .pre .0) S (c .before .before .before .before .before .first-answer .ensures))
+    rw (first-weight _ _ (start .pre .0) S (at-first-answer .first-answer .ensures))
     (share-room _ _ (start .pre .0) S (at-fresh .fresh .ensures _) (omega arith) (cleared _ _ (start .pre .0) S (at-layout-of .layout-of .ensures) _ (start .pre .1 .1) (at-clear .clear .ensures)))
 
 same-length : tie.Need-same-length
@@ -98,6 +99,7 @@ slice-aggregate-run-from-2 c = search needs
 run-from-requires : tie.Need-run-from-requires
 run-from-requires c κs =
     let at-if2 = c .before .before .before in
+    let at-steps = at-if2 .before .before .before .before in
     let at-fresh = at-if2 .before .before .before .before .before .before in
     let at-clear = at-fresh .before .before .before in
     let at-layout-of = at-clear .before .before in
@@ -105,7 +107,7 @@ run-from-requires c κs =
     let S = schedule-sized (schedule-of (start .args .lent) (start .args .table .now)) (start .pre .1 .0) in
     let ok = start .pre .0 in
     let l = at-layout-of .layout-of .ensures in
-    (ok, (start .pre .1 .0, (l, (at-if2 .before .before .before .steps2 .ensures ∙ rw (at-if2 .before .before .before .before .steps .ensures), (at-fresh .fresh .ensures _, (cleared-shares _ _ ok S l _ (start .pre .1 .1) (at-clear .clear .ensures), (scores-for _ _ ok S 16 l (at-if2 .if2 .taken), room-for _ _ 16 l (at-if2 .if2 .taken))))))))
+    (ok, (start .pre .1 .0, (l, (at-if2 .before .before .before .steps2 .ensures ∙ rw (at-steps .steps .ensures), (at-fresh .fresh .ensures _, (cleared-shares _ _ ok S l _ (start .pre .1 .1) (at-clear .clear .ensures), (scores-for _ _ ok S 16 l (at-if2 .if2 .taken), room-for _ _ 16 l (at-if2 .if2 .taken))))))))
 
 same-length-2 : tie.Need-same-length-2
 same-length-2 c = search needs
@@ -128,6 +130,8 @@ slice-aggregate-run-from-4 c = search needs
 run-from-requires-2 : tie.Need-run-from-requires-2
 run-from-requires-2 c κs =
     let at-if3 = c .before .before .before in
+    let at-steps2 = at-if3 .before .before .before .before in
+    let at-steps = at-steps2 .before in
     let at-fresh = at-if3 .before .before .before .before .before .before .before in
     let at-clear = at-fresh .before .before .before in
     let at-layout-of = at-clear .before .before in
@@ -135,7 +139,7 @@ run-from-requires-2 c κs =
     let S = schedule-sized (schedule-of (start .args .lent) (start .args .table .now)) (start .pre .1 .0) in
     let ok = start .pre .0 in
     let l = at-layout-of .layout-of .ensures in
-    (ok, (start .pre .1 .0, (l, (at-if3 .before .before .before .before .steps2 .ensures ∙ rw (at-if3 .before .before .before .before .before .steps .ensures), (at-fresh .fresh .ensures _, (cleared-shares _ _ ok S l _ (start .pre .1 .1) (at-clear .clear .ensures), (scores-for _ _ ok S 64 l (at-if3 .if3 .taken), room-for _ _ 64 l (at-if3 .if3 .taken))))))))
+    (ok, (start .pre .1 .0, (l, (at-steps2 .steps2 .ensures ∙ rw (at-steps .steps .ensures), (at-fresh .fresh .ensures _, (cleared-shares _ _ ok S l _ (start .pre .1 .1) (at-clear .clear .ensures), (scores-for _ _ ok S 64 l (at-if3 .if3 .taken), room-for _ _ 64 l (at-if3 .if3 .taken))))))))
 
 same-length-3 : tie.Need-same-length-3
 same-length-3 c = search needs

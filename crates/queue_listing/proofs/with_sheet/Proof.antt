@@ -51,7 +51,8 @@ with-bytes-requires c κs =
     let at-used = at-verdict .before in
     let at-asked = at-used .before .before in
     let at-number = at-asked .before .before in
-    omega (arith, at-gap .with-named4 .ensures .1, at-verdict .with-verdict .ensures .1, at-used .with-named3 .ensures .1, at-asked .with-named2 .ensures .1, at-number .with-named .ensures .1, at-number .before .before .before .before .pre .1)
+    let start = at-number .before .before .before .before in
+    omega (arith, at-gap .with-named4 .ensures .1, at-verdict .with-verdict .ensures .1, at-used .with-named3 .ensures .1, at-asked .with-named2 .ensures .1, at-number .with-named .ensures .1, start .pre .1)
 
 returns : tie.Need-returns
 returns c =

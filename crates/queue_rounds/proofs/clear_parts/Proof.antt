@@ -31,10 +31,16 @@ part-clear-end : tie.Need-part-clear-end Inv-loop μ-loop
 part-clear-end c = omega (arith, c .before .before .before .pre .1, c .loop-test .taken, c .before .loop .inv .1 .long)
 
 clear-requires : tie.Need-clear-requires Inv-loop μ-loop
-clear-requires c κs = omega (arith, c .before .before .before .before .pre .0, mid-length (c .before .before .loop .i) (c .before .before .loop .shares) (omega (arith, c .before .before .before .before .pre .1, c .before .loop-test .taken, c .before .before .loop .inv .1 .long)))
+clear-requires c κs =
+    let start = c .before .before .before .before in
+    omega (arith, start .pre .0, mid-length (c .before .before .loop .i) (c .before .before .loop .shares) (omega (arith, start .pre .1, c .before .loop-test .taken, c .before .before .loop .inv .1 .long)))
 
 loop-again : tie.Need-loop-again Inv-loop μ-loop
-loop-again c = (omega arith, cleared-more (c .before .before .before .before .before .loop .inv .1) (c .before .before .before .before .before .before .before .pre .0) (omega (arith, c .before .before .before .before .before .before .before .pre .1, c .before .before .before .before .loop-test .taken)) (c .before .before .clear .ensures))
+loop-again c =
+    let at-test = c .before .before .before .before in
+    let at-loop = at-test .before in
+    let start = at-loop .before .before in
+    (omega arith, cleared-more (at-loop .loop .inv .1) (start .pre .0) (omega (arith, start .pre .1, at-test .loop-test .taken)) (c .before .before .clear .ensures))
 
 same-length : tie.Need-same-length Inv-loop μ-loop
 same-length c = c .before .loop .inv .1 .long

@@ -26,15 +26,19 @@ turn-requires c κs = (c .before .before .loop-test .taken, c .before .before .b
 
 loop-again : tie.Need-loop-again Inv-loop μ-loop
 loop-again c =
-    let v = c .before .before .before .before .before .before .before .loop .inv in
+    let at-test = c .before .before .before .before .before .before in
+    let at-loop = at-test .before in
+    let v = at-loop .loop .inv in
     let h = c .before .before .before .turn .ensures in
-    (omega arith, (h .0, (passes (v .1 .1 .0) (omega (arith, own-length (v .1 .0 .accepted), c .before .before .before .before .before .before .loop-test .taken)) (h .1 .0), rest-both (v .1 .1 .1) (h .1 .1))))
+    (omega arith, (h .0, (passes (v .1 .1 .0) (omega (arith, own-length (v .1 .0 .accepted), at-test .loop-test .taken)) (h .1 .0), rest-both (v .1 .1 .1) (h .1 .1))))
 
 same-length : tie.Need-same-length Inv-loop μ-loop
 same-length c = c .before .loop .inv .1 .1 .1 .long
 
 same-length-2 : tie.Need-same-length-2 Inv-loop μ-loop
-same-length-2 c = c .before .loop .inv .1 .0 .scores-long ∙ sym (c .before .before .before .before .before .pre .scores-long)
+same-length-2 c =
+    let start = c .before .before .before .before .before in
+    c .before .loop .inv .1 .0 .scores-long ∙ sym (start .pre .scores-long)
 
 returns : tie.Need-returns Inv-loop μ-loop
 returns c =

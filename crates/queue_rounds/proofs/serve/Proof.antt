@@ -26,24 +26,38 @@ one-round-requires : tie.Need-one-round-requires Inv-loop μ-loop
 one-round-requires c κs = c .before .before .before .loop .inv .0
 
 same-length : tie.Need-same-length Inv-loop μ-loop
-same-length c = rest-both (c .before .before .before .before .before .before .before .before .before .before .before .before .loop .inv .1 .1) (c .before .before .before .before .before .before .before .before .one-round .ensures .1 .1) .long
+same-length c =
+    let at-one-round = c .before .before .before .before .before .before .before .before in
+    let at-loop = at-one-round .before .before .before .before in
+    rest-both (at-loop .loop .inv .1 .1) (at-one-round .one-round .ensures .1 .1) .long
 
 same-length-2 : tie.Need-same-length-2 Inv-loop μ-loop
-same-length-2 c = c .before .before .before .before .before .before .before .before .one-round .ensures .0 .scores-long ∙ sym (c .before .before .before .before .before .before .before .before .before .before .before .before .before .before .before .before .pre .0 .scores-long)
+same-length-2 c =
+    let at-one-round = c .before .before .before .before .before .before .before .before in
+    let start = at-one-round .before .before .before .before .before .before .before .before in
+    at-one-round .one-round .ensures .0 .scores-long ∙ sym (start .pre .0 .scores-long)
 
 returns : tie.Need-returns Inv-loop μ-loop
 returns c =
-    let v = c .before .before .before .before .before .before .before .before .before .before .before .before .loop .inv in
-    let h = c .before .before .before .before .before .before .before .before .one-round .ensures in
-    (served-end (h .0) (stops (v .1 .0) (h .1 .0) (c .before .if1 .taken)) (c .before .before .before .before .before .before .before .before .before .before .before .before .before .before .before .before .pre .1 .1), rest-both (v .1 .1) (h .1 .1))
+    let at-one-round = c .before .before .before .before .before .before .before .before in
+    let at-loop = at-one-round .before .before .before .before in
+    let start = at-loop .before .before .before .before in
+    let v = at-loop .loop .inv in
+    let h = at-one-round .one-round .ensures in
+    (served-end (h .0) (stops (v .1 .0) (h .1 .0) (c .before .if1 .taken)) (start .pre .1 .1), rest-both (v .1 .1) (h .1 .1))
 
 loop-less : tie.Need-loop-less Inv-loop μ-loop
-loop-less c = falls (c .before .before .before .before .before .before .before .before .before .before .before .loop .inv .1 .0) (c .before .before .before .before .before .before .before .one-round .ensures .1 .0) (c .if1 .left)
+loop-less c =
+    let at-one-round = c .before .before .before .before .before .before .before in
+    let at-loop = at-one-round .before .before .before .before in
+    falls (at-loop .loop .inv .1 .0) (at-one-round .one-round .ensures .1 .0) (c .if1 .left)
 
 loop-again : tie.Need-loop-again Inv-loop μ-loop
 loop-again c =
-    let v = c .before .before .before .before .before .before .before .before .before .before .before .loop .inv in
-    let h = c .before .before .before .before .before .before .before .one-round .ensures in
+    let at-one-round = c .before .before .before .before .before .before .before in
+    let at-loop = at-one-round .before .before .before .before in
+    let v = at-loop .loop .inv in
+    let h = at-one-round .one-round .ensures in
     (h .0, (goes (v .1 .0) (h .1 .0), rest-both (v .1 .1) (h .1 .1)))
 
 pub serve-spec : {M : Type 1} → statement M

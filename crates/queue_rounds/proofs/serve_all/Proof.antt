@@ -10,28 +10,43 @@ use Rattle.queue_rounds.proofs.serve_all.Statement.{statement}
 use Rattle.queue_rounds.proofs.serve_all.Tie as tie
 
 boats-requires : tie.Need-boats-requires
-boats-requires c κs = let p = c .before .before .before .before .pre in files-accepted _ _ (p .0 .each 0 (p .0 .some)) .0 .at-least
+boats-requires c κs =
+    let start = c .before .before .before .before in
+    let p = start .pre in files-accepted _ _ (p .0 .each 0 (p .0 .some)) .0 .at-least
 
 clear-parts-requires : tie.Need-clear-parts-requires
-clear-parts-requires c κs = let p = c .before .before .before .before .before .pre in (omega (arith, c .boats .ensures, boats-few (p .0) {i = 0} (p .0 .some)), p .1 .1)
+clear-parts-requires c κs =
+    let start = c .before .before .before .before .before in
+    let p = start .pre in (omega (arith, c .boats .ensures, boats-few (p .0) {i = 0} (p .0 .some)), p .1 .1)
 
 start-all-requires : tie.Need-start-all-requires
-start-all-requires c κs = c .before .before .before .before .before .before .before .before .pre .0
+start-all-requires c κs =
+    let start = c .before .before .before .before .before .before .before .before in
+    start .pre .0
 
 serve-requires : tie.Need-serve-requires
 serve-requires c κs =
-    let p = c .before .before .before .before .before .before .before .before .before .before .before .pre in
-    (start-works (p .0) _ (p .1 .1) (c .before .before .before .before .before .before .boats .ensures) (c .before .before .before .before .before .clear-parts .ensures) _ (c .before .before .start-all .ensures), (refl, p .1 .0))
+    let at-clear-parts = c .before .before .before .before .before in
+    let at-boats = at-clear-parts .before in
+    let start = at-boats .before .before .before .before .before in
+    let p = start .pre in
+    (start-works (p .0) _ (p .1 .1) (at-boats .boats .ensures) (at-clear-parts .clear-parts .ensures) _ (c .before .before .start-all .ensures), (refl, p .1 .0))
 
 same-length : tie.Need-same-length
 same-length c =
-    let p = c .before .before .before .before .before .before .before .before .before .before .before .before .before .before .before .pre in
-    rest-both (start-rest (p .0) _ (p .1 .1) (c .before .before .before .before .before .before .before .before .before .before .boats .ensures) (c .before .before .before .before .before .before .before .before .before .clear-parts .ensures)) (c .before .before .before .serve .ensures .1) .long
+    let at-clear-parts = c .before .before .before .before .before .before .before .before .before in
+    let at-boats = at-clear-parts .before in
+    let start = at-boats .before .before .before .before .before in
+    let p = start .pre in
+    rest-both (start-rest (p .0) _ (p .1 .1) (at-boats .boats .ensures) (at-clear-parts .clear-parts .ensures)) (c .before .before .before .serve .ensures .1) .long
 
 returns : tie.Need-returns
 returns c =
-    let p = c .before .before .before .before .before .before .before .before .before .before .before .before .before .before .before .pre in
-    (c .before .before .before .serve .ensures .0, rest-both (start-rest (p .0) _ (p .1 .1) (c .before .before .before .before .before .before .before .before .before .before .boats .ensures) (c .before .before .before .before .before .before .before .before .before .clear-parts .ensures)) (c .before .before .before .serve .ensures .1))
+    let at-clear-parts = c .before .before .before .before .before .before .before .before .before in
+    let at-boats = at-clear-parts .before in
+    let start = at-boats .before .before .before .before .before in
+    let p = start .pre in
+    (c .before .before .before .serve .ensures .0, rest-both (start-rest (p .0) _ (p .1 .1) (at-boats .boats .ensures) (at-clear-parts .clear-parts .ensures)) (c .before .before .before .serve .ensures .1))
 
 pub serve-all-spec : {M : Type 1} → statement M
 serve-all-spec =

@@ -8,7 +8,9 @@ use Rattle.queue_rounds.proofs.sheet_at.Statement.{statement}
 use Rattle.queue_rounds.proofs.sheet_at.Tie as tie
 
 add-end : tie.Need-add-end
-add-end c = record { fits = omega (arith, c .before .total-of .ensures .1, c .wide .ensures .1, c .before .before .before .before .pre .0) }
+add-end c =
+    let start = c .before .before .before .before in
+    record { fits = omega (arith, c .before .total-of .ensures .1, c .wide .ensures .1, start .pre .0) }
 
 part-result-end : tie.Need-part-result-end
 part-result-end c =

@@ -20,19 +20,29 @@ loop-holds : tie.Need-loop-holds Inv-loop μ-loop
 loop-holds c = (omega arith, started-none (length-replicate 16 no-state))
 
 sheet-at-requires : tie.Need-sheet-at-requires Inv-loop μ-loop
-sheet-at-requires c κs = ((c .loop-test .taken, c .before .before .before .before .pre .few), c .before .before .before .before .pre .total)
+sheet-at-requires c κs =
+    let start = c .before .before .before .before in
+    ((c .loop-test .taken, start .pre .few), start .pre .total)
 
 start-requires : tie.Need-start-requires Inv-loop μ-loop
-start-requires c κs = rw (c .sheet-at .ensures) (c .before .before .before .before .before .pre .each _ (c .before .loop-test .taken))
+start-requires c κs =
+    let start = c .before .before .before .before .before in
+    rw (c .sheet-at .ensures) (start .pre .each _ (c .before .loop-test .taken))
 
 mul-states : tie.Need-mul-states Inv-loop μ-loop
-mul-states c = record { fits = omega (arith, c .before .before .before .before .before .before .pre .few, c .before .before .loop-test .taken) }
+mul-states c =
+    let start = c .before .before .before .before .before .before in
+    record { fits = omega (arith, start .pre .few, c .before .before .loop-test .taken) }
 
 array-set-from-states : tie.Need-array-set-from-states Inv-loop μ-loop
-array-set-from-states c = omega (arith, c .before .before .before .before .before .before .pre .few, c .before .before .loop-test .taken)
+array-set-from-states c =
+    let start = c .before .before .before .before .before .before in
+    omega (arith, start .pre .few, c .before .before .loop-test .taken)
 
 loop-again : tie.Need-loop-again Inv-loop μ-loop
-loop-again c = (omega arith, started-more (c .before .before .before .loop .inv .1) (omega (arith, c .before .before .before .before .before .before .pre .few, c .before .before .loop-test .taken)) (c .before .sheet-at .ensures) (c .start .ensures))
+loop-again c =
+    let start = c .before .before .before .before .before .before in
+    (omega arith, started-more (c .before .before .before .loop .inv .1) (omega (arith, start .pre .few, c .before .before .loop-test .taken)) (c .before .sheet-at .ensures) (c .start .ensures))
 
 returns : tie.Need-returns Inv-loop μ-loop
 returns c = started-all (c .before .loop .inv .1) (c .loop-test .left)

@@ -18,7 +18,9 @@ loop-holds : tie.Need-loop-holds Inv-loop μ-loop
 loop-holds c = (omega arith, totalled-none _)
 
 add-n : tie.Need-add-n Inv-loop μ-loop
-add-n c = record { fits = omega (arith, c .before .before .loop .inv .1 .few, c .before .before .loop .inv .0, c .before .before .before .before .pre, c .wide .ensures .1) }
+add-n c =
+    let start = c .before .before .before .before in
+    record { fits = omega (arith, c .before .before .loop .inv .1 .few, c .before .before .loop .inv .0, start .pre, c .wide .ensures .1) }
 
 loop-again : tie.Need-loop-again Inv-loop μ-loop
 loop-again c =

@@ -10,60 +10,97 @@ use Rattle.queue_rounds.proofs.turn.Statement.{statement}
 use Rattle.queue_rounds.proofs.turn.Tie as tie
 
 due-requires : tie.Need-due-requires
-due-requires c κs = let p = c .before .before .before .before .pre in i-few (p .1) (p .0)
+due-requires c κs =
+    let start = c .before .before .before .before in
+    let p = start .pre in i-few (p .1) (p .0)
 
 returns : tie.Need-returns
 returns c =
-    let p = c .before .before .before .before .before .before .pre in
+    let start = c .before .before .before .before .before .before in
+    let p = start .pre in
     let W = p .1 in
     (W, (waits (W .kept) _ (omega (arith, p .0, own-length (W .accepted))) (sym (c .before .due .ensures) ∙ not-true (c .before .due .result) (c .if1 .taken)), rest-same))
 
 sheet-at-requires : tie.Need-sheet-at-requires
-sheet-at-requires c κs = let p = c .before .before .before .before .before .before .pre in ((p .0, p .1 .accepted .few), p .1 .accepted .total)
+sheet-at-requires c κs =
+    let start = c .before .before .before .before .before .before in
+    let p = start .pre in ((p .0, p .1 .accepted .few), p .1 .accepted .total)
 
 mul-at : tie.Need-mul-at
-mul-at c = let p = c .before .before .before .before .before .before .before .before .before .pre in record { fits = omega (arith, i-few (p .1) (p .0)) }
+mul-at c =
+    let start = c .before .before .before .before .before .before .before .before .before in
+    let p = start .pre in record { fits = omega (arith, i-few (p .1) (p .0)) }
 
 add-end : tie.Need-add-end
-add-end c = let p = c .before .before .before .before .before .before .before .before .before .pre in record { fits = omega (arith, i-few (p .1) (p .0)) }
+add-end c =
+    let start = c .before .before .before .before .before .before .before .before .before in
+    let p = start .pre in record { fits = omega (arith, i-few (p .1) (p .0)) }
 
 mul-turn : tie.Need-mul-turn
-mul-turn c = let p = c .before .before .before .before .before .before .before .before .before .pre in record { fits = omega (arith, i-few (p .1) (p .0)) }
+mul-turn c =
+    let start = c .before .before .before .before .before .before .before .before .before in
+    let p = start .pre in record { fits = omega (arith, i-few (p .1) (p .0)) }
 
 array-copy-out-turn : tie.Need-array-copy-out-turn
-array-copy-out-turn c = let p = c .before .before .before .before .before .before .before .before .before .pre in omega (arith, i-few (p .1) (p .0))
+array-copy-out-turn c =
+    let start = c .before .before .before .before .before .before .before .before .before in
+    let p = start .pre in omega (arith, i-few (p .1) (p .0))
 
 mul-turn-2 : tie.Need-mul-turn-2
-mul-turn-2 c = let p = c .before .before .before .before .before .before .before .before .before .before .pre in record { fits = omega (arith, i-few (p .1) (p .0)) }
+mul-turn-2 c =
+    let start = c .before .before .before .before .before .before .before .before .before .before in
+    let p = start .pre in record { fits = omega (arith, i-few (p .1) (p .0)) }
 
 part-turn-end : tie.Need-part-turn-end
-part-turn-end c = let p = c .before .before .before .before .before .before .before .before .before .before .pre in slots-room (p .1) (p .0)
+part-turn-end c =
+    let start = c .before .before .before .before .before .before .before .before .before .before in
+    let p = start .pre in slots-room (p .1) (p .0)
 
 mul-turn-3 : tie.Need-mul-turn-3
-mul-turn-3 c = let p = c .before .before .before .before .before .before .before .before .before .before .before .pre in record { fits = omega (arith, i-few (p .1) (p .0)) }
+mul-turn-3 c =
+    let start = c .before .before .before .before .before .before .before .before .before .before .before in
+    let p = start .pre in record { fits = omega (arith, i-few (p .1) (p .0)) }
 
 part-turn-end-2 : tie.Need-part-turn-end-2
-part-turn-end-2 c = let p = c .before .before .before .before .before .before .before .before .before .before .before .pre in scores-room (p .1) (p .0)
+part-turn-end-2 c =
+    let start = c .before .before .before .before .before .before .before .before .before .before .before in
+    let p = start .pre in scores-room (p .1) (p .0)
 
 turn-requires : tie.Need-turn-requires
 turn-requires c κs =
-    let p = c .before .before .before .before .before .before .before .before .before .before .before .before .pre in
-    turn-asks (p .1) (p .0) (sym (c .before .before .before .before .before .before .before .due .ensures) ∙ not-false (c .before .before .before .before .before .before .before .due .result) (c .before .before .before .before .before .before .if1 .left)) (c .before .before .before .before .before .sheet-at .ensures)
+    let at-sheet-at = c .before .before .before .before .before in
+    let at-if1 = at-sheet-at .before in
+    let at-due = at-if1 .before in
+    let start = at-due .before .before .before .before .before in
+    let p = start .pre in
+    turn-asks (p .1) (p .0) (sym (at-due .due .ensures) ∙ not-false (at-due .due .result) (at-if1 .if1 .left)) (at-sheet-at .sheet-at .ensures)
 
 mul-states : tie.Need-mul-states
-mul-states c = let p = c .before .before .before .before .before .before .before .before .before .before .before .before .before .before .before .before .before .before .pre in record { fits = omega (arith, i-few (p .1) (p .0)) }
+mul-states c =
+    let start = c .before .before .before .before .before .before .before .before .before .before .before .before .before .before .before .before .before .before in
+    let p = start .pre in record { fits = omega (arith, i-few (p .1) (p .0)) }
 
 array-set-from-states : tie.Need-array-set-from-states
-array-set-from-states c = let p = c .before .before .before .before .before .before .before .before .before .before .before .before .before .before .before .before .before .before .pre in omega (arith, i-few (p .1) (p .0))
+array-set-from-states c =
+    let start = c .before .before .before .before .before .before .before .before .before .before .before .before .before .before .before .before .before .before in
+    let p = start .pre in omega (arith, i-few (p .1) (p .0))
 
 mul-records : tie.Need-mul-records
-mul-records c = let p = c .before .before .before .before .before .before .before .before .before .before .before .before .before .before .before .before .before .before .pre in record { fits = omega (arith, i-few (p .1) (p .0)) }
+mul-records c =
+    let start = c .before .before .before .before .before .before .before .before .before .before .before .before .before .before .before .before .before .before in
+    let p = start .pre in record { fits = omega (arith, i-few (p .1) (p .0)) }
 
 array-set-from-records : tie.Need-array-set-from-records
-array-set-from-records c = let p = c .before .before .before .before .before .before .before .before .before .before .before .before .before .before .before .before .before .before .pre in omega (arith, i-few (p .1) (p .0))
+array-set-from-records c =
+    let start = c .before .before .before .before .before .before .before .before .before .before .before .before .before .before .before .before .before .before in
+    let p = start .pre in omega (arith, i-few (p .1) (p .0))
 
 took-requires : tie.Need-took-requires
-took-requires c κs = let p = c .before .before .before .before .before .before .before .before .before .before .before .before .before .before .before .before .before .before .pre in took-asks (p .1) (p .0) (sym (c .before .before .before .before .before .before .before .before .before .before .before .before .before .due .ensures) ∙ not-false (c .before .before .before .before .before .before .before .before .before .before .before .before .before .due .result) (c .before .before .before .before .before .before .before .before .before .before .before .before .if1 .left))
+took-requires c κs =
+    let at-if1 = c .before .before .before .before .before .before .before .before .before .before .before .before in
+    let at-due = at-if1 .before in
+    let start = at-due .before .before .before .before .before in
+    let p = start .pre in took-asks (p .1) (p .0) (sym (at-due .due .ensures) ∙ not-false (at-due .due .result) (at-if1 .if1 .left))
 
 returns-2 : tie.Need-returns-2
 returns-2 c =

@@ -40,7 +40,9 @@ slice-aggregate-ends-with-2 : tie.Need-slice-aggregate-ends-with-2
 slice-aggregate-ends-with-2 c = search needs
 
 ends-with-requires : tie.Need-ends-with-requires
-ends-with-requires c κs = let n : c .before .before .before .before .put-cell .result ≡ 4 = search needs in rw (length-take-le _ _ (inside (c .before .before .before .before))) (omega arith)
+ends-with-requires c κs =
+    let at-put-cell = c .before .before .before .before in
+    let n : at-put-cell .put-cell .result ≡ 4 = search needs in rw (length-take-le _ _ (inside (at-put-cell))) (omega arith)
 
 returns-2 : tie.Need-returns-2
 returns-2 c =

@@ -12,26 +12,36 @@ value-line-requires : tie.Need-value-line-requires
 value-line-requires c κs = book-first _ _ (c .before .before .before .pre ∙ c .if1 .taken)
 
 returns : tie.Need-returns
-returns c = told-6 _ _ (c .before .before .before .before .pre) (c .before .if1 .taken) (c .value-line .ensures)
+returns c =
+    let start = c .before .before .before .before in
+    told-6 _ _ (start .pre) (c .before .if1 .taken) (c .value-line .ensures)
 
 columns-line-requires : tie.Need-columns-line-requires
 columns-line-requires c κs =
-    let p = sheet-first _ _ {n = 13} (omega arith) (c .before .before .before .before .pre ∙ c .if2 .taken) in
+    let start = c .before .before .before .before in
+    let p = sheet-first _ _ {n = 13} (omega arith) (start .pre ∙ c .if2 .taken) in
     (book-accepted _ (p .0) .at-least, sheet-columns-out _ _ (p .1))
 
 returns-2 : tie.Need-returns-2
-returns-2 c = told-13 _ _ (c .before .before .before .before .before .pre) (c .before .if2 .taken) (c .columns-line .ensures)
+returns-2 c =
+    let start = c .before .before .before .before .before in
+    told-13 _ _ (start .pre) (c .before .if2 .taken) (c .columns-line .ensures)
 
 target-line-requires : tie.Need-target-line-requires
-target-line-requires c κs = sheet-first _ _ {n = 17} (omega arith) (c .before .before .before .before .before .pre ∙ c .if3 .taken)
+target-line-requires c κs =
+    let start = c .before .before .before .before .before in
+    sheet-first _ _ {n = 17} (omega arith) (start .pre ∙ c .if3 .taken)
 
 returns-3 : tie.Need-returns-3
-returns-3 c = told-17 _ _ (c .before .before .before .before .before .before .pre) (c .before .if3 .taken) (c .target-line .ensures)
+returns-3 c =
+    let start = c .before .before .before .before .before .before in
+    told-17 _ _ (start .pre) (c .before .if3 .taken) (c .target-line .ensures)
 
 returns-4 : tie.Need-returns-4
 returns-4 c =
     let at-last = c .before in
-    told-other _ _ (at-last .before .before .before .before .before .pre) (at-last .before .before .if1 .left) (at-last .before .if2 .left) (at-last .if3 .left) (c .empty .ensures)
+    let start = at-last .before .before .before .before .before in
+    told-other _ _ (start .pre) (at-last .before .before .if1 .left) (at-last .before .if2 .left) (at-last .if3 .left) (c .empty .ensures)
 
 pub known-detail-spec : {M : Type 1} → statement M
 known-detail-spec =

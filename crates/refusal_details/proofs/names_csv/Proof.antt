@@ -36,12 +36,15 @@ names-all-requires c κs =
     )
 
 slice-aggregate-result : tie.Need-slice-aggregate-result
-slice-aggregate-result c = sym (length-take-le _ _ (front-inside (c .before .before .before .before .before .before)))
+slice-aggregate-result c =
+    let at-front-inside = c .before .before .before .before .before .before in
+    sym (length-take-le _ _ (front-inside at-front-inside))
 
 returns : tie.Need-returns
 returns c =
     let at-names = c .before .before in
-    named _ (at-names .before .before .before .before .book-body .ensures) (at-names .before .before .boats .ensures) (at-names .before .columns .ensures .0) (at-names .names-all .ensures) (c .before .if1 .taken)
+    let at-book-body = at-names .before .before .before .before in
+    named _ (at-book-body .book-body .ensures) (at-names .before .before .boats .ensures) (at-names .before .columns .ensures .0) (at-names .names-all .ensures) (c .before .if1 .taken)
 
 slice-aggregate-result-2 : tie.Need-slice-aggregate-result-2
 slice-aggregate-result-2 c = search needs
@@ -49,7 +52,8 @@ slice-aggregate-result-2 c = search needs
 returns-2 : tie.Need-returns-2
 returns-2 c =
     let at-names = c .before .before in
-    nameless _ (at-names .before .before .before .before .book-body .ensures) (at-names .before .before .boats .ensures) (at-names .before .columns .ensures .0) (at-names .names-all .ensures) (c .before .if1 .left) {k = 0} refl
+    let at-book-body = at-names .before .before .before .before in
+    nameless _ (at-book-body .book-body .ensures) (at-names .before .before .boats .ensures) (at-names .before .columns .ensures .0) (at-names .names-all .ensures) (c .before .if1 .left) {k = 0} refl
 
 pub names-csv-spec : {M : Type 1} → statement M
 names-csv-spec =

@@ -12,7 +12,9 @@ use Rattle.refusal_details.proofs.target_line.Statement.{statement}
 use Rattle.refusal_details.proofs.target_line.Tie as tie
 
 found : (c : tie.After-first-out) → (let s = c .before .before .before .before .before .before .args .sheet .now in Out-at (sheet s .target) s (c .before .before .sheet-body .result) (c .first-out .result))
-found c = target-found _ _ (c .before .before .before .before .before .before .pre .1) (c .before .before .sheet-body .ensures) (c .before .sheet-columns .ensures .0) (c .first-out .ensures)
+found c =
+    let start = c .before .before .before .before .before .before in
+    target-found _ _ (start .pre .1) (c .before .before .sheet-body .ensures) (c .before .sheet-columns .ensures .0) (c .first-out .ensures)
 
 front-few : (c : tie.After-first-out) → length (c .before .before .before .names-csv .result .now) ≤ 200000
 front-few c =
@@ -26,14 +28,17 @@ sheet-body-requires : tie.Need-sheet-body-requires
 sheet-body-requires c κs = sheet-out _ _ (c .before .before .before .pre .1) .whole
 
 sheet-columns-requires : tie.Need-sheet-columns-requires
-sheet-columns-requires c κs = sheet-out _ _ (c .before .before .before .before .pre .1) .long .at-least
+sheet-columns-requires c κs =
+    let start = c .before .before .before .before in
+    sheet-out _ _ (start .pre .1) .long .at-least
 
 cast-first-out : tie.Need-cast-first-out
 cast-first-out c = search needs
 
 first-out-requires : tie.Need-first-out-requires
 first-out-requires c κs =
-    let o = sheet-out _ _ (c .before .before .before .before .before .pre .1) in
+    let start = c .before .before .before .before .before in
+    let o = sheet-out _ _ (start .pre .1) in
     omega (arith, c .sheet-columns .ensures .0, c .before .sheet-body .ensures, o .whole)
 
 empty-requires : tie.Need-empty-requires
@@ -58,13 +63,19 @@ with-called-requires c κs =
     (search needs, (front-few at-first, (omega arith, omega (arith, o .inside, o .few))))
 
 mul-u16-at : tie.Need-mul-u16-at
-mul-u16-at c = let o = found (c .before .before .before .before .before) in omega (arith, o .inside, o .few)
+mul-u16-at c =
+    let at-found = c .before .before .before .before .before in
+    let o = found at-found in omega (arith, o .inside, o .few)
 
 add-u16-at : tie.Need-add-u16-at
-add-u16-at c = let o = found (c .before .before .before .before .before) in omega (arith, o .inside, o .few)
+add-u16-at c =
+    let at-found = c .before .before .before .before .before in
+    let o = found at-found in omega (arith, o .inside, o .few)
 
 u16-at-requires : tie.Need-u16-at-requires
-u16-at-requires c κs = found (c .before .before .before .before .before) .inside
+u16-at-requires c κs =
+    let at-found = c .before .before .before .before .before in
+    found at-found .inside
 
 with-out-requires : tie.Need-with-out-requires
 with-out-requires c κs = search needs

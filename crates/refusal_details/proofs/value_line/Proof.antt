@@ -22,10 +22,14 @@ found c =
     book-found _ (at-columns .before .before .before .pre) (at-columns .before .book-body .ensures) (c .before .boats .ensures) (at-columns .columns .ensures .0) (c .first-out .ensures)
 
 front-few : (c : tie.After-first-out) → length (c .before .before .names-csv .result .now) ≤ 200000
-front-few c = rw (c .before .before .names-csv .ensures) (omega (arith, few-names (c .before .before .before .before .before .before .args .book .now), found c .few))
+front-few c =
+    let start = c .before .before .before .before .before .before in
+    rw (c .before .before .names-csv .ensures) (omega (arith, few-names (start .args .book .now), found c .few))
 
 some-columns : (c : tie.After-first-out) → 0 < c .before .before .before .columns .result
-some-columns c = omega (arith, c .before .before .before .columns .ensures .0, book-out _ (c .before .before .before .before .before .before .pre) .some-columns)
+some-columns c =
+    let start = c .before .before .before .before .before .before in
+    omega (arith, c .before .before .before .columns .ensures .0, book-out _ (start .pre) .some-columns)
 
 small-boat : (c : tie.After-first-out) → c .first-out .result / c .before .before .before .columns .result < 65536
 small-boat c = let o = found c in omega (arith, div-le-self (c .first-out .result) (c .before .before .before .columns .result), o .inside, o .few)
@@ -43,16 +47,20 @@ names-csv-requires : tie.Need-names-csv-requires
 names-csv-requires c κs = let o = book-out _ (c .before .before .before .pre) in (o .whole, (o .at-most, o .some-columns))
 
 boats-requires : tie.Need-boats-requires
-boats-requires c κs = book-out _ (c .before .before .before .before .pre) .at-least
+boats-requires c κs =
+    let start = c .before .before .before .before in
+    book-out _ (start .pre) .at-least
 
 mul-first-out : tie.Need-mul-first-out
 mul-first-out c =
-    let o = book-out _ (c .before .before .before .before .before .pre) in
+    let start = c .before .before .before .before .before in
+    let o = book-out _ (start .pre) in
     omega (arith, product c, o .whole, o .at-most)
 
 first-out-requires : tie.Need-first-out-requires
 first-out-requires c κs =
-    let o = book-out _ (c .before .before .before .before .before .pre) in
+    let start = c .before .before .before .before .before in
+    let o = book-out _ (start .pre) in
     omega (arith, product c, c .before .before .before .book-body .ensures, o .whole)
 
 div-i : tie.Need-div-i
@@ -74,7 +82,9 @@ first-boat-requires : tie.Need-first-boat-requires
 first-boat-requires c κs = front-few (c .before .before .before)
 
 add-row : tie.Need-add-row
-add-row c = omega (arith, c .first-boat .ensures .1, small-boat (c .before .before .before .before))
+add-row c =
+    let at-small-boat = c .before .before .before .before in
+    omega (arith, c .first-boat .ensures .1, small-boat at-small-boat)
 
 slice-aggregate-with-called : tie.Need-slice-aggregate-with-called
 slice-aggregate-with-called c = search needs
@@ -83,7 +93,9 @@ with-called-requires : tie.Need-with-called-requires
 with-called-requires c κs = let at-first = c .before .before .before .before .before in (search needs, (front-few at-first, (omega arith, small-boat at-first)))
 
 add-with-called : tie.Need-add-with-called
-add-with-called c = omega (arith, small-column (c .before .before .before .before .before .before))
+add-with-called c =
+    let at-small-column = c .before .before .before .before .before .before in
+    omega (arith, small-column at-small-column)
 
 slice-aggregate-with-called-2 : tie.Need-slice-aggregate-with-called-2
 slice-aggregate-with-called-2 c = search needs
@@ -95,13 +107,19 @@ with-called-requires-2 c κs =
     (omega (arith, c .before .with-called .ensures .1, at-begun .with-bytes .ensures .length-is, at-begun .before .before .empty .ensures .length-is), (front-few at-first, (omega arith, small-column at-first)))
 
 mul-u16-at : tie.Need-mul-u16-at
-mul-u16-at c = let o = found (c .before .before .before .before .before .before .before .before) in omega (arith, o .inside, o .few)
+mul-u16-at c =
+    let at-found = c .before .before .before .before .before .before .before .before in
+    let o = found at-found in omega (arith, o .inside, o .few)
 
 add-u16-at : tie.Need-add-u16-at
-add-u16-at c = let o = found (c .before .before .before .before .before .before .before .before) in omega (arith, o .inside, o .few)
+add-u16-at c =
+    let at-found = c .before .before .before .before .before .before .before .before in
+    let o = found at-found in omega (arith, o .inside, o .few)
 
 u16-at-requires : tie.Need-u16-at-requires
-u16-at-requires c κs = omega (arith, found (c .before .before .before .before .before .before .before .before) .inside)
+u16-at-requires c κs =
+    let at-found = c .before .before .before .before .before .before .before .before in
+    omega (arith, found at-found .inside)
 
 with-out-requires : tie.Need-with-out-requires
 with-out-requires c κs = search needs

@@ -19,7 +19,8 @@ inside c =
 
 name-is : (c : tie.After-put-cell) → (let x = c .before .before .before .before .args in take (c .put-cell .result) (c .put-cell .last .1 .1 .1 .0) ≡ cell-text (x .row) (x .field) (x .csv .now))
 name-is c =
-    let x = c .before .before .before .before .args in
+    let start = c .before .before .before .before in
+    let x = start .args in
     front-taken (replicate 200 0) (cell-text (x .row) (x .field) (x .csv .now)) (c .put-cell .ensures .1 .1) (c .put-cell .ensures .0) (few-bytes (x .row) (x .field) (x .csv .now))
 
 slice-aggregate-put-cell : tie.Need-slice-aggregate-put-cell
@@ -47,8 +48,9 @@ returns : tie.Need-returns
 returns c =
     let at-word = c .before in
     let at-put = at-word .before .before .before .before .before in
+    let start = at-put .before .before .before .before in
     let none : at-put .put-cell .result ≡ 0 = search needs in
-    called-by-number _ _ _ (sym (at-put .put-cell .ensures .0) ∙ none) (at-put .before .before .before .before .pre .1 .1 .0) (at-word .before .with-bytes .ensures) (at-word .with-bytes2 .ensures) (c .with-number .ensures)
+    called-by-number _ _ _ (sym (at-put .put-cell .ensures .0) ∙ none) (start .pre .1 .1 .0) (at-word .before .with-bytes .ensures) (at-word .with-bytes2 .ensures) (c .with-number .ensures)
 
 array-share-prefix-name : tie.Need-array-share-prefix-name
 array-share-prefix-name c = search needs

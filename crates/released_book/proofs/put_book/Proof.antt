@@ -23,13 +23,19 @@ put-rows-requires : tie.Need-put-rows-requires
 put-rows-requires c κs = search needs
 
 boats-requires : tie.Need-boats-requires
-boats-requires c κs = book-accepted _ (c .before .before .before .before .before .before .pre .0) .at-least
+boats-requires c κs =
+    let start = c .before .before .before .before .before .before in
+    book-accepted _ (start .pre .0) .at-least
 
 count-requires : tie.Need-count-requires
-count-requires c κs = (omega arith, omega (arith, c .boats .ensures, book-accepted _ (c .before .before .before .before .before .before .before .pre .0) .most-boats))
+count-requires c κs =
+    let start = c .before .before .before .before .before .before .before in
+    (omega arith, omega (arith, c .boats .ensures, book-accepted _ (start .pre .0) .most-boats))
 
 columns-requires : tie.Need-columns-requires
-columns-requires c κs = book-accepted _ (c .before .before .before .before .before .before .before .before .before .pre .0) .at-least
+columns-requires c κs =
+    let start = c .before .before .before .before .before .before .before .before .before in
+    book-accepted _ (start .pre .0) .at-least
 
 put-book-trailer-requires : tie.Need-put-book-trailer-requires
 put-book-trailer-requires c κs =

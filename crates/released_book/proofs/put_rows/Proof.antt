@@ -33,7 +33,9 @@ mul-width : tie.Need-mul-width Inv-loop μ-loop
 mul-width c = omega (arith, c .columns .ensures .1)
 
 book-body-requires : tie.Need-book-body-requires Inv-loop μ-loop
-book-body-requires c κs = book-accepted _ (c .before .before .before .before .pre .0) .whole
+book-body-requires c κs =
+    let start = c .before .before .before .before in
+    book-accepted _ (start .pre .0) .whole
 
 loop-holds : tie.Need-loop-holds Inv-loop μ-loop
 loop-holds c = rowing-start _ _ _ (c .book-body .ensures)

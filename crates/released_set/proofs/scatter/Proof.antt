@@ -40,7 +40,9 @@ slice-write-slots c =
     omega (arith, scattering-long (at-loop .loop .inv .1) room, c .before .before .loop-test .taken, room)
 
 add-next : tie.Need-add-next Inv-loop μ-loop
-add-next c = omega (arith, counted-few (c .before .before .before .before .loop .inv .1 .counted))
+add-next c =
+    let at-loop = c .before .before .before .before in
+    omega (arith, counted-few (at-loop .loop .inv .1 .counted))
 
 add-i : tie.Need-add-i Inv-loop μ-loop
 add-i c = search needs
@@ -63,10 +65,14 @@ loop-again c =
     )
 
 same-length : tie.Need-same-length Inv-loop μ-loop
-same-length c = scattering-long (c .before .loop .inv .1) (c .before .before .before .before .pre .1 .1)
+same-length c =
+    let start = c .before .before .before .before in
+    scattering-long (c .before .loop .inv .1) (start .pre .1 .1)
 
 returns : tie.Need-returns Inv-loop μ-loop
-returns c = scattering-end (c .before .loop .inv .1) (c .before .before .before .before .pre .1 .1) (c .loop-test .left)
+returns c =
+    let start = c .before .before .before .before in
+    scattering-end (c .before .loop .inv .1) (start .pre .1 .1) (c .loop-test .left)
 
 pub scatter-spec : {M : Type 1} → statement M
 scatter-spec =

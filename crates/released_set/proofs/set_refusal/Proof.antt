@@ -16,16 +16,24 @@ count-requires : tie.Need-count-requires
 count-requires c κs = search needs
 
 returns-2 : tie.Need-returns-2
-returns-2 c = none-refused (c .before .before .before .before .args .set) _ (not-false _ (c .before .before .if1 .left)) (c .before .count .ensures) (c .if2 .taken)
+returns-2 c =
+    let start = c .before .before .before .before in
+    none-refused (start .args .set) _ (not-false _ (c .before .before .if1 .left)) (c .before .count .ensures) (c .if2 .taken)
 
 count-requires-2 : tie.Need-count-requires-2
 count-requires-2 c κs = search needs
 
 returns-3 : tie.Need-returns-3
-returns-3 c = past-refused (c .before .before .before .before .before .before .args .set) _ (not-false _ (c .before .before .before .before .if1 .left)) (c .before .count2 .ensures) (c .if3 .taken)
+returns-3 c =
+    let at-if1 = c .before .before .before .before in
+    let start = at-if1 .before .before in
+    past-refused (start .args .set) _ (not-false _ (at-if1 .if1 .left)) (c .before .count2 .ensures) (c .if3 .taken)
 
 returns-4 : tie.Need-returns-4
-returns-4 c = set-serves (c .before .before .before .before .before .before .args .set) _ (not-false _ (c .before .before .before .before .if1 .left)) (c .before .before .before .count .ensures) (c .before .before .if2 .left) (c .before .count2 .ensures) (c .if3 .left)
+returns-4 c =
+    let at-if1 = c .before .before .before .before in
+    let start = at-if1 .before .before in
+    set-serves (start .args .set) _ (not-false _ (at-if1 .if1 .left)) (c .before .before .before .count .ensures) (c .before .before .if2 .left) (c .before .count2 .ensures) (c .if3 .left)
 
 pub set-refusal-spec : {M : Type 1} → statement M
 set-refusal-spec =

@@ -63,13 +63,15 @@ slice-write-tags-2 c =
 
 returns-2 : tie.Need-returns-2
 returns-2 c =
+    let at-if1 = c .before .before .before .before .before .before in
     let start = c .before .before .before .before .before .before .before .before .before .before .before in
-    (sym (next-slot _ _ (start .pre .0) (start .pre .1 .1 .1) (start .pre .1 .1 .0) (c .before .before .before .before .before .before .if1 .left)), took-is _ _ (start .pre .0) (start .pre .1 .1 .1) (start .pre .1 .1 .0) (c .before .before .before .before .before .before .if1 .left) (start .pre .1 .0) (c .before .before .products-of .ensures .0) (toZ-ofZ (sfits-of (c .before .before .products-of .ok)) ∙ c .before .before .products-of .ensures .1) (c .if2 .taken))
+    (sym (next-slot _ _ (start .pre .0) (start .pre .1 .1 .1) (start .pre .1 .1 .0) (at-if1 .if1 .left)), took-is _ _ (start .pre .0) (start .pre .1 .1 .1) (start .pre .1 .1 .0) (at-if1 .if1 .left) (start .pre .1 .0) (c .before .before .products-of .ensures .0) (toZ-ofZ (sfits-of (c .before .before .products-of .ok)) ∙ c .before .before .products-of .ensures .1) (c .if2 .taken))
 
 returns-3 : tie.Need-returns-3
 returns-3 c =
+    let at-if1 = c .before .before .before .before .before .before in
     let start = c .before .before .before .before .before .before .before .before .before .before .before in
-    (sym (next-slot _ _ (start .pre .0) (start .pre .1 .1 .1) (start .pre .1 .1 .0) (c .before .before .before .before .before .before .if1 .left)), full-is _ _ (start .pre .0) (start .pre .1 .1 .1) (start .pre .1 .1 .0) (c .before .before .before .before .before .before .if1 .left) (start .pre .1 .0) (c .before .before .products-of .ensures .0) (toZ-ofZ (sfits-of (c .before .before .products-of .ok)) ∙ c .before .before .products-of .ensures .1) (c .if2 .left))
+    (sym (next-slot _ _ (start .pre .0) (start .pre .1 .1 .1) (start .pre .1 .1 .0) (at-if1 .if1 .left)), full-is _ _ (start .pre .0) (start .pre .1 .1 .1) (start .pre .1 .1 .0) (at-if1 .if1 .left) (start .pre .1 .0) (c .before .before .products-of .ensures .0) (toZ-ofZ (sfits-of (c .before .before .products-of .ok)) ∙ c .before .before .products-of .ensures .1) (c .if2 .left))
 
 pub remember-spec : {M : Type 1} → statement M
 remember-spec =

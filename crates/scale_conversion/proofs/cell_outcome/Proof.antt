@@ -31,10 +31,14 @@ returns : tie.Need-returns
 returns c = c .refused .ensures ∙ unweighed-refused (c .before .before .before .args .s) (c .before .enum-told .given .1)
 
 returns-2 : tie.Need-returns-2
-returns-2 c = c .net-outcome .ensures ∙ net-given (c .before .before .before .before .args .s) (c .before .before .cell .given .1)
+returns-2 c =
+    let start = c .before .before .before .before in
+    c .net-outcome .ensures ∙ net-given (start .args .s) (c .before .before .cell .given .1)
 
 returns-3 : tie.Need-returns-3
-returns-3 c = c .net-outcome2 .ensures ∙ weighing-given (c .before .before .before .before .before .args .s) (c .before .before .before .cell2 .given .1)
+returns-3 c =
+    let start = c .before .before .before .before .before in
+    c .net-outcome2 .ensures ∙ weighing-given (start .args .s) (c .before .before .before .cell2 .given .1)
 
 pub cell-outcome-spec : {M : Type 1} → statement M
 cell-outcome-spec =

@@ -60,7 +60,8 @@ refused-requires-3 c κs = search needs
 returns-3 : tie.Need-returns-3
 returns-3 c =
     let at-rounded = c .before .before in
-    c .refused3 .ensures ∙ value-low _ _ (limit-passed (at-rounded .before .before .before .before)) (value at-rounded) (c .before .if3 .taken)
+    let at-limit-passed = at-rounded .before .before .before .before in
+    c .refused3 .ensures ∙ value-low _ _ (limit-passed at-limit-passed) (value at-rounded) (c .before .if3 .taken)
 
 refused-requires-4 : tie.Need-refused-requires-4
 refused-requires-4 c κs = search needs
@@ -68,17 +69,20 @@ refused-requires-4 c κs = search needs
 returns-4 : tie.Need-returns-4
 returns-4 c =
     let at-rounded = c .before .before .before in
-    c .refused4 .ensures ∙ value-high _ _ (limit-passed (at-rounded .before .before .before .before)) (value at-rounded) (c .before .if4 .taken)
+    let at-limit-passed = at-rounded .before .before .before .before in
+    c .refused4 .ensures ∙ value-high _ _ (limit-passed at-limit-passed) (value at-rounded) (c .before .if4 .taken)
 
 cast-small : tie.Need-cast-small
 cast-small c =
     let at-rounded = c .before .before in
-    value-fits _ _ (limit-passed (at-rounded .before .before .before .before)) (value at-rounded) (c .before .if3 .left) (c .if4 .left)
+    let at-limit-passed = at-rounded .before .before .before .before in
+    value-fits _ _ (limit-passed at-limit-passed) (value at-rounded) (c .before .if3 .left) (c .if4 .left)
 
 returns-5 : tie.Need-returns-5
 returns-5 c =
     let at-rounded = c .before .before in
-    value-inside _ _ (limit-passed (at-rounded .before .before .before .before)) (value at-rounded) (c .before .if3 .left) (c .if4 .left) (unit-passed (at-rounded .before .before))
+    let at-limit-passed = at-rounded .before .before .before .before in
+    value-inside _ _ (limit-passed at-limit-passed) (value at-rounded) (c .before .if3 .left) (c .if4 .left) (unit-passed (at-rounded .before .before))
 
 pub net-outcome-spec : {M : Type 1} → statement M
 net-outcome-spec =

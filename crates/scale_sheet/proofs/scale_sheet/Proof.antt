@@ -30,8 +30,9 @@ steps-passed c = sym (c .before .is-between .ensures) ∙ not-false _ (c .if2 .l
 all-passed : (c : tie.Else3) → (let a = c .before .before .before .before .before .before .before .args in Passed (a .book .now) (a .cells) (a .steps) (a .tolerance))
 all-passed c =
     let at-if1 = c .before .before .before in
+    let at-all-cells = at-if1 .before .before .before .before in
     record {
-      all-cells = all-cells (at-if1 .before .before .before .before);
+      all-cells = all-cells at-all-cells;
       cells-passed = cells-passed at-if1;
       steps-passed = steps-passed (c .before);
       tolerance-passed = c .if3 .left;
@@ -61,7 +62,8 @@ returns-2 : tie.Need-returns-2
 returns-2 c =
     let at-between = c .before .before in
     let at-if1 = at-between .before in
-    steps-refused _ _ _ _ (all-cells (at-if1 .before .before .before .before)) (cells-passed at-if1) (sym (at-between .is-between .ensures) ∙ not-true _ (c .before .if2 .taken)) (c .refused2 .ensures)
+    let at-all-cells = at-if1 .before .before .before .before in
+    steps-refused _ _ _ _ (all-cells at-all-cells) (cells-passed at-if1) (sym (at-between .is-between .ensures) ∙ not-true _ (c .before .if2 .taken)) (c .refused2 .ensures)
 
 refused-requires-3 : tie.Need-refused-requires-3
 refused-requires-3 c κs = search needs
@@ -70,7 +72,8 @@ returns-3 : tie.Need-returns-3
 returns-3 c =
     let at-if2 = c .before .before in
     let at-if1 = at-if2 .before .before in
-    tolerance-refused _ _ _ _ (all-cells (at-if1 .before .before .before .before)) (cells-passed at-if1) (steps-passed at-if2) (c .before .if3 .taken) (c .refused3 .ensures)
+    let at-all-cells = at-if1 .before .before .before .before in
+    tolerance-refused _ _ _ _ (all-cells at-all-cells) (cells-passed at-if1) (steps-passed at-if2) (c .before .if3 .taken) (c .refused3 .ensures)
 
 columns-requires : tie.Need-columns-requires
 columns-requires c κs = book (all-passed c) .at-least
@@ -88,7 +91,8 @@ put-values-requires : tie.Need-put-values-requires
 put-values-requires c κs =
     let at-columns = c .before .before in
     let at-if3 = at-columns .before in
-    let ev = values-are (at-if3 .before .before .before .before .before) in
+    let at-values-are = at-if3 .before .before .before .before .before in
+    let ev = values-are at-values-are in
     let n = few (all-passed at-if3) ev (at-columns .columns .ensures .0) in
     ((n, omega arith), front-in-range (all-passed at-if3) ev (at-columns .columns .ensures .0))
 
@@ -100,7 +104,8 @@ put-sheet-trailer-requires c κs =
     let at-put = c .before .before in
     let at-columns = at-put .before .before .before in
     let at-if3 = at-columns .before in
-    trailer-room (all-passed at-if3) (values-are (at-if3 .before .before .before .before .before)) (at-columns .columns .ensures .0) (at-put .put-values .ensures)
+    let at-values-are = at-if3 .before .before .before .before .before in
+    trailer-room (all-passed at-if3) (values-are at-values-are) (at-columns .columns .ensures .0) (at-put .put-values .ensures)
 
 returns-4 : tie.Need-returns-4
 returns-4 c =
@@ -108,7 +113,8 @@ returns-4 c =
     let at-put = at-trailer .before .before .before in
     let at-columns = at-put .before .before .before in
     let at-if3 = at-columns .before in
-    made-sheet (all-passed at-if3) (values-are (at-if3 .before .before .before .before .before)) (at-columns .columns .ensures .0) (at-put .put-values .ensures) (at-trailer .put-sheet-trailer .ensures)
+    let at-values-are = at-if3 .before .before .before .before .before in
+    made-sheet (all-passed at-if3) (values-are at-values-are) (at-columns .columns .ensures .0) (at-put .put-values .ensures) (at-trailer .put-sheet-trailer .ensures)
 
 pub scale-sheet-spec : {M : Type 1} → statement M
 scale-sheet-spec =

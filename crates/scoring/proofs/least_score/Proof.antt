@@ -36,13 +36,17 @@ loop-holds : tie.Need-loop-holds Inv-loop μ-loop
 loop-holds c = passed-start (c .before .before .pre .0) (length-take-le _ _ (c .before .before .pre .1 .long)) (c .inner-at .ensures) (toZ-ofZ (sfits-of (c .inner-at .ok)))
 
 inner-at-requires-2 : tie.Need-inner-at-requires-2 Inv-loop μ-loop
-inner-at-requires-2 c κs = (row-span (c .before .before .before .before .pre .0) (c .loop-test .taken) (c .before .loop .inv .place), c .before .before .before .before .pre .1)
+inner-at-requires-2 c κs =
+    let start = c .before .before .before .before in
+    (row-span (start .pre .0) (c .loop-test .taken) (c .before .loop .inv .place), start .pre .1)
 
 mul-p-2 : tie.Need-mul-p-2 Inv-loop μ-loop
 mul-p-2 c = search needs
 
 add-p-2 : tie.Need-add-p-2 Inv-loop μ-loop
-add-p-2 c = omega (arith, row-span (c .before .before .before .before .before .before .pre .0) (c .before .before .loop-test .taken) (c .before .before .before .loop .inv .place))
+add-p-2 c =
+    let start = c .before .before .before .before .before .before in
+    omega (arith, row-span (start .pre .0) (c .before .before .loop-test .taken) (c .before .before .before .loop .inv .place))
 
 add-i : tie.Need-add-i Inv-loop μ-loop
 add-i c = search needs
@@ -51,7 +55,9 @@ loop-less : tie.Need-loop-less Inv-loop μ-loop
 loop-less c = search needs
 
 loop-again : tie.Need-loop-again Inv-loop μ-loop
-loop-again c = let g = c .before .before .before .before .before .before .pre .0 in
+loop-again c =
+    let start = c .before .before .before .before .before .before in
+    let g = start .pre .0 in
     let d = c .before .before .before .loop .inv in
     let h = c .before .before .loop-test .taken in
     let e = c .before .inner-at2 .ensures in
@@ -62,7 +68,9 @@ loop-again c = let g = c .before .before .before .before .before .before .pre .0
     (c .if1 .came)
 
 returns : tie.Need-returns Inv-loop μ-loop
-returns c = passed-end (c .before .before .before .before .pre .0) (c .before .loop .inv) (c .loop-test .left) refl
+returns c =
+    let start = c .before .before .before .before in
+    passed-end (start .pre .0) (c .before .loop .inv) (c .loop-test .left) refl
 
 pub least-score-spec : {M : Type 1} → statement M
 least-score-spec =

@@ -38,20 +38,25 @@ mul-if2 : tie.Need-mul-if2 Inv-loop μ-loop
 mul-if2 c = search needs
 
 shared-slice-read-if2 : tie.Need-shared-slice-read-if2 Inv-loop μ-loop
-shared-slice-read-if2 c = omega (arith, c .before .loop-test .taken, c .before .before .before .before .before .before .pre .0 .in-shares)
+shared-slice-read-if2 c =
+    let start = c .before .before .before .before .before .before in
+    omega (arith, c .before .loop-test .taken, start .pre .0 .in-shares)
 
 mul-if3 : tie.Need-mul-if3 Inv-loop μ-loop
 mul-if3 c = search needs
 
 shared-slice-copy-out-if3 : tie.Need-shared-slice-copy-out-if3 Inv-loop μ-loop
-shared-slice-copy-out-if3 c = omega (arith, c .before .before .loop-test .taken, c .before .before .before .before .before .before .before .pre .0 .score-sizes .long)
+shared-slice-copy-out-if3 c =
+    let start = c .before .before .before .before .before .before .before in
+    omega (arith, c .before .before .loop-test .taken, start .pre .0 .score-sizes .long)
 
 returns-2 : tie.Need-returns-2 Inv-loop μ-loop
 returns-2 c =
+    let at-test = c .before .before .before .before in
     let at-loop = c .before .before .before .before .before in
     let at-score = at-loop .before .before .before in
     let start = at-score .before in
-    let h = c .before .before .before .before .loop-test .taken in
+    let h = at-test .loop-test .taken in
     let f = toZ-ofZ {w = w64} {z = start .args .least .score} (search (needs, at-score .struct-told .given)) in
     picks-found (start .pre .0) (start .pre .1) (at-loop .loop .inv) h (c .before .before .if2 .taken) (rw (score-read (start .pre .0) _ h, f) at (c .if3 .taken)) f
 
@@ -74,7 +79,9 @@ loop-again c =
     (c .if2 .came)
 
 returns-3 : tie.Need-returns-3 Inv-loop μ-loop
-returns-3 c = picks-none (c .before .before .before .before .before .pre .0) (c .before .before .before .before .before .pre .1) (c .before .loop .inv) (c .loop-test .left)
+returns-3 c =
+    let start = c .before .before .before .before .before in
+    picks-none (start .pre .0) (start .pre .1) (c .before .loop .inv) (c .loop-test .left)
 
 pub picked-spec : {M : Type 1} → statement M
 picked-spec =

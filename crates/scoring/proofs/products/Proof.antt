@@ -40,7 +40,9 @@ mul-row : tie.Need-mul-row Inv-loop μ-loop
 mul-row c = search needs
 
 add-row : tie.Need-add-row Inv-loop μ-loop
-add-row c = omega (arith, row-span (c .before .before .before .before .pre .0) (c .before .loop-test .taken) (c .before .before .loop .inv .place))
+add-row c =
+    let start = c .before .before .before .before in
+    omega (arith, row-span (start .pre .0) (c .before .loop-test .taken) (c .before .before .loop .inv .place))
 
 add-i : tie.Need-add-i Inv-loop μ-loop
 add-i c = search needs

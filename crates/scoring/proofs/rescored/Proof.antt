@@ -36,16 +36,22 @@ mul-moved-score : tie.Need-mul-moved-score Inv-loop μ-loop
 mul-moved-score c = search needs
 
 slice-copy-out-moved-score-2 : tie.Need-slice-copy-out-moved-score-2 Inv-loop μ-loop
-slice-copy-out-moved-score-2 c = omega (arith, c .loop-test .taken, rescored-long (c .before .before .before .before .before .pre) (c .before .loop .inv), c .before .before .before .before .before .pre .in-scores)
+slice-copy-out-moved-score-2 c =
+    let start = c .before .before .before .before .before in
+    omega (arith, c .loop-test .taken, rescored-long (start .pre) (c .before .loop .inv), start .pre .in-scores)
 
 mul-moved-score-2 : tie.Need-mul-moved-score-2 Inv-loop μ-loop
 mul-moved-score-2 c = search needs
 
 shared-slice-copy-out-moved-score-2 : tie.Need-shared-slice-copy-out-moved-score-2 Inv-loop μ-loop
-shared-slice-copy-out-moved-score-2 c = omega (arith, c .before .loop-test .taken, c .before .before .before .before .before .before .pre .in-products)
+shared-slice-copy-out-moved-score-2 c =
+    let start = c .before .before .before .before .before .before in
+    omega (arith, c .before .loop-test .taken, start .pre .in-products)
 
 moved-score-requires-2 : tie.Need-moved-score-requires-2 Inv-loop μ-loop
-moved-score-requires-2 c κs = read-sized (sized-at (c .before .before .before .before .before .before .before .pre) (c .before .before .before .loop .inv .0) (c .before .before .loop-test .taken))
+moved-score-requires-2 c κs =
+    let start = c .before .before .before .before .before .before .before in
+    read-sized (sized-at (start .pre) (c .before .before .before .loop .inv .0) (c .before .before .loop-test .taken))
 
 mul-score : tie.Need-mul-score Inv-loop μ-loop
 mul-score c = search needs
@@ -64,9 +70,12 @@ loop-less c = search needs
 
 loop-again : tie.Need-loop-again Inv-loop μ-loop
 loop-again c =
-    let z = c .before .before .before .before .before .before .before .before .before .pre in
-    let d = c .before .before .before .before .before .loop .inv in
-    let h = c .before .before .before .before .loop-test .taken in
+    let at-test = c .before .before .before .before in
+    let at-loop = at-test .before in
+    let start = at-loop .before .before .before .before in
+    let z = start .pre in
+    let d = at-loop .loop .inv in
+    let h = at-test .loop-test .taken in
     let e = read-moved (sized-at z (d .0) h) (c .before .moved-score2 .ensures) in
     let f = toZ-ofZ {w = w64} (sfits-of (c .before .moved-score2 .ok)) in
     ⊎-elim
@@ -75,10 +84,14 @@ loop-again c =
     (c .if1 .came)
 
 same-length : tie.Need-same-length Inv-loop μ-loop
-same-length c = search (needs, rescored-long (c .before .before .before .before .before .pre) (c .before .loop .inv))
+same-length c =
+    let start = c .before .before .before .before .before in
+    search (needs, rescored-long (start .pre) (c .before .loop .inv))
 
 returns : tie.Need-returns Inv-loop μ-loop
-returns c = rescored-end (c .before .before .before .before .before .pre) (c .before .loop .inv) (c .loop-test .left)
+returns c =
+    let start = c .before .before .before .before .before in
+    rescored-end (start .pre) (c .before .loop .inv) (c .loop-test .left)
 
 pub rescored-spec : {M : Type 1} → statement M
 rescored-spec =

@@ -29,7 +29,9 @@ bits-of-requires : tie.Need-bits-of-requires Inv-loop μ-loop
 bits-of-requires c κs = search needs
 
 put-requires : tie.Need-put-requires Inv-loop μ-loop
-put-requires c κs = values-room (c .before .before .before .before .loop .inv) (search needs) (search needs) (c .before .before .before .loop-test .taken)
+put-requires c κs =
+    let at-loop = c .before .before .before .before in
+    values-room (at-loop .loop .inv) (search needs) (search needs) (c .before .before .before .loop-test .taken)
 
 add-i : tie.Need-add-i Inv-loop μ-loop
 add-i c = search needs
@@ -41,8 +43,9 @@ loop-again : tie.Need-loop-again Inv-loop μ-loop
 loop-again c =
     let at-call = c .before .before in
     let at-bits = at-call .before in
+    let at-loop = at-bits .before .before .before .before in
     let start = at-bits .before .before .before .before .before .before in
-    values-more (at-bits .before .before .before .before .loop .inv) (search needs) (search needs) (start .pre .1) (at-bits .before .before .before .loop-test .taken) (at-bits .bits-of .ensures) (at-call .put .ensures)
+    values-more (at-loop .loop .inv) (search needs) (search needs) (start .pre .1) (at-bits .before .before .before .loop-test .taken) (at-bits .bits-of .ensures) (at-call .put .ensures)
 
 same-length : tie.Need-same-length Inv-loop μ-loop
 same-length c = values-long (c .before .loop .inv) (search needs) (search needs)

@@ -17,22 +17,47 @@ put-sheet-requires : tie.Need-put-sheet-requires
 put-sheet-requires c κs = let d = sheet-derivable _ _ (c .before .before .before .before .before .before .before .pre .0) (c .before .before .before .before .factors-of .ensures) in (d .0, (d .1 .0, (d .1 .1, search needs)))
 
 array-share-prefix-own-book : tie.Need-array-share-prefix-own-book
-array-share-prefix-own-book c = book-inside _ _ (c .before .before .before .before .before .before .before .before .before .pre .0) (c .before .before .before .before .before .before .factors-of .ensures) (c .before .before .before .before .put-book .ensures .1) (c .before .before .before .before .put-book .ensures .0)
+array-share-prefix-own-book c =
+    let at-put-book = c .before .before .before .before in
+    let at-factors-of = at-put-book .before .before in
+    let start = at-factors-of .before .before .before in
+    book-inside _ _ (start .pre .0) (at-factors-of .factors-of .ensures) (at-put-book .put-book .ensures .1) (at-put-book .put-book .ensures .0)
 
 slice-aggregate-plain-start : tie.Need-slice-aggregate-plain-start
-slice-aggregate-plain-start c = sym (length-take-le _ _ (book-inside _ _ (c .before .before .before .before .before .before .before .before .before .before .pre .0) (c .before .before .before .before .before .before .before .factors-of .ensures) (c .before .before .before .before .before .put-book .ensures .1) (c .before .before .before .before .before .put-book .ensures .0)))
+slice-aggregate-plain-start c =
+    let at-put-book = c .before .before .before .before .before in
+    let at-factors-of = at-put-book .before .before in
+    let start = at-factors-of .before .before .before in
+    sym (length-take-le _ _ (book-inside _ _ (start .pre .0) (at-factors-of .factors-of .ensures) (at-put-book .put-book .ensures .1) (at-put-book .put-book .ensures .0)))
 
 array-share-prefix-own-sheet : tie.Need-array-share-prefix-own-sheet
-array-share-prefix-own-sheet c = sheet-inside _ _ (c .before .before .before .before .before .before .before .before .before .before .pre .0) (c .before .before .before .before .before .before .before .factors-of .ensures) (c .before .before .before .before .before .put-book .ensures .1) (c .before .before .before .before .before .put-book .ensures .0) (c .before .before .put-sheet .ensures .1) (c .before .before .put-sheet .ensures .0)
+array-share-prefix-own-sheet c =
+    let at-put-book = c .before .before .before .before .before in
+    let at-factors-of = at-put-book .before .before in
+    let start = at-factors-of .before .before .before in
+    sheet-inside _ _ (start .pre .0) (at-factors-of .factors-of .ensures) (at-put-book .put-book .ensures .1) (at-put-book .put-book .ensures .0) (c .before .before .put-sheet .ensures .1) (c .before .before .put-sheet .ensures .0)
 
 slice-aggregate-plain-start-2 : tie.Need-slice-aggregate-plain-start-2
-slice-aggregate-plain-start-2 c = sym (length-take-le _ _ (sheet-inside _ _ (c .before .before .before .before .before .before .before .before .before .before .before .pre .0) (c .before .before .before .before .before .before .before .before .factors-of .ensures) (c .before .before .before .before .before .before .put-book .ensures .1) (c .before .before .before .before .before .before .put-book .ensures .0) (c .before .before .before .put-sheet .ensures .1) (c .before .before .before .put-sheet .ensures .0)))
+slice-aggregate-plain-start-2 c =
+    let at-put-book = c .before .before .before .before .before .before in
+    let at-factors-of = at-put-book .before .before in
+    let start = at-factors-of .before .before .before in
+    sym (length-take-le _ _ (sheet-inside _ _ (start .pre .0) (at-factors-of .factors-of .ensures) (at-put-book .put-book .ensures .1) (at-put-book .put-book .ensures .0) (c .before .before .before .put-sheet .ensures .1) (c .before .before .before .put-sheet .ensures .0)))
 
 plain-start-requires : tie.Need-plain-start-requires
-plain-start-requires c κs = derived-passed _ _ (c .before .before .before .before .before .before .before .before .before .before .before .pre .0) (c .before .before .before .before .before .before .before .before .factors-of .ensures) (c .before .before .before .before .before .before .put-book .ensures .1) (c .before .before .before .before .before .before .put-book .ensures .0) (c .before .before .before .put-sheet .ensures .1) (c .before .before .before .put-sheet .ensures .0)
+plain-start-requires c κs =
+    let at-put-book = c .before .before .before .before .before .before in
+    let at-factors-of = at-put-book .before .before in
+    let start = at-factors-of .before .before .before in
+    derived-passed _ _ (start .pre .0) (at-factors-of .factors-of .ensures) (at-put-book .put-book .ensures .1) (at-put-book .put-book .ensures .0) (c .before .before .before .put-sheet .ensures .1) (c .before .before .before .put-sheet .ensures .0)
 
 returns : tie.Need-returns
-returns c = holds-back _ _ (c .before .before .before .before .before .before .before .before .before .before .before .before .pre .0) (c .before .before .before .before .before .before .before .before .before .factors-of .ensures) (c .before .before .before .before .before .before .before .put-book .ensures .1) (c .before .before .before .before .before .before .before .put-book .ensures .0) (c .before .before .before .before .put-sheet .ensures .1) (c .before .before .before .before .put-sheet .ensures .0) (c .plain-start .ensures)
+returns c =
+    let at-put-sheet = c .before .before .before .before in
+    let at-put-book = at-put-sheet .before .before .before in
+    let at-factors-of = at-put-book .before .before in
+    let start = at-factors-of .before .before .before in
+    holds-back _ _ (start .pre .0) (at-factors-of .factors-of .ensures) (at-put-book .put-book .ensures .1) (at-put-book .put-book .ensures .0) (at-put-sheet .put-sheet .ensures .1) (at-put-sheet .put-sheet .ensures .0) (c .plain-start .ensures)
 
 pub derived-start-spec : {M : Type 1} → statement M
 derived-start-spec =

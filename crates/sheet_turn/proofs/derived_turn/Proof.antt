@@ -17,23 +17,43 @@ put-sheet-requires : tie.Need-put-sheet-requires
 put-sheet-requires c κs = let d = sheet-derivable _ _ (c .before .before .before .before .before .before .before .before .pre .0) (c .before .before .before .before .factors-of .ensures) in (d .0, (d .1 .0, (d .1 .1, search needs)))
 
 array-share-prefix-own-book : tie.Need-array-share-prefix-own-book
-array-share-prefix-own-book c = book-inside _ _ (c .before .before .before .before .before .before .before .before .before .before .pre .0) (c .before .before .before .before .before .before .factors-of .ensures) (c .before .before .before .before .put-book .ensures .1) (c .before .before .before .before .put-book .ensures .0)
+array-share-prefix-own-book c =
+    let at-put-book = c .before .before .before .before in
+    let at-factors-of = at-put-book .before .before in
+    let start = at-factors-of .before .before .before .before in
+    book-inside _ _ (start .pre .0) (at-factors-of .factors-of .ensures) (at-put-book .put-book .ensures .1) (at-put-book .put-book .ensures .0)
 
 slice-aggregate-plain-turn : tie.Need-slice-aggregate-plain-turn
-slice-aggregate-plain-turn c = sym (length-take-le _ _ (book-inside _ _ (c .before .before .before .before .before .before .before .before .before .before .before .pre .0) (c .before .before .before .before .before .before .before .factors-of .ensures) (c .before .before .before .before .before .put-book .ensures .1) (c .before .before .before .before .before .put-book .ensures .0)))
+slice-aggregate-plain-turn c =
+    let at-put-book = c .before .before .before .before .before in
+    let at-factors-of = at-put-book .before .before in
+    let start = at-factors-of .before .before .before .before in
+    sym (length-take-le _ _ (book-inside _ _ (start .pre .0) (at-factors-of .factors-of .ensures) (at-put-book .put-book .ensures .1) (at-put-book .put-book .ensures .0)))
 
 array-share-prefix-own-sheet : tie.Need-array-share-prefix-own-sheet
-array-share-prefix-own-sheet c = sheet-inside _ _ (c .before .before .before .before .before .before .before .before .before .before .before .pre .0) (c .before .before .before .before .before .before .before .factors-of .ensures) (c .before .before .before .before .before .put-book .ensures .1) (c .before .before .before .before .before .put-book .ensures .0) (c .before .before .put-sheet .ensures .1) (c .before .before .put-sheet .ensures .0)
+array-share-prefix-own-sheet c =
+    let at-put-book = c .before .before .before .before .before in
+    let at-factors-of = at-put-book .before .before in
+    let start = at-factors-of .before .before .before .before in
+    sheet-inside _ _ (start .pre .0) (at-factors-of .factors-of .ensures) (at-put-book .put-book .ensures .1) (at-put-book .put-book .ensures .0) (c .before .before .put-sheet .ensures .1) (c .before .before .put-sheet .ensures .0)
 
 slice-aggregate-plain-turn-2 : tie.Need-slice-aggregate-plain-turn-2
-slice-aggregate-plain-turn-2 c = sym (length-take-le _ _ (sheet-inside _ _ (c .before .before .before .before .before .before .before .before .before .before .before .before .pre .0) (c .before .before .before .before .before .before .before .before .factors-of .ensures) (c .before .before .before .before .before .before .put-book .ensures .1) (c .before .before .before .before .before .before .put-book .ensures .0) (c .before .before .before .put-sheet .ensures .1) (c .before .before .before .put-sheet .ensures .0)))
+slice-aggregate-plain-turn-2 c =
+    let at-put-book = c .before .before .before .before .before .before in
+    let at-factors-of = at-put-book .before .before in
+    let start = at-factors-of .before .before .before .before in
+    sym (length-take-le _ _ (sheet-inside _ _ (start .pre .0) (at-factors-of .factors-of .ensures) (at-put-book .put-book .ensures .1) (at-put-book .put-book .ensures .0) (c .before .before .before .put-sheet .ensures .1) (c .before .before .before .put-sheet .ensures .0)))
 
 plain-turn-requires : tie.Need-plain-turn-requires
 plain-turn-requires c κs =
-    let p = c .before .before .before .before .before .before .before .before .before .before .before .before .before .before .pre in
-    let ef = c .before .before .before .before .before .before .before .before .before .before .factors-of .ensures in
-    let eb = c .before .before .before .before .before .before .before .before .put-book .ensures in
-    let es = c .before .before .before .before .before .put-sheet .ensures in (
+    let at-put-sheet = c .before .before .before .before .before in
+    let at-put-book = at-put-sheet .before .before .before in
+    let at-factors-of = at-put-book .before .before in
+    let start = at-factors-of .before .before .before .before in
+    let p = start .pre in
+    let ef = at-factors-of .factors-of .ensures in
+    let eb = at-put-book .put-book .ensures in
+    let es = at-put-sheet .put-sheet .ensures in (
       derived-passed _ _ (p .0) ef (eb .1) (eb .0) (es .1) (es .0),
       (
         holds-there _ _ (p .0) ef (eb .1) (eb .0) (es .1) (es .0) (p .1 .1 .0),
@@ -46,10 +66,14 @@ plain-turn-requires c κs =
 
 returns : tie.Need-returns
 returns c =
-    let p = c .before .before .before .before .before .before .before .before .before .before .before .before .before .before .before .before .before .before .pre in
-    let ef = c .before .before .before .before .before .before .before .before .before .before .before .before .before .before .factors-of .ensures in
-    let eb = c .before .before .before .before .before .before .before .before .before .before .before .before .put-book .ensures in
-    let es = c .before .before .before .before .before .before .before .before .before .put-sheet .ensures in
+    let at-put-sheet = c .before .before .before .before .before .before .before .before .before in
+    let at-put-book = at-put-sheet .before .before .before in
+    let at-factors-of = at-put-book .before .before in
+    let start = at-factors-of .before .before .before .before in
+    let p = start .pre in
+    let ef = at-factors-of .factors-of .ensures in
+    let eb = at-put-book .put-book .ensures in
+    let es = at-put-sheet .put-sheet .ensures in
     let h = c .before .before .before .plain-turn .ensures in (
       holds-back _ _ (p .0) ef (eb .1) (eb .0) (es .1) (es .0) (h .0),
       (shares-back _ _ (p .0) ef (eb .1) (eb .0) (es .1) (es .0) _ _ (h .1 .0), scores-back _ _ (p .0) ef (eb .1) (eb .0) (es .1) (es .0) (h .1 .1)),

@@ -13,13 +13,19 @@ is-plain-requires : tie.Need-is-plain-requires
 is-plain-requires c κs = whole _ _ (c .before .before .pre)
 
 returns : tie.Need-returns
-returns c = from-itself _ _ (c .before .before .before .before .before .pre) (c .before .before .is-plain .ensures) (c .before .if1 .taken) (λ (x y : List ℕ). Holds fixed x y 0 (c .plain-start .result)) (c .plain-start .ensures)
+returns c =
+    let start = c .before .before .before .before .before in
+    from-itself _ _ (start .pre) (c .before .before .is-plain .ensures) (c .before .if1 .taken) (λ (x y : List ℕ). Holds fixed x y 0 (c .plain-start .result)) (c .plain-start .ensures)
 
 derived-start-requires : tie.Need-derived-start-requires
-derived-start-requires c κs = (c .before .before .before .before .pre, lettered _ _ (c .before .before .before .before .pre) (c .before .is-plain .ensures) (c .if1 .left))
+derived-start-requires c κs =
+    let start = c .before .before .before .before in
+    (start .pre, lettered _ _ (start .pre) (c .before .is-plain .ensures) (c .if1 .left))
 
 returns-2 : tie.Need-returns-2
-returns-2 c = from-twin _ _ (c .before .before .before .before .before .pre) (c .before .before .is-plain .ensures) (c .before .if1 .left) (λ (x y : List ℕ). Holds fixed x y 0 (c .derived-start .result)) (c .derived-start .ensures)
+returns-2 c =
+    let start = c .before .before .before .before .before in
+    from-twin _ _ (start .pre) (c .before .before .is-plain .ensures) (c .before .if1 .left) (λ (x y : List ℕ). Holds fixed x y 0 (c .derived-start .result)) (c .derived-start .ensures)
 
 pub start-spec : {M : Type 1} → statement M
 start-spec =

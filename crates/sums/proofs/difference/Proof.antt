@@ -40,12 +40,14 @@ value-at-requires-2 c κs = search needs
 
 sub-to : tie.Need-sub-to Inv-loop μ-loop
 sub-to c =
-    let p = c .before .before .before .before .before .before .pre .1 .1 in
+    let start = c .before .before .before .before .before .before in
+    let p = start .pre .1 .1 in
     wide-fits (c .before .before .before .loop .inv) (p .1) (p .0 .0) (p .0 .1) (c .before .before .loop-test .taken) (c .before .value-at .ensures) (c .value-at2 .ensures)
 
 cast-to : tie.Need-cast-to Inv-loop μ-loop
 cast-to c =
-    let p = c .before .before .before .before .before .before .pre .1 .1 in
+    let start = c .before .before .before .before .before .before in
+    let p = start .pre .1 .1 in
     narrow-fits (c .before .before .before .loop .inv) (p .1) (p .0 .0) (p .0 .1) (c .before .before .loop-test .taken) (c .before .value-at .ensures) (c .value-at2 .ensures)
 
 mul-t17 : tie.Need-mul-t17 Inv-loop μ-loop
@@ -53,7 +55,8 @@ mul-t17 c = search needs
 
 slice-set-from-to : tie.Need-slice-set-from-to Inv-loop μ-loop
 slice-set-from-to c =
-    let room = c .before .before .before .before .before .before .pre .1 .1 .1 in
+    let start = c .before .before .before .before .before .before in
+    let room = start .pre .1 .1 .1 in
     omega (arith, c .before .before .loop-test .taken, differing-long (c .before .before .before .loop .inv) room, room)
 
 add-i : tie.Need-add-i Inv-loop μ-loop
@@ -64,11 +67,14 @@ loop-less c = search needs
 
 loop-again : tie.Need-loop-again Inv-loop μ-loop
 loop-again c =
-    let p = c .before .before .before .before .before .before .pre .1 .1 in
+    let start = c .before .before .before .before .before .before in
+    let p = start .pre .1 .1 in
     differing-more (c .before .before .before .loop .inv) (p .1) (p .0 .0) (p .0 .1) (c .before .before .loop-test .taken) (c .before .value-at .ensures) (c .value-at2 .ensures)
 
 same-length : tie.Need-same-length Inv-loop μ-loop
-same-length c = differing-long (c .before .loop .inv) (c .before .before .before .before .pre .1 .1 .1)
+same-length c =
+    let start = c .before .before .before .before in
+    differing-long (c .before .loop .inv) (start .pre .1 .1 .1)
 
 returns : tie.Need-returns Inv-loop μ-loop
 returns c = differing-end (c .before .loop .inv) (c .loop-test .left)

@@ -55,7 +55,9 @@ mul-next-2 : tie.Need-mul-next-2 Inv-loop μ-loop
 mul-next-2 c = search needs
 
 array-copy-out-next : tie.Need-array-copy-out-next Inv-loop μ-loop
-array-copy-out-next c = omega (arith, c .before .before .before .before .before .before .pre .0 .few-columns)
+array-copy-out-next c =
+    let start = c .before .before .before .before .before .before in
+    omega (arith, start .pre .0 .few-columns)
 
 add-next : tie.Need-add-next Inv-loop μ-loop
 add-next c =
@@ -64,7 +66,9 @@ add-next c =
     entry-fits (at-loop .loop .inv) (start .pre .0 .few-columns) (start .pre .1 .1) (c .before .before .before .loop-test .taken) (c .before .before .value-at .ensures) (c .before .value-at2 .ensures)
 
 array-set-from-next : tie.Need-array-set-from-next Inv-loop μ-loop
-array-set-from-next c = omega (arith, c .before .before .before .before .before .before .before .pre .0 .few-columns)
+array-set-from-next c =
+    let start = c .before .before .before .before .before .before .before in
+    omega (arith, start .pre .0 .few-columns)
 
 add-j : tie.Need-add-j Inv-loop μ-loop
 add-j c = search needs

@@ -28,7 +28,9 @@ shared-slice-copy-out-sum : tie.Need-shared-slice-copy-out-sum Inv-loop μ-loop
 shared-slice-copy-out-sum c = omega (arith, c .before .before .before .pre .1 .0 .long)
 
 cast-sum : tie.Need-cast-sum Inv-loop μ-loop
-cast-sum c = narrow-cast-fits (c .before .before .before .before .pre .1 .0) (c .before .loop-test .taken)
+cast-sum c =
+    let start = c .before .before .before .before in
+    narrow-cast-fits (start .pre .1 .0) (c .before .loop-test .taken)
 
 mul-value-at : tie.Need-mul-value-at Inv-loop μ-loop
 mul-value-at c = search needs

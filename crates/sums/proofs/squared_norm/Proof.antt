@@ -28,7 +28,9 @@ square-requires : tie.Need-square-requires Inv-loop μ-loop
 square-requires c κs = entry-size (c .before .before .before .pre .1) _ (c .before .loop-test .taken)
 
 add-sum : tie.Need-add-sum Inv-loop μ-loop
-add-sum c = squared-fits (c .before .before .before .loop .inv) (c .before .before .before .before .pre .0) (c .before .before .before .before .pre .1) (c .before .before .loop-test .taken) (c .square .ensures)
+add-sum c =
+    let start = c .before .before .before .before in
+    squared-fits (c .before .before .before .loop .inv) (start .pre .0) (start .pre .1) (c .before .before .loop-test .taken) (c .square .ensures)
 
 add-i : tie.Need-add-i Inv-loop μ-loop
 add-i c = search needs
@@ -37,7 +39,9 @@ loop-less : tie.Need-loop-less Inv-loop μ-loop
 loop-less c = search needs
 
 loop-again : tie.Need-loop-again Inv-loop μ-loop
-loop-again c = squared-more (c .before .before .before .loop .inv) (c .before .before .before .before .pre .0) (c .before .before .before .before .pre .1) (c .before .before .loop-test .taken) (c .square .ensures)
+loop-again c =
+    let start = c .before .before .before .before in
+    squared-more (c .before .before .before .loop .inv) (start .pre .0) (start .pre .1) (c .before .before .loop-test .taken) (c .square .ensures)
 
 returns : tie.Need-returns Inv-loop μ-loop
 returns c = squared-end (c .before .loop .inv) (c .loop-test .left)

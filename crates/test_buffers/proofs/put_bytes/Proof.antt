@@ -24,7 +24,9 @@ same-length : tie.Need-same-length Inv-loop μ-loop
 same-length c = search needs
 
 returns : tie.Need-returns Inv-loop μ-loop
-returns c = slice-end (c .before .before .before .before .args .bytes .now) (c .before .loop .i) (c .before .loop .inv) (search needs)
+returns c =
+    let start = c .before .before .before .before in
+    slice-end (start .args .bytes .now) (c .before .loop .i) (c .before .loop .inv) (search needs)
 
 pub put-bytes-spec : {M : Type 1} → statement M
 put-bytes-spec =

@@ -11,7 +11,9 @@ returns c = ap written-size (sym (c .before .before .written .given .1))
 
 returns-2 : tie.Need-returns-2
 unfolding written-size
-returns-2 c = ap written-size (sym (c .before .before .before .before .written2 .given .1))
+returns-2 c =
+    let at-written2 = c .before .before .before .before in
+    ap written-size (sym (at-written2 .written2 .given .1))
 
 pub print-written-spec : {M : Type 1} → statement M
 print-written-spec =

@@ -26,7 +26,8 @@ loop-holds c =
 
 farthest-requires : tie.Need-farthest-requires Inv-loop μ-loop
 farthest-requires c κs =
-    let p = c .before .before .before .before .pre in
+    let start = c .before .before .before .before in
+    let p = start .pre in
     (p .0, (p .1, omega (arith, c .before .loop .inv .0, c .loop-test .taken)))
 
 loop-again : tie.Need-loop-again Inv-loop μ-loop
@@ -37,7 +38,9 @@ loop-again c =
     (omega (arith, l .inv .0), diameter-more _ _ (start .pre .0) (l .i) (omega (arith, t)) (l .inv .0) (c .before .farthest .ensures) (l .inv .1) (c .greater .ensures))
 
 returns : tie.Need-returns Inv-loop μ-loop
-returns c = diameter-end _ _ (c .before .before .before .before .pre .0) (c .before .loop .i) (omega (arith, c .loop-test .left)) (c .before .loop .inv .1)
+returns c =
+    let start = c .before .before .before .before in
+    diameter-end _ _ (start .pre .0) (c .before .loop .i) (omega (arith, c .loop-test .left)) (c .before .loop .inv .1)
 
 pub diameter-spec : {M : Type 1} → statement M
 diameter-spec = tie.close (tie.spec Inv-loop μ-loop loop-holds (λ c. search needs) farthest-requires (λ c κs. search needs) (λ c. search needs) loop-again returns)

@@ -12,7 +12,9 @@ ends-with-requires : tie.Need-ends-with-requires
 ends-with-requires c κs = omega (arith, at-least _ _ _ _ (c .before .before .is-between .ensures) (c .before .if1 .left))
 
 returns-2 : tie.Need-returns-2
-returns-2 c = book-letters-differ _ _ (c .before .before .before .before .is-between .ensures) (c .before .before .before .if1 .left) _ (c .before .ends-with .ensures) (c .if2 .taken)
+returns-2 c =
+    let at-is-between = c .before .before .before .before in
+    book-letters-differ _ _ (at-is-between .is-between .ensures) (c .before .before .before .if1 .left) _ (c .before .ends-with .ensures) (c .if2 .taken)
 
 boats-requires : tie.Need-boats-requires
 boats-requires c κs = search (needs, at-least)
@@ -34,13 +36,19 @@ returns-4 c =
     columns-out _ _ (at-if1 .before .is-between .ensures) (at-if1 .if1 .left) _ (at-if2 .before .ends-with .ensures) (at-if2 .if2 .left) _ (at-if3 .before .before .boats .ensures) _ (at-if3 .before .is-between2 .ensures) (at-if3 .if3 .left) _ (c .before .before .columns .ensures .0) _ (c .before .is-between3 .ensures) (c .if4 .taken)
 
 mul-count : tie.Need-mul-count
-mul-count c = omega (arith, few-values _ _ _ _ (c .before .before .before .before .is-between2 .ensures) (c .before .before .before .if3 .left) (c .before .is-between3 .ensures) (c .if4 .left))
+mul-count c =
+    let at-is-between2 = c .before .before .before .before in
+    omega (arith, few-values _ _ _ _ (at-is-between2 .is-between2 .ensures) (c .before .before .before .if3 .left) (c .before .is-between3 .ensures) (c .if4 .left))
 
 mul-body-refusal : tie.Need-mul-body-refusal
-mul-body-refusal c = omega (arith, few-values _ _ _ _ (c .before .before .before .before .is-between2 .ensures) (c .before .before .before .if3 .left) (c .before .is-between3 .ensures) (c .if4 .left))
+mul-body-refusal c =
+    let at-is-between2 = c .before .before .before .before in
+    omega (arith, few-values _ _ _ _ (at-is-between2 .is-between2 .ensures) (c .before .before .before .if3 .left) (c .before .is-between3 .ensures) (c .if4 .left))
 
 body-refusal-requires : tie.Need-body-refusal-requires
-body-refusal-requires c κs = (search needs, search (needs, at-least), omega (arith, few-values _ _ _ _ (c .before .before .before .before .is-between2 .ensures) (c .before .before .before .if3 .left) (c .before .is-between3 .ensures) (c .if4 .left)))
+body-refusal-requires c κs =
+    let at-is-between2 = c .before .before .before .before in
+    (search needs, search (needs, at-least), omega (arith, few-values _ _ _ _ (at-is-between2 .is-between2 .ensures) (c .before .before .before .if3 .left) (c .before .is-between3 .ensures) (c .if4 .left)))
 
 returns-5 : tie.Need-returns-5
 returns-5 c =

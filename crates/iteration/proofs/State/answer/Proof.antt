@@ -12,7 +12,9 @@ answered-requires : tie.Need-answered-requires
 answered-requires c κs = search needs
 
 returns : tie.Need-returns
-returns c = c .answered .ensures ∙ rw (target-score-kept (c .before .before .before .before .pre), least-kept (c .before .before .before .before .pre))
+returns c =
+    let start = c .before .before .before .before in
+    c .answered .ensures ∙ rw (target-score-kept (start .pre), least-kept (start .pre))
 
 pub answer-spec : {M : Type 1} → statement M
 answer-spec = tie.close (tie.spec answered-requires returns)

@@ -12,7 +12,9 @@ least-product-of-requires : tie.Need-least-product-of-requires
 least-product-of-requires c κs = (c .before .before .pre .0, (c .before .before .pre .1, book-fits _ _ (c .before .before .pre .0) .some-boats))
 
 returns : tie.Need-returns
-returns c = λ a. fresh-holds _ _ (c .before .before .before .before .pre .0) a (c .before .least-product-of .ensures) (toZ-ofZ (search (needs, c .struct-told .given)))
+returns c =
+    let start = c .before .before .before .before in
+    λ a. fresh-holds _ _ (start .pre .0) a (c .before .least-product-of .ensures) (toZ-ofZ (search (needs, c .struct-told .given)))
 
 pub fresh-spec : {M : Type 1} → statement M
 fresh-spec = tie.close (tie.spec least-product-of-requires returns)

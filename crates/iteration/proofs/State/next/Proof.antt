@@ -22,13 +22,19 @@ cast-t11 : tie.Need-cast-t11
 cast-t11 c = search needs
 
 cast-t12 : tie.Need-cast-t12
-cast-t12 c = target-fits (search needs) (c .before .before .before .before .pre .1 .moves)
+cast-t12 c =
+    let start = c .before .before .before .before in
+    target-fits (search needs) (start .pre .1 .moves)
 
 mul-t13 : tie.Need-mul-t13
-mul-t13 c = step-fits (search needs) (c .before .before .before .before .pre .1 .moves)
+mul-t13 c =
+    let start = c .before .before .before .before in
+    step-fits (search needs) (start .pre .1 .moves)
 
 add-t14 : tie.Need-add-t14
-add-t14 c = target-moved-fits (search needs) (c .before .before .before .before .pre .1 .moves)
+add-t14 c =
+    let start = c .before .before .before .before in
+    target-moved-fits (search needs) (start .pre .1 .moves)
 
 returns : tie.Need-returns
 returns c =

@@ -9,7 +9,9 @@ part-with-bytes-end : tie.Need-part-with-bytes-end
 part-with-bytes-end c = omega arith
 
 returns : tie.Need-returns
-returns c = adds-number (c .before .before .before .before .figures-of .ensures) (c .with-bytes .ensures)
+returns c =
+    let at-figures-of = c .before .before .before .before in
+    adds-number (at-figures-of .figures-of .ensures) (c .with-bytes .ensures)
 
 pub with-number-spec : {M : Type 1} → statement M
 with-number-spec =
