@@ -6,6 +6,7 @@ Runs the programs that are named, all where none is, and report/mixreport with m
 puts them into a folder, with their exit statuses. A program that is not built, or that nothing here tries, counts as a failed run. The last line
 says how many runs passed.
 """
+import concurrent.futures
 import os
 import re
 import shutil
@@ -665,17 +666,28 @@ def check_installed(names, runs):
         runs.expect("nothing else is made", os.listdir(folder) == ["moved to"])
 
 
+def counted(check):
+    """How many runs of a check passed and how many failed."""
+    runs = Runs()
+    check[0](*check[1:], runs)
+    sys.stdout.flush()
+    return runs.passed, runs.failed
+
+
 def main(arguments):
     names = subprocess.run([PROGRAMS], stdout=subprocess.PIPE, check=True).stdout.decode().split()
     if not arguments or not set(arguments[1:]) <= set(names):
         sys.stderr.write(__doc__)
         return 2
-    runs = Runs()
-    check_programs(arguments[0], arguments[1:] or names, runs)
+    # The built and the installed form need nothing of one another, so they are tried side by side.
+    checks = [(check_programs, arguments[0], arguments[1:] or names)]
     if not arguments[1:]:
-        check_installed(names, runs)
-    print("%d runs passed, %d failed" % (runs.passed, runs.failed))
-    return 1 if runs.failed else 0
+        checks.append((check_installed, names))
+    with concurrent.futures.ProcessPoolExecutor(len(checks)) as pool:
+        done = list(pool.map(counted, checks))
+    passed, failed = (sum(counts) for counts in zip(*done))
+    print("%d runs passed, %d failed" % (passed, failed))
+    return 1 if failed else 0
 
 
 if __name__ == "__main__":
