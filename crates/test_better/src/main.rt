@@ -46,7 +46,7 @@ fn each(cases: &[u8], count: u64) {
 }
 
 fn main() {
-    let mut cases = [0u8; 100000];
+    let mut cases = [0u8; 68000];
     let n = file_io::read_file(b"pairs.dat", &mut cases);
     each(&cases[..n], 375);
 }

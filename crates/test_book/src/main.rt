@@ -64,7 +64,7 @@ fn folder(name: &[u8]) {
 }
 
 fn main() {
-    let mut cases = [0u8; 400000];
+    let mut cases = [0u8; 380000];
     let n = file_io::read_file(b"cases.dat", &mut cases);
     each(&cases[..n], 500);
     limits();

@@ -87,7 +87,7 @@ fn folder(name: &[u8]) {
 }
 
 fn main() {
-    let mut cases = [0u8; 400000];
+    let mut cases = [0u8; 240000];
     let n = file_io::read_file(b"cases.dat", &mut cases);
     each(&cases[..n], 160);
     too_few_slots(&cases[..n]);

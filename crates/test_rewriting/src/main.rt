@@ -88,7 +88,7 @@ fn folder(name: &[u8]) {
 }
 
 fn main() {
-    let mut cases = [0u8; 100000];
+    let mut cases = [0u8; 17000];
     let n = file_io::read_file(b"cases.dat", &mut cases);
     each(&cases[..n], 236);
     folder(b"");

@@ -77,7 +77,7 @@ fn worked(name: &[u8]) {
 }
 
 fn main() {
-    let mut cases = [0u8; 300000];
+    let mut cases = [0u8; 185000];
     let n = file_io::read_file(b"cases.dat", &mut cases);
     each(&cases[..n], 600);
     limits();

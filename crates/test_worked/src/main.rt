@@ -132,7 +132,7 @@ fn folders() {
 }
 
 fn main() {
-    let mut cases = [0u8; 400000];
+    let mut cases = [0u8; 112000];
     let n = file_io::read_file(b"cases.dat", &mut cases);
     each(&cases[..n], 400);
     folders();
