@@ -1,4 +1,6 @@
--- `arguments::number_in` meets its contract.
+-- `arguments::number_in` meets its contract. The loop keeps `Reading`: the first i bytes are figures, they say `value`, and `value` and the bytes that are left decide.
+-- A turn tests byte i and reads it as one figure more; a byte that is none, or a value above 32 bits, ends the function.
+-- It ends: the bytes that are left fall by one.
 use mathlib.Core.Path.{_≡_, refl, sym, _∙_}
 use Prim.Native.Nat.{_-_}
 use native.Mathlib.Omega.{arith}

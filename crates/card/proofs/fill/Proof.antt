@@ -1,4 +1,6 @@
--- `card::fill` meets its contract; `Inv-loop` is what its loop keeps.
+-- `card::fill` meets its contract. The loop keeps `Filled`: the first i slots of `to` are those of `from`, the later ones as they were.
+-- A turn stores slot i.
+-- It ends: the slots that are left of `count` fall by one.
 use borrow.Author.Needs.{needs}
 use Prim.Native.Nat.{_-_}
 use mathlib.Core.Path.{_≡_, sym}

@@ -1,4 +1,6 @@
--- `csv_cells::scan` meets its contract: `Scanning` is the loop's invariant.
+-- `csv_cells::scan` meets its contract. The loop keeps `Scanning`: place, line and width, followed through the bytes that are left, end as the definitions say.
+-- A turn reads one byte to a token and moves place, line and width by it.
+-- It ends: the bytes that are left fall by one.
 use borrow.Author.Needs.{needs}
 use Prim.Native.Nat.{_-_}
 use lib.ListN.{length}

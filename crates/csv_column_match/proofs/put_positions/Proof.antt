@@ -1,4 +1,6 @@
--- `csv_column_match::put_positions` meets its contract: `Positions-put` is the loop's invariant.
+-- `csv_column_match::put_positions` meets its contract. The loop keeps `Positions-put`: the positions of the first j columns are put, later bytes are as they were.
+-- A turn looks column j up among the sheet's and puts its position.
+-- It ends: the columns that are left fall by one.
 use borrow.Author.Needs.{needs}
 use Prim.Native.Nat.{_-_}
 use native.Mathlib.Omega.{arith}

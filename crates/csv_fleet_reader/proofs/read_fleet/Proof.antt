@@ -1,4 +1,6 @@
--- `csv_fleet_reader::read_fleet` meets its contract: `Reading` is the loop's invariant.
+-- `csv_fleet_reader::read_fleet` meets its contract. The loop keeps `Reading`: table, line and values, followed through the bytes that are left, end as the definitions say, and the first n values are put.
+-- A turn reads one byte to a token, puts the value that the token ends, if any, and moves table and line by it.
+-- It ends: the bytes that are left fall by one.
 use borrow.Author.Needs.{needs}
 use native.Mathlib.Omega.{arith}
 use Prim.Native.Nat.{_-_}

@@ -1,4 +1,6 @@
--- `lean_folder::check_pairs` meets its contract.
+-- `lean_folder::check_pairs` meets its contract. The loop keeps `Going`: k pairs were read and checked and none was refused; the slots have the length they came with.
+-- A turn checks pair k; a refusal ends the function.
+-- It ends: the pairs that are left fall by one.
 use mathlib.Core.Path.{_≡_, refl}
 use Prim.Native.Nat.{_-_}
 use lib.ListN.{length}

@@ -1,4 +1,6 @@
--- `lean_listing::cards_on` meets its contract.
+-- `lean_listing::cards_on` meets its contract. The loop keeps `Counted`: `count` of the first k cards rest on the boat, so all are `count` and those of the cards that are left.
+-- A turn adds 1 where card k holds shares of the boat.
+-- It ends: the cards that are left fall by one.
 use Prim.Native.Nat.{_-_}
 use Rattle.lean_listing.proofs.Counting.{Counted, counted-start, counted-more, counted-end}
 use borrow.Author.Needs.{needs}

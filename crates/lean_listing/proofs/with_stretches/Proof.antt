@@ -1,4 +1,6 @@
--- `lean_listing::with_stretches` meets its contract.
+-- `lean_listing::with_stretches` meets its contract. The loop keeps `Stretches-added`: the text has the lines of the first i stretches, and those that are left complete it.
+-- A turn adds the line of stretch i, of at most 15 bytes.
+-- It ends: the stretches that are left fall by one.
 use Prim.Native.Nat.{_-_}
 use native.Mathlib.Omega.{arith}
 use Rattle.leaning.specs.Report.{stretches}

@@ -1,4 +1,6 @@
--- `pairwise_moves::list_held` meets its contract; `Inv-loop` is what its loop keeps.
+-- `pairwise_moves::list_held` meets its contract. The loop keeps `Listing`: the boats before i that hold shares are in the first `count` slots, in order.
+-- A turn adds boat i where it holds shares.
+-- It ends: the boats that are left fall by one.
 use borrow.Author.Needs.{needs}
 use mathlib.Core.Logic.{⊎-elim}
 use Prim.Native.Nat.{_-_}

@@ -1,4 +1,6 @@
--- `pairwise_moves::put_scores` meets its contract; `Inv-loop` is what its loop keeps.
+-- `pairwise_moves::put_scores` meets its contract. The loop keeps `Stored`: the scores of the first i rows are in the first i slots, and `row` is where row i starts.
+-- A turn stores the score of row i.
+-- It ends: the boats that are left fall by one.
 use borrow.Author.Needs.{needs, sfits-of}
 use Prim.Native.Nat.{_-_}
 use lib.ListN.{take}

@@ -1,4 +1,6 @@
--- `pairwise_moves::remember_held` meets its contract; `Inv-loop` is what its loop keeps.
+-- `pairwise_moves::remember_held` meets its contract. The loop keeps `Remembering`: each boat before i that holds shares has its products in the memory.
+-- A turn stores the products of boat i where it holds shares; they stand behind those of the boats before it.
+-- It ends: the boats that are left fall by one.
 use borrow.Author.Needs.{needs}
 use mathlib.Core.Logic.{⊎-elim}
 use Prim.Native.Nat.{_-_}

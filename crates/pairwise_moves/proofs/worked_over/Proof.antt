@@ -1,4 +1,6 @@
--- `pairwise_moves::worked_over` meets its contract; `Inv-loop` is what its loop keeps.
+-- `pairwise_moves::worked_over` meets its contract. The loop keeps `Working`: the moves that are left, made on the shares held, end where all moves on the first shares end; scores, list, memory and pair are those of the shares held.
+-- A turn makes one move and scores again; where the amount is 0 the later moves would change nothing, and the function returns.
+-- It ends: the moves that are left fall by one.
 use borrow.Author.Needs.{needs}
 use Prim.Native.Nat.{_-_}
 use native.Mathlib.Omega.{arith}

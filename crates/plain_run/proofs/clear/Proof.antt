@@ -1,4 +1,6 @@
--- `plain_run::clear` meets its contract; `Inv-loop` is what its loop keeps.
+-- `plain_run::clear` meets its contract. The loop keeps `Filled`: the first i slots are 0, the later ones as they were.
+-- A turn sets slot i to 0.
+-- It ends: the slots that are left of `count` fall by one.
 use mathlib.Core.Path.{_≡_, sym, ap, _∙_}
 use mathlib.Core.List.{List, _++_}
 use Prim.Native.Nat.{ℕ, _-_}

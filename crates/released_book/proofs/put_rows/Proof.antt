@@ -1,4 +1,6 @@
--- `released_book::put_rows` meets its contract; `Inv-loop` is what its loop keeps.
+-- `released_book::put_rows` meets its contract. The loop keeps `Rowing`: the rows of the boats before i that may be used are put, up to `at`, and row i is read at `from`.
+-- A turn puts row i where the boat may be used.
+-- It ends: the boats that are left fall by one.
 use Prim.Native.Nat.{_-_, _*_, _<_}
 use mathlib.Core.Path.{_≡_, sym, ap, _∙_}
 use native.Mathlib.Omega.{arith}

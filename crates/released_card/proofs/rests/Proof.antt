@@ -1,4 +1,6 @@
--- `released_card::rests` meets its contract; `Inv-loop` is what its loop keeps.
+-- `released_card::rests` meets its contract. The loop keeps `Resting`: the boats from i on decide as all do, since each boat before i may be used or holds none.
+-- A turn tests boat i; where it fails the answer is no.
+-- It ends: the boats that are left fall by one.
 use mathlib.Core.Path.{_≡_, sym, ap, _∙_}
 use mathlib.Core.Bool.{_||_}
 use Prim.Native.Nat.{_-_, _≤_}

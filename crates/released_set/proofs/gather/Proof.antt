@@ -1,4 +1,6 @@
--- `released_set::gather` meets its contract; `Inv-loop` is what its loop keeps.
+-- `released_set::gather` meets its contract. The loop keeps `Gathering`: the shares of the boats before i that may be used are in the first `next` slots, the later slots are 0.
+-- A turn takes the share of boat i where the boat may be used.
+-- It ends: the boats that are left fall by one.
 use mathlib.Core.Path.{_≡_, sym, _∙_}
 use mathlib.Core.Logic.{⊎-elim}
 use Prim.Native.Nat.{_-_, _≤_}

@@ -1,4 +1,6 @@
--- `released_set::scatter` meets its contract; `Inv-loop` is what its loop keeps.
+-- `released_set::scatter` meets its contract. The loop keeps `Scattering`: the first i slots are given out, and `next` of the boats before i may be used.
+-- A turn gives slot i the next share where the boat may be used, else 0.
+-- It ends: the boats that are left fall by one.
 use mathlib.Core.Path.{_≡_, sym, _∙_}
 use mathlib.Core.Logic.{⊎-elim}
 use Prim.Native.Nat.{_-_, _≤_}

@@ -1,4 +1,6 @@
--- `schedules::entries_total` meets its contract; `Inv-loop` is what its loop keeps.
+-- `schedules::entries_total` meets its contract. The loop keeps `Totalling`: `total` is the sum of the first i entries, each below 65,536.
+-- A turn adds entry i.
+-- It ends: the entries that are left fall by one.
 use mathlib.Core.Path.{_≡_}
 use Prim.Native.Nat.{_≤_, _-_}
 use native.Mathlib.Omega.{arith}

@@ -1,4 +1,6 @@
--- `schedules::table_refusal` meets its contract; `Inv-loop` is what its loop keeps.
+-- `schedules::table_refusal` meets its contract. The loop keeps `Testing`: `total` is the sum of the first i entries, and the entries from i on decide as all do.
+-- A turn adds entry i and tests it; one that does not fit ends the function.
+-- It ends: the entries that are left fall by one.
 use Prim.Native.Nat.{_≤_, _-_}
 use native.Mathlib.Omega.{arith}
 use mathlib.Core.Path.{sym, _∙_}

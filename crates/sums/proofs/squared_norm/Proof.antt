@@ -1,4 +1,6 @@
--- `sums::squared_norm` meets its contract; `Inv-loop` is what its loop keeps.
+-- `sums::squared_norm` meets its contract. The loop keeps `Squared`: the squares of the first i numbers are in the sum, and those that are left complete it.
+-- A turn adds the square of number i, which is bounded, so that the sum keeps to 64 bits.
+-- It ends: the numbers that are left fall by one.
 use borrow.Author.Needs.{needs}
 use Prim.Native.Nat.{_-_}
 use native.Mathlib.Omega.{arith}

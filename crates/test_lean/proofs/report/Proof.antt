@@ -1,4 +1,6 @@
--- `test_lean::report` meets its contract.
+-- `test_lean::report` meets its contract. The loop keeps that k pairs were read, no more than there are, and that the slots are 16,384.
+-- A turn reads and checks one pair; its contract keeps the slots' number.
+-- It ends: the pairs that are left fall by one.
 use mathlib.Core.Path.{_≡_}
 use Prim.Native.Nat.{_-_, _≤_}
 use lib.ListN.{length}
