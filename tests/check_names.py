@@ -5,7 +5,8 @@ file or a heading that is not there.
 In a table row of a page, the backquoted words before a path `crates/..` in backquotes are names that this file must declare. A row may
 have several such paths; what stands behind the last is free. Links and backquoted paths of README, CONTRIBUTING, docs/ and
 tests/README.md must be there; docs/changes.md may name paths that were. A link to a heading must find it. The index at the top of
-docs/DECISIONS.md and docs/changes.md has a link to each section of the page.
+docs/DECISIONS.md and docs/changes.md has a link to each section of the page. In docs/architecture.md a function with a crate in brackets
+behind it, `name` (`crate`), must be declared in the code of that crate.
 """
 
 import os
@@ -62,6 +63,17 @@ def lost(page):
             yield "%s#%s" % (path, anchor)
 
 
+def strangers(page):
+    """The functions of a page with a crate in brackets behind them that the code of this crate does not declare."""
+    for names, crate in re.findall(r"((?:`[\w:]+` and )?`[\w:]+`) \(`(\w+)`\)", read(page)):
+        source = os.path.join(ROOT, "crates", crate, "src")
+        files = sorted(os.listdir(source)) if os.path.isdir(source) else []
+        code = "".join(read(os.path.join("crates", crate, "src", file)) for file in files)
+        for name in re.findall(r"`([^`]+)`", names):
+            if not re.search(DECLARES[".rt"] % name.split("::")[-1], code, re.M):
+                yield "%s (%s)" % (name, crate)
+
+
 def main():
     names = faults = 0
     pages = ["README.md", "CONTRIBUTING.md", "tests/README.md"]
@@ -79,6 +91,9 @@ def main():
             if "(#%s)" % anchor not in index:
                 print("%s: the index has no link to #%s" % (page, anchor))
                 faults += 1
+    for name in strangers("docs/architecture.md"):
+        print("docs/architecture.md: there is no function %s" % name)
+        faults += 1
     docs = os.path.join(ROOT, "docs")
     for entry in sorted(os.listdir(docs)):
         if not entry.endswith(".md"):

@@ -4,9 +4,11 @@
 A program is run in one folder, where one that prints a constant text would pass. So its work is a function of a folder's name,
 and its main calls that function on the folder that its argument names, or on the current one, which has no name, and does nothing else;
 a number that comes before the folder is passed on.
-The programs are those that tools/programs lists.
+The programs are those that tools/programs lists, and the tables of README.md and docs/programs.md have a row for each, README.md one for
+mixreport too, which is Python.
 """
 import os
+import re
 import subprocess
 import sys
 
@@ -48,12 +50,23 @@ def code(crate):
         return " ".join(word for line in file if not line.startswith("//") for word in line.split())
 
 
+def rows(page):
+    """The programs that the table of a page has."""
+    with open(os.path.join(CRATES, "..", page), encoding="utf-8") as file:
+        table = re.search(r"(?m)^\| program \|.*\n\|[-|]+\n((?:\|.*\n)+)", file.read())[1]
+    return re.findall(r"(?m)^\| `(\w+)` \|", table)
+
+
 def main():
     listed = subprocess.run([os.path.join(CRATES, "..", "tools", "programs")], stdout=subprocess.PIPE, check=True).stdout.decode().split()
     unlike = sorted(set(listed) ^ set(PROGRAMS))
     for program in unlike:
         print("%s: stands either here or among the programs of tools/programs, not in both" % program)
     faults = len(unlike)
+    for page, more in (("README.md", ["mixreport"]), ("docs/programs.md", [])):
+        for program in sorted(set(rows(page)) ^ set(listed + more)):
+            print("%s: only one of %s and tools/programs has it" % (program, page))
+            faults += 1
     for program, (function, test, argument) in PROGRAMS.items():
         if code(program) != main_of(program, function):
             print("%s: crates/%s/src/main.rt is not one call of %s" % (program, program, function))
