@@ -20,7 +20,8 @@ returns : tie.Need-returns
 returns c =
     let at-choose = c .before in
     let at-slices = at-choose .before in
-    let x = at-slices .before .before .before .before .args in
+    let start = at-slices .before .before .before .before in
+    let x = start .args in
     handed _ _ _ _ (all-bytes-known _ (at-slices .before .shared-slice-known3 .given)) (all-bytes-known _ (at-slices .shared-slice-known4 .given)) (ptr (x .first)) (ptr (x .second)) (at-choose .choose .ensures .0) (c .part-of .ensures)
 
 pub better-card-spec : {M : Type 1} → statement M

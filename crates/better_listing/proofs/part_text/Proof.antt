@@ -15,7 +15,9 @@ returns : tie.Need-returns
 returns c = refused-text _ _ _ (c .before .if1 .taken) (c .refused-listing .ensures)
 
 judged-text-requires : tie.Need-judged-text-requires
-judged-text-requires c κs = c .before .before .before .before .pre (c .if1 .left)
+judged-text-requires c κs =
+    let start = c .before .before .before .before in
+    start .pre (c .if1 .left)
 
 returns-2 : tie.Need-returns-2
 returns-2 c = card-text _ _ _ (c .before .if1 .left) (c .judged-text .ensures)

@@ -13,7 +13,8 @@ use Rattle.card_listing.proofs.filed_text.Tie as tie
 filing-of-requires : tie.Need-filing-of-requires
 filing-of-requires c κs =
     let at-write = c .before .before in
-    let x = at-write .before .before .before .before .args in
+    let start = at-write .before .before .before .before in
+    let x = start .args in
     let given = at-write .write-card .ensures in
     let room : length (at-write .write-card .last .1 .1 .0) ≡ card-limit = search needs in
     let fits = length-fits (now (x .book)) (now (x .sheet)) (now (x .output)) (search needs) (given .0) in (
@@ -24,7 +25,8 @@ filing-of-requires c κs =
 returns : tie.Need-returns
 returns c =
     let at-write = c .before .before .before in
-    let x = at-write .before .before .before .before .args in
+    let start = at-write .before .before .before .before in
+    let x = start .args in
     let given = at-write .write-card .ensures in
     let said = c .filing-of .ensures in
     let left = left-is (now (x .book)) (now (x .sheet)) (now (x .output)) (search needs) (given .0) (given .1 .0) in

@@ -22,10 +22,14 @@ tell-start-requires : tie.Need-tell-start-requires Inv-loop μ-loop
 tell-start-requires c κs = search needs
 
 returns : tie.Need-returns Inv-loop μ-loop
-returns c = start-refused (c .before .before .lean-start .ensures) (c .before .if1 .taken) (c .before .before .before .before .before .before .pre)
+returns c =
+    let start = c .before .before .before .before .before .before in
+    start-refused (c .before .before .lean-start .ensures) (c .before .if1 .taken) (start .pre)
 
 loop-holds : tie.Need-loop-holds Inv-loop μ-loop
-loop-holds c = (going-start (c .before .lean-start .ensures) (c .if1 .left) (c .before .before .before .before .before .pre), refl)
+loop-holds c =
+    let start = c .before .before .before .before .before in
+    (going-start (c .before .lean-start .ensures) (c .if1 .left) (start .pre), refl)
 
 check-pair-requires : tie.Need-check-pair-requires Inv-loop μ-loop
 check-pair-requires c κs = search needs

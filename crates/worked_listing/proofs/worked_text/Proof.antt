@@ -14,7 +14,8 @@ use Rattle.worked_listing.proofs.worked_text.Tie as tie
 filing-of-requires : tie.Need-filing-of-requires
 filing-of-requires c κs =
     let at-work = c .before .before in
-    let x = at-work .before .before .before .before .args in
+    let start = at-work .before .before .before .before in
+    let x = start .args in
     let given = at-work .work-over .ensures in
     let most : written-size (at-work .work-over .result) ≤ card-limit =
     size-most (now (x .book)) (now (x .sheet)) (x .moves) (now (x .output)) _ (search needs) (given .0) (given .1 .1) in
@@ -24,7 +25,8 @@ filing-of-requires c κs =
 returns : tie.Need-returns
 returns c =
     let at-work = c .before .before .before in
-    let x = at-work .before .before .before .before .args in
+    let start = at-work .before .before .before .before in
+    let x = start .args in
     let given = at-work .work-over .ensures in
     worked-said (now (x .book)) (now (x .sheet)) (x .moves) (now (x .output)) _ (search needs) (given .0) (given .1 .1) (given .1 .0) (c .filing-of .ensures)
 
