@@ -24,12 +24,12 @@ returns-3 c =
     with-fault _ _ (at-size .before .if1 .left) (at-size .if2 .left) (at-read .read-fleet .ensures .0) (c .before .if3 .taken) (at-read .read-fleet .ensures .1 .0) (c .nothing3 .ensures)
 
 -- past the tests
-faultless : (c : tie.Else3) → last-table (c .before .before .before .before .before .before .before .before .before .before .args .csv .now) .fault ≡ 0
+faultless : (c : tie.Else3) → (let start = c .before .before .before .before .before .before .before .before .before .before in last-table (start .args .csv .now) .fault ≡ 0)
 faultless c =
     let at-read-fleet = c .before .before .before .before in
     sym (ap (λ (t : Table). t .fault) (at-read-fleet .read-fleet .ensures .0)) ∙ c .if3 .left
 
-few : (c : tie.Else3) → c .before .before .before .before .read-fleet .result .values ≤ 16384
+few : (c : tie.Else3) → (let at-read-fleet = c .before .before .before .before in at-read-fleet .read-fleet .result .values ≤ 16384)
 few c =
     let at-read-fleet = c .before .before .before .before in
     omega (arith, few-values _ (faultless c), at-read-fleet .read-fleet .ensures .1 .1 .0)

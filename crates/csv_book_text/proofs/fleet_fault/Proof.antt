@@ -19,7 +19,7 @@ boat-inside c =
     let long : length (c .put-looked .last .1 .1 .1 .1 .0) ≡ 200 = search needs in
     omega (arith, boat-fits c)
 
-boat-is : (c : tie.After-put-looked) → (let x = c .before .before .before .before .args in take (c .put-looked .result) (c .put-looked .last .1 .1 .1 .1 .0) ≡ looked (c .before .before .wants-boat .result) (x .made .line) 0 (x .csv .now))
+boat-is : (c : tie.After-put-looked) → (let start = c .before .before .before .before in let x = start .args in take (c .put-looked .result) (c .put-looked .last .1 .1 .1 .1 .0) ≡ looked (c .before .before .wants-boat .result) (x .made .line) 0 (x .csv .now))
 boat-is c =
     let start = c .before .before .before .before in
     let x = start .args in
@@ -37,7 +37,7 @@ column-inside c =
     let long : length (c .put-looked2 .last .1 .1 .1 .1 .0) ≡ 200 = search needs in
     omega (arith, column-fits c)
 
-column-is : (c : tie.After-put-looked2) → (let x = c .before .before .before .before .before .before .before .before .args in take (c .put-looked2 .result) (c .put-looked2 .last .1 .1 .1 .1 .0) ≡ looked (c .before .before .wants-column .result) 0 (x .made .field) (x .csv .now))
+column-is : (c : tie.After-put-looked2) → (let start = c .before .before .before .before .before .before .before .before in let x = start .args in take (c .put-looked2 .result) (c .put-looked2 .last .1 .1 .1 .1 .0) ≡ looked (c .before .before .wants-column .result) 0 (x .made .field) (x .csv .now))
 column-is c =
     let start = c .before .before .before .before .before .before .before .before in
     let x = start .args in
@@ -55,7 +55,7 @@ value-inside c =
     let long : length (c .put-looked3 .last .1 .1 .1 .1 .0) ≡ 200 = search needs in
     omega (arith, value-fits c)
 
-value-is : (c : tie.After-put-looked3) → (let x = c .before .before .before .before .before .before .before .before .before .before .before .before .args in take (c .put-looked3 .result) (c .put-looked3 .last .1 .1 .1 .1 .0) ≡ looked (c .before .before .wants-value .result) (x .made .line) (x .made .field) (x .csv .now))
+value-is : (c : tie.After-put-looked3) → (let start = c .before .before .before .before .before .before .before .before .before .before .before .before in let x = start .args in take (c .put-looked3 .result) (c .put-looked3 .last .1 .1 .1 .1 .0) ≡ looked (c .before .before .wants-value .result) (x .made .line) (x .made .field) (x .csv .now))
 value-is c =
     let start = c .before .before .before .before .before .before .before .before .before .before .before .before in
     let x = start .args in

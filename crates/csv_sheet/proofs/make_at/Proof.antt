@@ -15,10 +15,12 @@ use Rattle.csv_sheet.proofs.make_at.Tie as tie
 long : (c : tie.After-put-factors) → length (c .put-factors .last .1 .1 .0) ≡ 64
 long c = search needs
 
-taken : (c : tie.After-put-factors) → take (length (c .before .before .before .before .before .args .places .now)) (c .put-factors .last .1 .1 .0) ≡ factors-of (c .before .before .before .before .before .args .places .now) (c .before .before .before .before .before .args .csv .now)
-taken c = factors-taken _ _ _ (c .put-factors .ensures) (c .before .before .before .before .before .pre .0 .few) (search needs)
+taken : (c : tie.After-put-factors) → (let start = c .before .before .before .before .before in take (length (start .args .places .now)) (c .put-factors .last .1 .1 .0) ≡ factors-of (start .args .places .now) (start .args .csv .now))
+taken c =
+    let start = c .before .before .before .before .before in
+    factors-taken _ _ _ (c .put-factors .ensures) (start .pre .0 .few) (search needs)
 
-total-is : (c : tie.After-total) → c .total .result ≡ sum (factors-of (c .before .before .before .before .before .before .before .before .args .places .now) (c .before .before .before .before .before .before .before .before .args .csv .now))
+total-is : (c : tie.After-total) → (let start = c .before .before .before .before .before .before .before .before in c .total .result ≡ sum (factors-of (start .args .places .now) (start .args .csv .now)))
 total-is c = c .total .ensures ∙ ap sum (taken (c .before .before .before))
 
 slice-aggregate-total : tie.Need-slice-aggregate-total

@@ -22,7 +22,7 @@ find-mismatch-requires c κs =
     let start = c .before .before .before .before in
     (start .pre .0, (omega (arith, start .pre .1 .1 .1 .0), (few start, c .columns .ensures .1)))
 
-found : (c : tie.After-find-mismatch) → c .find-mismatch .result ≡ mismatch (last-table (c .before .before .before .before .before .args .fleet .now) .columns) (sheet-names (c .before .before .before .before .before .args .csv .now)) (c .before .before .before .before .before .args .fleet .now) (c .before .before .before .before .before .args .csv .now)
+found : (c : tie.After-find-mismatch) → (let start = c .before .before .before .before .before in c .find-mismatch .result ≡ mismatch (last-table (start .args .fleet .now) .columns) (sheet-names (start .args .csv .now)) (start .args .fleet .now) (start .args .csv .now))
 found c =
     let start = c .before .before .before .before .before in
     c .find-mismatch .ensures ∙ rw (start .pre .1 .1 .0, c .before .columns .ensures .0)
@@ -50,10 +50,11 @@ slice-aggregate-make-at c =
     let at-few = at-put .before .before .before .before .before .before .before .before .before in
     sym (length-take-le _ (at-put .put-positions .last .1 .1 .1 .1 .0) (omega (arith, long at-put, few at-few)))
 
-taken : (c : tie.After-put-positions) → take (c .before .before .before .before .before .before .before .before .before .args .columns) (c .put-positions .last .1 .1 .1 .1 .0) ≡ places (c .before .before .before .before .before .before .before .before .before .args .fleet .now) (c .before .before .before .before .before .before .before .before .before .args .csv .now)
+taken : (c : tie.After-put-positions) → (let start = c .before .before .before .before .before .before .before .before .before in take (start .args .columns) (c .put-positions .last .1 .1 .1 .1 .0) ≡ places (start .args .fleet .now) (start .args .csv .now))
 taken c =
-    let start = c .before .before .before .before .before .before .before .before .before in
-    places-taken _ _ (start .pre .1 .0) _ (start .pre .1 .1 .0) (c .before .before .before .before .before .columns .ensures .0) (c .put-positions .ensures) (search needs)
+    let at-columns = c .before .before .before .before .before in
+    let start = at-columns .before .before .before .before in
+    places-taken _ _ (start .pre .1 .0) _ (start .pre .1 .1 .0) (at-columns .columns .ensures .0) (c .put-positions .ensures) (search needs)
 
 make-at-requires : tie.Need-make-at-requires
 make-at-requires c κs =

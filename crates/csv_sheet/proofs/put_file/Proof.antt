@@ -26,7 +26,8 @@ put-bytes-requires-2 : tie.Need-put-bytes-requires-2
 put-bytes-requires-2 c κs =
     let at-csv = c .before .before .before .before in
     let at-sheet = at-csv .before .before .before in
-    let p = at-sheet .before .before .before .before .before .before .pre in
+    let start = at-sheet .before .before .before .before .before .before in
+    let p = start .pre in
     let e = at-sheet .put-sheet .ensures in
     sheet-room (p .0) (p .1 .0) (p .1 .1 .0) (p .1 .1 .1 .0) _ _ (p .1 .1 .1 .1) (search needs) (e .0) (e .1 .0) (e .1 .1) (at-csv .put-bytes .ensures)
 
@@ -35,7 +36,8 @@ returns c =
     let at-put = c .before .before in
     let at-csv = at-put .before .before .before .before .before in
     let at-sheet = at-csv .before .before .before in
-    let p = at-sheet .before .before .before .before .before .before .pre in
+    let start = at-sheet .before .before .before .before .before .before in
+    let p = start .pre in
     let e = at-sheet .put-sheet .ensures in
     file-put (p .0) (p .1 .0) (p .1 .1 .0) (p .1 .1 .1 .0) _ _ (p .1 .1 .1 .1) (search needs) (e .0) (e .1 .0) (e .1 .1) (at-csv .put-bytes .ensures) (at-put .put-bytes2 .ensures)
 

@@ -58,7 +58,7 @@ mul-put c =
     let start = c .before .before .before .before .before .before .before .before .before .before .before .before .before .before .before .before .before in
     omega (arith, start .pre .0 .few)
 
-cell-is : (c : tie.After-read Inv-loop μ-loop) → c .read .result ≡ read (cell-text (c .before .before .before .before .before .before .before .before .before .before .before .before .row-for .result) (getD (c .before .before .before .before .before .before .before .before .before .before .before .before .before .before .before .before .args .places .now) (c .before .before .before .before .before .before .loop .i) 0) (c .before .before .before .before .before .before .before .before .before .before .before .before .before .before .before .before .args .csv .now))
+cell-is : (c : tie.After-read Inv-loop μ-loop) → (let at-loop = c .before .before .before .before .before .before in let at-row = at-loop .before .before .before .before .before .before in let start = at-row .before .before .before .before in c .read .result ≡ read (cell-text (at-row .row-for .result) (getD (start .args .places .now) (at-loop .loop .i) 0) (start .args .csv .now)))
 cell-is c =
     let in-loop = c .before .before .before .before .before in
     let at-put = in-loop .before .before .before .before in

@@ -12,10 +12,14 @@ returns : tie.Need-returns
 returns c = let given = c .before .before .search-listing .ensures in listed _ _ (given .1 .0) _ (left-alone (given .1 .0) _ (c .if1 .taken)) (given .1 .1)
 
 array-share-prefix-bytes : tie.Need-array-share-prefix-bytes
-array-share-prefix-bytes c = inside (c .before .before .before .before .search-listing .ensures .1 .0)
+array-share-prefix-bytes c =
+    let at-search-listing = c .before .before .before .before in
+    inside (at-search-listing .search-listing .ensures .1 .0)
 
 slice-aggregate-put-bytes : tie.Need-slice-aggregate-put-bytes
-slice-aggregate-put-bytes c = as-long (c .before .before .before .before .before .search-listing .ensures .1 .0)
+slice-aggregate-put-bytes c =
+    let at-search-listing = c .before .before .before .before .before in
+    as-long (at-search-listing .search-listing .ensures .1 .0)
 
 put-bytes-requires : tie.Need-put-bytes-requires
 put-bytes-requires c κs =

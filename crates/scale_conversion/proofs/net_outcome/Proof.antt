@@ -20,10 +20,10 @@ use Rattle.scale_conversion.proofs.net_outcome.Tie as tie
 limit-passed : (c : tie.Else1) → within-limit (c .before .before .args .net) ≡ true
 limit-passed c = sym (c .before .is-within-limit .ensures) ∙ not-false _ (c .if1 .left)
 
-unit-passed : (c : tie.Else2) → between 1 10000 (c .before .before .before .before .args .unit) ≡ true
+unit-passed : (c : tie.Else2) → (let start = c .before .before .before .before in between 1 10000 (start .args .unit) ≡ true)
 unit-passed c = sym (c .before .is-between .ensures) ∙ not-false _ (c .if2 .left)
 
-value : (c : tie.After-rounded) → (let a = c .before .before .before .before .before .before .args in toZ w64 (ofZ w64 (c .rounded .result)) ≡ cell-value (net-cell (a .net) (a .unit)))
+value : (c : tie.After-rounded) → (let start = c .before .before .before .before .before .before in let a = start .args in toZ w64 (ofZ w64 (c .rounded .result)) ≡ cell-value (net-cell (a .net) (a .unit)))
 value c =
     let k = c .before .whole-kilograms in
     toZ-ofZ (sfits-of (c .rounded .ok)) ∙ value-is _ _ (toZ-ofZ (sfits-of (k .ok)) ∙ k .ensures .0) (c .rounded .ensures)

@@ -21,13 +21,13 @@ refusal-is : (c : tie.After-sheet-values) → scale-refusal (c .before .before .
 unfolding sheet-values
 refusal-is c = sym (ap (λ (v : SheetValues). v .refusal) (c .sheet-values .ensures .0))
 
-cells-passed : (c : tie.Else1) → (let a = c .before .before .before .before .args in scale-refusal (a .book .now) (a .cells) ≡ 0)
+cells-passed : (c : tie.Else1) → (let start = c .before .before .before .before in let a = start .args in scale-refusal (a .book .now) (a .cells) ≡ 0)
 cells-passed c = refusal-is (c .before .before) ∙ c .if1 .left
 
-steps-passed : (c : tie.Else2) → between 1 step-limit (c .before .before .before .before .before .before .args .steps) ≡ true
+steps-passed : (c : tie.Else2) → (let start = c .before .before .before .before .before .before in between 1 step-limit (start .args .steps) ≡ true)
 steps-passed c = sym (c .before .is-between .ensures) ∙ not-false _ (c .if2 .left)
 
-all-passed : (c : tie.Else3) → (let a = c .before .before .before .before .before .before .before .args in Passed (a .book .now) (a .cells) (a .steps) (a .tolerance))
+all-passed : (c : tie.Else3) → (let start = c .before .before .before .before .before .before .before in let a = start .args in Passed (a .book .now) (a .cells) (a .steps) (a .tolerance))
 all-passed c =
     let at-if1 = c .before .before .before in
     let at-all-cells = at-if1 .before .before .before .before in
