@@ -11,7 +11,10 @@ layout-of-requires : tie.Need-layout-of-requires
 layout-of-requires c κs = search needs
 
 answer-of-requires : tie.Need-answer-of-requires
-answer-of-requires c κs = let p = c .before .before .before .before .pre in (p .0, (p .1 .0, (c .layout-of .ensures, (p .1 .1 .0, p .1 .1 .1))))
+answer-of-requires c κs =
+    let start = c .before .before .before .before in
+    let p = start .pre in
+    (p .0, (p .1 .0, (c .layout-of .ensures, (p .1 .1 .0, p .1 .1 .1))))
 
 returns : tie.Need-returns
 returns c = search needs

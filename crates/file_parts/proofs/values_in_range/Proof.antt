@@ -41,7 +41,8 @@ loop-less c = search needs
 
 loop-again : tie.Need-loop-again Inv-loop μ-loop
 loop-again c =
-    let s = c .before .before .before .before .loop .inv in
+    let at-loop = c .before .before .before .before in
+    let s = at-loop .loop .inv in
     let h = c .before .before .before .loop-test .taken in
     ⊎-elim
     (λ w. rw (w .1) (scanned-out s h (c .before .before .u16-at .ensures .0) (c .before .value-in-range .ensures) (w .0 .taken)))

@@ -19,10 +19,16 @@ slice-aggregate-least-product : tie.Need-slice-aggregate-least-product
 slice-aggregate-least-product c = search needs
 
 least-product-requires : tie.Need-least-product-requires
-least-product-requires c κs = let p = c .before .before .before .before .before .before .pre in scan-asks _ _ (p .0) (p .1 .0) (p .1 .1) _ (c .before .before .products-of .ensures .0)
+least-product-requires c κs =
+    let start = c .before .before .before .before .before .before in
+    let p = start .pre in
+    scan-asks _ _ (p .0) (p .1 .0) (p .1 .1) _ (c .before .before .products-of .ensures .0)
 
 returns : tie.Need-returns
-returns c = let p = c .before .before .before .before .before .before .before .pre in least-right _ _ (p .0) (p .1 .0) (p .1 .1) _ (c .before .before .before .products-of .ensures .0) (c .least-product .ensures)
+returns c =
+    let start = c .before .before .before .before .before .before .before in
+    let p = start .pre in
+    least-right _ _ (p .0) (p .1 .0) (p .1 .1) _ (c .before .before .before .products-of .ensures .0) (c .least-product .ensures)
 
 pub least-product-of-spec : {M : Type 1} → statement M
 least-product-of-spec =

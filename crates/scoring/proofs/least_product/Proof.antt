@@ -38,7 +38,8 @@ loop-less c = search needs
 
 loop-again : tie.Need-loop-again Inv-loop μ-loop
 loop-again c =
-    let b = c .before .before .before .before .before .pre .1 in
+    let start = c .before .before .before .before .before in
+    let b = start .pre .1 in
     let d = c .before .before .before .loop .inv in
     let h = c .before .before .loop-test .taken in
     ⊎-elim

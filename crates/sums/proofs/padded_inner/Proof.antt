@@ -15,7 +15,8 @@ wide-inner-requires c κs = let p = c .before .before .before .pre in padded-ask
 
 returns : tie.Need-returns
 returns c =
-    let p = c .before .before .before .before .pre in
+    let start = c .before .before .before .before in
+    let p = start .pre in
     toZ-ofZ (sfits-of (c .wide-inner .ok)) ∙ c .wide-inner .ensures ∙ padded-is (p .0) (p .1 .0) (p .1 .1)
 
 narrow-inner-requires : tie.Need-narrow-inner-requires
