@@ -31,7 +31,8 @@ moved-requires c κs =
 keep-requires : tie.Need-keep-requires Inv-loop μ-loop
 keep-requires c κs =
     let at-moved = c .before .before in
-    let inv = at-moved .before .before .before .before .loop .inv in
+    let at-loop = at-moved .before .before .before .before in
+    let inv = at-loop .loop .inv in
     (ap (λ (p : Place). p .fault) (at-moved .moved .ensures), (inv .narrow, inv .room))
 
 loop-again : tie.Need-loop-again Inv-loop μ-loop

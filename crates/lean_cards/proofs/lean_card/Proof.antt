@@ -38,9 +38,10 @@ same-length c = search needs
 returns : tie.Need-returns
 returns c =
     let at-check = c .before .before .before .before .before in
-    let at-start = at-check .before .before in
-    let x = at-start .before .before .before .before .before .args in
-    given-refused (x .book .now) (x .sheet .now) (x .filed .now) (x .slots .now) (x .before) (at-start .slots-start .result) (at-start .slots-start .ensures)
+    let at-slots-start = at-check .before .before in
+    let start = at-slots-start .before .before .before .before .before in
+    let x = start .args in
+    given-refused (x .book .now) (x .sheet .now) (x .filed .now) (x .slots .now) (x .before) (at-slots-start .slots-start .result) (at-slots-start .slots-start .ensures)
     (at-check .check-card .ensures .0, at-check .check-card .ensures .1 .0) (c .before .n .given .1)
 
 same-length-2 : tie.Need-same-length-2
@@ -49,9 +50,10 @@ same-length-2 c = search needs
 returns-2 : tie.Need-returns-2
 returns-2 c =
     let at-check = c .before .before .before .before in
-    let at-start = at-check .before .before in
-    let x = at-start .before .before .before .before .before .args in
-    given-answered (x .book .now) (x .sheet .now) (x .filed .now) (x .slots .now) (x .before) (at-start .slots-start .result) (at-start .slots-start .ensures)
+    let at-slots-start = at-check .before .before in
+    let start = at-slots-start .before .before .before .before .before in
+    let x = start .args in
+    given-answered (x .book .now) (x .sheet .now) (x .filed .now) (x .slots .now) (x .before) (at-slots-start .slots-start .result) (at-slots-start .slots-start .ensures)
     (at-check .check-card .ensures .0, at-check .check-card .ensures .1 .0) (c .enum-told .given .1)
 
 pub lean-card-spec : {M : Type 1} → statement M

@@ -21,7 +21,9 @@ with-line-requires : tie.Need-with-line-requires
 with-line-requires c κs = search needs
 
 returns : tie.Need-returns
-returns c = given-refused _ _ _ _ (c .before .before .before .before .slots-refusal .ensures) (c .before .before .before .if1 .taken) (c .before .before .empty .ensures) (c .with-line .ensures .0)
+returns c =
+    let at-slots-refusal = c .before .before .before .before in
+    given-refused _ _ _ _ (at-slots-refusal .slots-refusal .ensures) (c .before .before .before .if1 .taken) (c .before .before .empty .ensures) (c .with-line .ensures .0)
 
 boats-requires : tie.Need-boats-requires
 boats-requires c κs = listable _ _ _ _ (c .before .slots-refusal .ensures) (c .if1 .left) .fits .at-least

@@ -43,7 +43,9 @@ loop-less : tie.Need-loop-less Inv-loop μ-loop
 loop-less c = omega arith
 
 loop-again : tie.Need-loop-again Inv-loop μ-loop
-loop-again c = stretches-more (c .before .before .before .before .loop .inv) (c .before .before .before .loop-test .taken) (c .before .before .most-used .ensures) (c .with-pair .ensures .0)
+loop-again c =
+    let at-loop = c .before .before .before .before in
+    stretches-more (at-loop .loop .inv) (c .before .before .before .loop-test .taken) (c .before .before .most-used .ensures) (c .with-pair .ensures .0)
 
 returns : tie.Need-returns Inv-loop μ-loop
 returns c = stretches-end (c .before .loop .inv) (c .loop-test .left)
