@@ -30,7 +30,8 @@ same-length c = search needs
 
 returns : tie.Need-returns Inv-loop μ-loop
 returns c =
-    let x = c .before .before .before .before .args in
+    let start = c .before .before .before .before in
+    let x = start .args in
     middle-end (x .columns) (c .before .loop .i) (x .from .now) (x .a) (x .b) (c .before .loop .inv) (search needs)
 
 pub put-middle-spec : {M : Type 1} → statement M

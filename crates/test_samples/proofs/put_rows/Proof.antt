@@ -24,7 +24,8 @@ loop-again : tie.Need-loop-again Inv-loop μ-loop
 loop-again c =
     let at-draw = c .before .before .before .before .before in
     let l = at-draw .before .before .before .loop in
-    let x = at-draw .before .before .before .before .before .args in
+    let start = at-draw .before .before .before .before .before in
+    let x = start .args in
     let put = rw (at-draw .draw .ensures .0, at-draw .draw .ensures .1) at (c .before .before .put-next-row .ensures) in
     rw (put .1) (rows-more (x .boats) (l .i) (x .columns) (x .scale) (l .seed) (l .inv .0) (search needs) (put .0), states-more (x .boats) (l .i) (x .columns) (l .seed) (l .inv .1) (search needs))
 

@@ -22,7 +22,8 @@ loop-again c =
     let at-wide = c .before .before .before .before in
     let at-field = at-wide .before .before .before in
     let at-loop = at-field .before .before .before .before in
-    let x = at-loop .before .before .before .before .before .before .args in
+    let start = at-loop .before .before .before .before .before .before in
+    let x = start .args in
     putting-more
     (rw (fields-more (x .line .now) (x .others .now) (x .letters .now) (x .sizes .now) (at-loop .loop .i) (search needs)) at (at-loop .loop .inv))
     (rw (at-wide .wide .ensures .0, at-wide .before .byte-at .ensures, at-wide .before .before .field2 .ensures, at-field .field .ensures) at (c .before .before .put-number .ensures))
@@ -32,7 +33,8 @@ same-length c = search needs
 
 returns : tie.Need-returns Inv-loop μ-loop
 returns c =
-    let x = c .before .before .before .before .before .before .before .args in
+    let start = c .before .before .before .before .before .before .before in
+    let x = start .args in
     putting-end (rw (fields-none (x .line .now) (x .others .now) (x .letters .now) (x .sizes .now) (c .before .loop .i) (search needs)) at (c .before .loop .inv))
 
 pub put-fields-spec : {M : Type 1} → statement M

@@ -7,7 +7,8 @@ use Rattle.test_card_cases.proofs.flips.flip.Tie as tie
 
 returns : tie.Need-returns
 returns c =
-    let x = c .before .before .before .before .before .before .before .before .before .before .before .before .args in
+    let start = c .before .before .before .before .before .before .before .before .before .before .before .before in
+    let x = start .args in
     set-set (x .filed .now) (x .at) _ _ ∙ set-getD (x .filed .now) (x .at) 0
 
 pub flip-spec : {M : Type 1} → statement M

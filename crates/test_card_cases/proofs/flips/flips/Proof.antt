@@ -13,7 +13,9 @@ abbrev μ-loop : tie.MeasureT-loop
 μ-loop book sheet filed₀ len at₀ filed at = len - at
 
 loop-again : tie.Need-loop-again Inv-loop μ-loop
-loop-again c = c .before .before .flip-byte .ensures ∙ c .before .before .before .before .before .loop .inv
+loop-again c =
+    let at-loop = c .before .before .before .before .before in
+    c .before .before .flip-byte .ensures ∙ at-loop .loop .inv
 
 same-length : tie.Need-same-length Inv-loop μ-loop
 same-length c = ap length (c .before .loop .inv)
