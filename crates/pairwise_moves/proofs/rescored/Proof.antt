@@ -80,10 +80,14 @@ lower-requires : tie.Need-lower-requires Inv-loop μ-loop
 lower-requires c κs = tt
 
 add-j : tie.Need-add-j Inv-loop μ-loop
-add-j c = search (needs, list-goes-on (c .before .before .before .before .before .before .before .pre .1) (c .before .before .before .loop .inv) (c .before .before .loop-test .taken))
+add-j c =
+    let start = c .before .before .before .before .before .before .before in
+    search (needs, list-goes-on (start .pre .1) (c .before .before .before .loop .inv) (c .before .before .loop-test .taken))
 
 mul-i : tie.Need-mul-i Inv-loop μ-loop
-mul-i c = search (needs, list-goes-on (c .before .before .before .before .before .before .before .pre .1) (c .before .before .before .loop .inv) (c .before .before .loop-test .taken))
+mul-i c =
+    let start = c .before .before .before .before .before .before .before in
+    search (needs, list-goes-on (start .pre .1) (c .before .before .before .loop .inv) (c .before .before .loop-test .taken))
 
 shared-slice-read-i-2 : tie.Need-shared-slice-read-i-2 Inv-loop μ-loop
 shared-slice-read-i-2 c =

@@ -2,8 +2,10 @@
 -- A turn makes one move and scores again; where the amount is 0 the later moves would change nothing, and the function returns.
 -- It ends: the moves that are left fall by one.
 use borrow.Author.Needs.{needs}
+use mathlib.Core.Path.{_≡_}
 use Prim.Native.Nat.{_-_}
 use native.Mathlib.Omega.{arith}
+use lib.ListN.{length}
 use Rattle.iteration.proofs.States.{book-fits}
 use Rattle.pairwise_moves.proofs.Working.{Working, finished, from-below, to-below, from-fits, to-fits, apart-asks, slope-asks, amount-asks, stopped, exchange-asks, rescore-asks, working-next, put-asks, few, first-asks, working-start, list-asks, remember-asks}
 use Rattle.pairwise_moves.proofs.worked_over.Statement.{statement}
@@ -25,6 +27,10 @@ Inv-loop book sheet allowed boats scores₀ held₀ list memory pair₀ made₀ 
 
 abbrev μ-loop : tie.MeasureT-loop
 μ-loop book sheet allowed boats scores₀ held₀ list memory pair₀ made₀ scores held pair made = allowed - made
+
+-- the shares have a slot for each of 256 boats
+share-slots : (c : tie.Start Inv-loop μ-loop) → length (c .args .shares) ≡ 256
+share-slots c = search needs
 
 residual-of-requires : tie.Need-residual-of-requires Inv-loop μ-loop
 residual-of-requires c κs =
@@ -79,13 +85,21 @@ slice-aggregate-rescored-4 c = search needs
 
 rescored-requires : tie.Need-rescored-requires Inv-loop μ-loop
 rescored-requires c κs =
-    let start = c .before .before .before .before .before .before .before .before .before .before .before .before .before .before .before .before .before .before .before in
-    first-asks _ _ (start .pre .0) (start .pre .1 .0) (start .args .shares) (search needs) (start .pre .1 .1) (c .before .before .before .before .before .before .before .before .before .before .before .before .before .before .before .before .residual-of .result) (c .before .before .before .before .before .before .before .before .before .before .before .before .before .before .before .before .residual-of .ensures) (c .before .before .before .before .before .before .before .before .before .before .before .before .before .put-scores .ensures) (c .before .before .before .before .before .before .before .before .before .list-held .ensures) (c .before .before .before .before .before .remember-held .ensures)
+    let at-remember-held = c .before .before .before .before .before in
+    let at-list-held = at-remember-held .before .before .before .before in
+    let at-put-scores = at-list-held .before .before .before .before in
+    let at-residual-of = at-put-scores .before .before .before in
+    let start = at-residual-of .before .before .before in
+    first-asks _ _ (start .pre .0) (start .pre .1 .0) (start .args .shares) (share-slots start) (start .pre .1 .1) (at-residual-of .residual-of .result) (at-residual-of .residual-of .ensures) (at-put-scores .put-scores .ensures) (at-list-held .list-held .ensures) (at-remember-held .remember-held .ensures)
 
 loop-holds : tie.Need-loop-holds Inv-loop μ-loop
 loop-holds c =
-    let start = c .before .before .before .before .before .before .before .before .before .before .before .before .before .before .before .before .before .before .before .before .before in
-    working-start _ _ (start .pre .0) (start .pre .1 .0) (start .args .shares) (search needs) (start .pre .1 .1) (c .before .before .before .before .before .before .before .before .before .before .before .before .before .before .before .before .before .before .residual-of .result) (c .before .before .before .before .before .before .before .before .before .before .before .before .before .before .before .before .before .before .residual-of .ensures) (c .before .before .before .before .before .before .before .before .before .before .before .before .before .before .before .put-scores .ensures) (c .before .before .before .before .before .before .before .before .before .before .before .list-held .ensures) (c .before .before .before .before .before .before .before .remember-held .ensures) (c .before .rescored .ensures .0) (c .before .rescored .ensures .1) (search needs)
+    let at-remember-held = c .before .before .before .before .before .before .before in
+    let at-list-held = at-remember-held .before .before .before .before in
+    let at-put-scores = at-list-held .before .before .before .before in
+    let at-residual-of = at-put-scores .before .before .before in
+    let start = at-residual-of .before .before .before in
+    working-start _ _ (start .pre .0) (start .pre .1 .0) (start .args .shares) (share-slots start) (start .pre .1 .1) (at-residual-of .residual-of .result) (at-residual-of .residual-of .ensures) (at-put-scores .put-scores .ensures) (at-list-held .list-held .ensures) (at-remember-held .remember-held .ensures) (c .before .rescored .ensures .0) (c .before .rescored .ensures .1) (search needs)
 
 mul-gives : tie.Need-mul-gives Inv-loop μ-loop
 mul-gives c =
@@ -175,7 +189,9 @@ slice-aggregate-rescored-6 : tie.Need-slice-aggregate-rescored-6 Inv-loop μ-loo
 slice-aggregate-rescored-6 c = search needs
 
 slice-aggregate-rescored-7 : tie.Need-slice-aggregate-rescored-7 Inv-loop μ-loop
-slice-aggregate-rescored-7 c = search (needs, c .before .before .before .before .before .before .before .before .before .before .before .before .before .before .loop .inv .list-slots)
+slice-aggregate-rescored-7 c =
+    let at-loop = c .before .before .before .before .before .before .before .before .before .before .before .before .before .before in
+    search (needs, at-loop .loop .inv .list-slots)
 
 slice-aggregate-rescored-8 : tie.Need-slice-aggregate-rescored-8 Inv-loop μ-loop
 slice-aggregate-rescored-8 c = search needs

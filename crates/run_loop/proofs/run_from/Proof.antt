@@ -28,7 +28,8 @@ abbrev μ-loop : tie.MeasureT-loop
 
 loop-holds : tie.Need-loop-holds Inv-loop μ-loop
 loop-holds c =
-    let p = c .before .before .before .before .pre in
+    let start = c .before .before .before .before in
+    let p = start .pre in
     kept-start _ _ (p .0) (schedule-sized _ (p .1 .0)) (p .1 .1 .1 .1 .0) (p .1 .1 .1 .1 .1 .0) (p .1 .1 .1 .1 .1 .1 .0) (p .1 .1 .1 .1 .1 .1 .1)
 
 slice-aggregate-step : tie.Need-slice-aggregate-step Inv-loop μ-loop
@@ -37,42 +38,47 @@ slice-aggregate-step c =
 
 slice-aggregate-step-2 : tie.Need-slice-aggregate-step-2 Inv-loop μ-loop
 slice-aggregate-step-2 c =
-    sym (c .before .before .before .before .loop .inv .remembers .targets-long)
+    let at-loop = c .before .before .before .before in
+    sym (at-loop .loop .inv .remembers .targets-long)
 
 step-requires : tie.Need-step-requires Inv-loop μ-loop
 step-requires c κs =
     let at-loop = c .before .before .before .before .before in
-    let p = at-loop .before .before .before .before .before .pre in
+    let start = at-loop .before .before .before .before .before in
+    let p = start .pre in
     let k = at-loop .loop .inv in
     (p .0, (p .1 .0, (p .1 .1 .0, (k .going .held, (left-here _ _ (p .0) (schedule-sized _ (p .1 .0)) k, (k .shared, (k .scored, k .remembers)))))))
 
 answer-requires : tie.Need-answer-requires Inv-loop μ-loop
 answer-requires c κs =
-    let at-loop = c .before .before .before .before .before .before .before .before .before .before .before .before in
-    let p = at-loop .before .before .before .before .before .pre in
+    let at-step = c .before .before .before .before .before .before in
+    let at-loop = at-step .before .before .before .before .before .before in
+    let start = at-loop .before .before .before .before .before in
+    let p = start .pre in
     let S = schedule-sized _ (p .1 .0) in
-    next-answerable _ _ (p .0) S (at-loop .loop .inv .going) (c .before .before .before .before .before .before .step .ensures .0)
+    next-answerable _ _ (p .0) S (at-loop .loop .inv .going) (at-step .step .ensures .0)
 
 same-length : tie.Need-same-length Inv-loop μ-loop
 same-length c =
     let at-step = c .before .before .before .before .before .before .before .before .before in
-    search (needs, at-step .step .ok, at-step .before .before .before .before .before .before .loop .inv .shares-long)
+    search (needs, at-step .step .ok, (let at-loop = at-step .before .before .before .before .before .before in at-loop .loop .inv .shares-long))
 
 same-length-2 : tie.Need-same-length-2 Inv-loop μ-loop
 same-length-2 c =
     let at-step = c .before .before .before .before .before .before .before .before .before in
-    search (needs, at-step .step .ok, at-step .before .before .before .before .before .before .loop .inv .scores-long)
+    search (needs, at-step .step .ok, (let at-loop = at-step .before .before .before .before .before .before in at-loop .loop .inv .scores-long))
 
 same-length-3 : tie.Need-same-length-3 Inv-loop μ-loop
 same-length-3 c =
     let at-step = c .before .before .before .before .before .before .before .before .before in
-    search (needs, at-step .step .ok, at-step .before .before .before .before .before .before .loop .inv .memory-long)
+    search (needs, at-step .step .ok, (let at-loop = at-step .before .before .before .before .before .before in at-loop .loop .inv .memory-long))
 
 returns : tie.Need-returns Inv-loop μ-loop
 returns c =
     let at-step = c .before .before .before .before .before .before .before .before .before in
     let at-loop = at-step .before .before .before .before .before .before in
-    let p = at-loop .before .before .before .before .before .pre in
+    let start = at-loop .before .before .before .before .before in
+    let p = start .pre in
     let S = schedule-sized _ (p .1 .0) in
     let k = at-loop .loop .inv in
     let h = at-step .step .ensures in
@@ -83,13 +89,15 @@ loop-less : tie.Need-loop-less Inv-loop μ-loop
 loop-less c =
     let at-step = c .before .before .before .before .before .before .before .before .before in
     let at-loop = at-step .before .before .before .before .before .before in
-    omega (arith, at-step .step .ensures .0 .steps-are, at-loop .loop .inv .going .left, at-loop .before .before .before .before .before .pre .1 .1 .1 .0)
+    let start = at-loop .before .before .before .before .before in
+    omega (arith, at-step .step .ensures .0 .steps-are, at-loop .loop .inv .going .left, start .pre .1 .1 .1 .0)
 
 loop-again : tie.Need-loop-again Inv-loop μ-loop
 loop-again c =
     let at-step = c .before .before .before .before .before .before .before .before .before in
     let at-loop = at-step .before .before .before .before .before .before in
-    let p = at-loop .before .before .before .before .before .pre in
+    let start = at-loop .before .before .before .before .before in
+    let p = start .pre in
     let S = schedule-sized _ (p .1 .0) in
     let k = at-loop .loop .inv in
     let h = at-step .step .ensures in
