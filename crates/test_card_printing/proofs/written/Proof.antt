@@ -16,7 +16,8 @@ returns-2 : tie.Need-returns-2
 returns-2 c =
     let at-write = c .before .before .before in
     let at-if1 = at-write .before .before in
-    let x = at-if1 .before .before .before .before .args in
+    let start = at-if1 .before .before .before .before in
+    let x = start .args in
     let l : length (take (x .room) (x .buffer .now)) ≡ x .room = length-take-le (x .room) (x .buffer .now) (at-if1 .if1 .left) in
     let w = rw (sub-zero, l) at (at-write .write-card .ensures) in
     rw (le-leb _ _ (at-if1 .if1 .left), sub-zero) (c .print-written .ensures ∙ ap written-size (w .0), rw (w .1 .0))

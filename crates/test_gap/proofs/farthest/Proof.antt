@@ -33,7 +33,8 @@ sub-j c = search needs
 
 squared-distance-requires : tie.Need-squared-distance-requires Inv-loop μ-loop
 squared-distance-requires c κs =
-    let p = c .before .before .before .before .pre in
+    let start = c .before .before .before .before in
+    let p = start .pre in
     (p .0, (p .1 .0, (p .1 .1, omega (arith, c .before .loop .inv .0, c .before .loop .inv .1 .0))))
 
 loop-less : tie.Need-loop-less Inv-loop μ-loop

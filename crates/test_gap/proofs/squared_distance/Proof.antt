@@ -31,10 +31,16 @@ moved-requires : tie.Need-moved-requires
 moved-requires c κs = let p = c .before .before .pre in moved-asks _ _ (p .0) (p .1 .0) (p .1 .1 .0) (p .1 .1 .1)
 
 squared-norm-requires : tie.Need-squared-norm-requires
-squared-norm-requires c κs = let p = c .before .before .before .before .pre in norm-asks _ _ (p .0) (p .1 .0) (p .1 .1 .0) (p .1 .1 .1) (c .before .moved .ensures) (search needs)
+squared-norm-requires c κs =
+    let start = c .before .before .before .before in
+    let p = start .pre in
+    norm-asks _ _ (p .0) (p .1 .0) (p .1 .1 .0) (p .1 .1 .1) (c .before .moved .ensures) (search needs)
 
 returns : tie.Need-returns
-returns c = let p = c .before .before .before .before .before .pre in norm-is _ _ (p .0) (p .1 .0) (p .1 .1 .0) (p .1 .1 .1) (c .before .before .moved .ensures) (c .squared-norm .ensures)
+returns c =
+    let start = c .before .before .before .before .before in
+    let p = start .pre in
+    norm-is _ _ (p .0) (p .1 .0) (p .1 .1 .0) (p .1 .1 .1) (c .before .before .moved .ensures) (c .squared-norm .ensures)
 
 pub squared-distance-spec : {M : Type 1} → statement M
 squared-distance-spec = tie.close (tie.spec mul-a mul-a-2 add-a mul-b mul-b-2 add-b moved-requires (λ c. search needs) squared-norm-requires returns)
