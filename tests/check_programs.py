@@ -5,8 +5,9 @@ A program is run in one folder, where one that prints a constant text would pass
 and its main calls that function on the folder that its argument names, or on the current one, which has no name, and does nothing else;
 a number that comes before the folder is passed on.
 The programs are those that tools/programs lists, and the tables of README.md and docs/programs.md have a row for each, README.md one for
-mixreport too, which is Python.
+mixreport too, which is Python. What docs/programs.md says of standard error is said by the code.
 """
+import glob
 import os
 import re
 import subprocess
@@ -57,6 +58,20 @@ def rows(page):
     return re.findall(r"(?m)^\| `(\w+)` \|", table)
 
 
+def unsaid():
+    """The lines on standard error in docs/programs.md with three words or more that no text of the code has. Files, numbers and marks part them."""
+    code = ""
+    for path in glob.glob(os.path.join(CRATES, "*", "src", "*.rt")):
+        with open(path, encoding="utf-8") as file:
+            code += " ".join(re.findall(r'b"([^"]*)"', file.read())) + "\n"
+    with open(os.path.join(CRATES, "..", "docs", "programs.md"), encoding="utf-8") as file:
+        table = re.search(r"(?m)^\| line \| means \|\n\|[-|]+\n((?:\|.*\n)+)", file.read())[1]
+    for line in re.findall(r"`([^`]+)`", "".join(row.split("|")[1] for row in table.splitlines())):
+        parts = re.split(r"[\w/]+\.(?:wbk|wsh|wcd|csv)|-?\d+|[:,] ", line)
+        if not all(part.strip() in code for part in parts if len(part.split()) > 2):
+            yield line
+
+
 def main():
     listed = subprocess.run([os.path.join(CRATES, "..", "tools", "programs")], stdout=subprocess.PIPE, check=True).stdout.decode().split()
     unlike = sorted(set(listed) ^ set(PROGRAMS))
@@ -67,6 +82,9 @@ def main():
         for program in sorted(set(rows(page)) ^ set(listed + more)):
             print("%s: only one of %s and tools/programs has it" % (program, page))
             faults += 1
+    for line in unsaid():
+        print("docs/programs.md: no program says %s" % line)
+        faults += 1
     for program, (function, test, argument) in PROGRAMS.items():
         if code(program) != main_of(program, function):
             print("%s: crates/%s/src/main.rt is not one call of %s" % (program, program, function))
