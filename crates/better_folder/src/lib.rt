@@ -2,15 +2,6 @@
 // what is printed and filed to the reference.
 // Of each file one byte more is read than it may have, so that a longer file is refused and not cut.
 
-// Files a card under this path unless something was refused; what is in the way goes to standard error. Whether there is a listing to print.
-fn file(path: &[u8], part: &[u8], refusal: u32) -> bool {
-    if refusal != 0 {
-        file_io::tell(path, b" is as it was\n");
-        return true;
-    }
-    file_io::replace_or_tell(path, part)
-}
-
 // Files the better of first.wcd and second.wcd, for fleet.wbk and sheet.wsh of a folder, there as better.wcd without front text, and
 // prints its listing. The current folder has no name. Where a file is refused or the card cannot be written, an older better.wcd
 // stays as it was, and standard error says so, with what is known of a refusal of the book or the sheet.
@@ -34,7 +25,7 @@ pub fn file_better(folder: &[u8]) {
     let path = paths::path_in(folder, b"better.wcd");
     let bytes = path.bytes;
     let name = file_io::first_bytes(&bytes, path.len);
-    if file(name, part, choice.refusal) {
+    if file_io::replace_or_leave(name, part, choice.len) {
         file_io::print(chosen.text);
     }
 }

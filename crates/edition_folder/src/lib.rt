@@ -1,5 +1,7 @@
 // The work of mixedition, in a folder that the caller names. What the system reads and writes no contract can say; test_rewriting holds
 // what is printed and filed to the reference.
+ghost use mathlib.Core.Path.{_≡_};
+ghost use Rattle.editions.specs.Rewriting.{rewriting-number};
 use editions::Rewritten;
 
 // How many bytes a conversion wrote, none where it is refused.
@@ -10,13 +12,14 @@ fn size_of(given: Rewritten) -> usize {
     }
 }
 
-// Files a conversion, which has no bytes where it is refused; what is in the way goes to standard error. Whether there is a line to print.
-fn file(path: &[u8], output: &[u8; 40000], len: usize) -> bool {
-    if len == 0 {
-        file_io::tell(path, b" is as it was\n");
-        return true;
+// The number that refuses a conversion, 0 where none does.
+fn number_of(given: Rewritten) -> u32
+    ensures { λ r. ⌜ r ≡ rewriting-number given ⌝ }
+{
+    match given {
+        Rewritten::Refused(n) => n,
+        Rewritten::Wrote(_, _) => 0,
     }
-    file_io::replace_or_tell(path, file_io::first_bytes(output, len))
 }
 
 // Converts sheet.wsh in a folder into its other edition, files that there as other.wsh and prints its edition and bytes, or the number that
@@ -28,14 +31,12 @@ pub fn file_other(folder: &[u8]) {
     let n = file_io::read_in(folder, b"sheet.wsh", &mut sheet);
     let mut output = [0u8; 40000];
     let given = other_edition::other_edition(&sheet[..n], &mut output);
-    let size = size_of(given);
-    if size == 0 {
-        file_io::tell_text(edition_text::edition_detail(&sheet[..n]));
-    }
+    let refusal = number_of(given);
+    file_io::tell_text(edition_text::known_detail(&sheet[..n], refusal));
     let path = paths::path_in(folder, b"other.wsh");
     let bytes = path.bytes;
     let name = file_io::first_bytes(&bytes, path.len);
-    if file(name, &output, size) {
+    if file_io::replace_or_leave(name, &output, size_of(given)) {
         file_io::print(edition_text::edition_line(given));
     }
 }

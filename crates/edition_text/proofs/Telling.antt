@@ -5,17 +5,17 @@ use mathlib.Core.List.{List, [], _∷_}
 use Prim.Native.Nat.{ℕ, zero, suc, _+_, _≤_, _<_}
 use native.Mathlib.Omega.{arith}
 use native.Mathlib.Numerals.{add-one}
-use borrow.Author.Tests.{eq-eqb, ne-eqb, eqb-true, lt-ltb, le-ltb, not-true, not-false}
-use lib.Dec.{eqb, ltb}
+use borrow.Author.Tests.{eq-eqb, ne-eqb}
+use lib.Dec.{eqb, ltb, eqb·suc-zero}
 use lib.ListN.{length, drop, getD, drop-of-length-le}
 use lib.Seq.{drop-cons}
-use Rattle.files.specs.Sheet.{sheet-columns, sheet, WSH1, WSH2, sheet-lettered, sheet-refusal-in}
-use Rattle.files.specs.Bytes.{between, length-in-range}
-use Rattle.files.specs.Limits.{file-limit}
-use Rattle.files.proofs.Accepted.{Sheet-passes, sheet-passed}
+use Rattle.frank_wolfe.specs.Vectors.{sum}
+use Rattle.files.specs.Sheet.{sheet-columns, sheet-back, sheet, WSH1, WSH2, sheet-lettered, sheet-refusal-in}
+use Rattle.files.specs.Bytes.{number, values, all-in-range, between, length-in-range, trailer, body, reaches, body-refusal}
+use Rattle.files.specs.Limits.{file-limit, step-limit}
+use Rattle.files.proofs.Accepted.{sheet-passed}
 use Rattle.files.proofs.Refusal.{between-true}
 use Rattle.factors.specs.Factors.{all-ones}
-use Rattle.factors.proofs.Factors.{second-edition}
 use Rattle.text.specs.Decimal.{decimal}
 use Rattle.text.specs.Lines.{number-line, pair-line}
 use Rattle.text.specs.Texts.{Holds, Adds}
@@ -23,7 +23,8 @@ use Rattle.text.specs.declared.Text.{Text}
 use Rattle.text.proofs.Texts.{adds-both, adds-to-empty}
 use Rattle.editions.specs.declared.Rewritten.{Rewritten}
 use Rattle.editions.specs.declared.Rewritten.the-variants.{Refused, Wrote}
-use Rattle.editions.specs.Rewriting.{other-edition}
+use Rattle.editions.specs.Rewriting.{other-edition, edition-refusal}
+use Rattle.other_edition.specs.Ending.{Convertible}
 use Rattle.edition_text.specs.Lines.{EDITION, REFUSED, SHEET-HAS, COLUMNS-RANGE, SHEET-COLUMN, FACTOR-IS, NOT-ONE, OTHER-HAS, BYTES-LIMIT, edition-line, first-other, columns-line, factor-line, size-line, edition-detail}
 
 -- ---- the line of a conversion
@@ -100,26 +101,79 @@ pub long-enough : (s : List ℕ) → sheet-refusal-in 1 64 s ≡ 13 → 16 ≤ l
 unfolding sheet-refusal-in length-in-range
 long-enough s e = between-true 16 file-limit (length s) (not-by-11 (between 16 file-limit (length s)) _ e) .0
 
+-- ---- a number of a conversion, taken apart: the sheet's own are at most 46
+few-by : (g : Bool) (k : ℕ) {x : ℕ} → k ≤ 46 → x ≤ 46 → cond g k x ≤ 46
+few-by true k h l = h
+few-by false k h l = l
+
+body-few : (back count : ℕ) (s : List ℕ) → body-refusal 16 back count 16 17 s ≤ 46
+unfolding body-refusal
+body-few back count s =
+    let own = number 0 4 (trailer 16 s) in
+    few-by (not (eqb own back && reaches 16 own s)) 16 (omega arith) (few-by (all-in-range (values count (body 16 back s))) 0 {x = 17} (omega arith) (omega arith))
+
+own-few : (s : List ℕ) → sheet-refusal-in 1 64 s ≤ 46
+unfolding sheet-refusal-in
+own-few s =
+    let in-body = body-refusal 16 (sheet-back s) (sheet-columns s) 16 17 s in
+    few-by (not (length-in-range 16 s)) 11 (omega arith)
+    (few-by (not (sheet-lettered WSH1 s || sheet-lettered WSH2 s)) 12 (omega arith)
+    (few-by (not (between 1 64 (sheet-columns s))) 13 (omega arith)
+    (few-by (not (between 1 step-limit (sheet s .steps))) 14 (omega arith)
+    (few-by (ltb 1024000000 (sheet s .tolerance)) 15 (omega arith)
+    (few-by (not (eqb in-body 0)) in-body (body-few (sheet-back s) (sheet-columns s) s) (few-by (between 1 64 (sum (sheet s .factors))) 0 {x = 46} (omega arith) (omega arith)))))))
+
+-- the number of a sheet that is refused by `own`, whose factors are all 1 or not, and whose other edition is too long or not
+abbrev number-of : (own : ℕ) → (g long : Bool) → ℕ
+number-of k g l = cond (eqb k 0) (cond (not g) 47 (cond l 48 0)) k
+
+apart-13 : (k : ℕ) (g l : Bool) → number-of k g l ≡ 13 → k ≡ 13
+apart-13 zero false l e = absurd (omega arith)
+apart-13 zero true false e = absurd (omega arith)
+apart-13 zero true true e = absurd (omega arith)
+apart-13 (suc k) g l e = rw (eqb·suc-zero k) at e
+
+apart-47 : (k : ℕ) (g l : Bool) → k ≤ 46 → number-of k g l ≡ 47 → (k ≡ 0) × (g ≡ false)
+apart-47 zero false l h e = (refl, refl)
+apart-47 zero true false h e = absurd (omega arith)
+apart-47 zero true true h e = absurd (omega arith)
+apart-47 (suc k) g l h e = absurd (let q : suc k ≡ 47 = rw (eqb·suc-zero k) at e in omega arith)
+
+apart-48 : (k : ℕ) (g l : Bool) → k ≤ 46 → number-of k g l ≡ 48 → (k ≡ 0) × (g ≡ true)
+apart-48 zero false l h e = absurd (omega arith)
+apart-48 zero true l h e = (refl, refl)
+apart-48 (suc k) g l h e = absurd (let q : suc k ≡ 48 = rw (eqb·suc-zero k) at e in omega arith)
+
+module _ (s : List ℕ) (room : ℕ) where
+  abbrev long : Bool
+  long = ltb room (length (other-edition s)) || ltb file-limit (length (other-edition s))
+
+  pub long-of-13 : edition-refusal s room ≡ 13 → 16 ≤ length s
+  unfolding edition-refusal
+  long-of-13 e = long-enough s (apart-13 (sheet-refusal-in 1 64 s) (all-ones (sheet s .factors)) long e)
+
+  pub of-47 : edition-refusal s room ≡ 47 → (sheet-refusal-in 1 64 s ≡ 0) × (all-ones (sheet s .factors) ≡ false)
+  unfolding edition-refusal
+  of-47 e = apart-47 (sheet-refusal-in 1 64 s) (all-ones (sheet s .factors)) long (own-few s) e
+
+  pub of-48 : edition-refusal s room ≡ 48 → Convertible s
+  unfolding edition-refusal
+  of-48 e = apart-48 (sheet-refusal-in 1 64 s) (all-ones (sheet s .factors)) long (own-few s) e
+
 -- ---- which line
-module _ (s : List ℕ) {own : ℕ} (eo : own ≡ sheet-refusal-in 1 64 s) {t : Text} where
-  pub told-13 : own ≡ 13 → Holds (columns-line s) t → Holds (edition-detail s) t
+module _ (s : List ℕ) {n : ℕ} {t : Text} where
+  pub told-13 : n ≡ 13 → Holds (columns-line s) t → Holds (edition-detail s n) t
   unfolding edition-detail
-  told-13 z h = rw (← eo, z) h
+  told-13 e h = rw e h
 
-  pub told-number : (own ≡ 13 → ⊥) → (own ≡ 0 → ⊥) → Holds [] t → Holds (edition-detail s) t
+  pub told-47 : n ≡ 47 → Holds (factor-line s) t → Holds (edition-detail s n) t
   unfolding edition-detail
-  told-number x y h = rw (← eo, ne-eqb own 13 x, ne-eqb own 0 y) h
+  told-47 e h = rw e h
 
-  module _ (z : own ≡ 0) {g : Bool} (eg : g ≡ all-ones (sheet s .factors)) where
-    pub told-47 : not g ≡ true → Holds (factor-line s) t → Holds (edition-detail s) t
-    unfolding edition-detail
-    told-47 n h = rw (← eo, z, ← eg, not-true g n) h
+  pub told-48 : n ≡ 48 → Holds (size-line s) t → Holds (edition-detail s n) t
+  unfolding edition-detail
+  told-48 e h = rw e h
 
-    module _ (n : not g ≡ false) {size : ℕ} (es : size ≡ length (other-edition s)) where
-      pub told-48 : file-limit < size → Holds (size-line s) t → Holds (edition-detail s) t
-      unfolding edition-detail
-      told-48 l h = rw (← eo, z, ← eg, not-false g n, ← es, lt-ltb file-limit size l) h
-
-      pub told-none : size ≤ file-limit → Holds [] t → Holds (edition-detail s) t
-      unfolding edition-detail
-      told-none l h = rw (← eo, z, ← eg, not-false g n, ← es, le-ltb file-limit size l) h
+  pub told-none : (n ≡ 13 → ⊥) → (n ≡ 47 → ⊥) → (n ≡ 48 → ⊥) → Holds [] t → Holds (edition-detail s n) t
+  unfolding edition-detail
+  told-none x y z h = rw (ne-eqb n 13 x, ne-eqb n 47 y, ne-eqb n 48 z) h

@@ -1,12 +1,10 @@
 -- The line of a conversion, and what is known of a refusal, in one line. Definitions only.
-use mathlib.Core.Bool.{Bool, not, cond}
+use mathlib.Core.Bool.{cond}
 use mathlib.Core.List.{List, [], _∷_, _++_}
 use Prim.Native.Nat.{ℕ, suc, _+_}
-use lib.Dec.{eqb, ltb}
+use lib.Dec.{eqb}
 use lib.ListN.{length, getD}
-use Rattle.files.specs.Sheet.{sheet-columns, sheet, sheet-refusal-in}
-use Rattle.files.specs.Limits.{file-limit}
-use Rattle.factors.specs.Factors.{all-ones}
+use Rattle.files.specs.Sheet.{sheet-columns, sheet}
 use Rattle.text.specs.Decimal.{decimal}
 use Rattle.text.specs.Lines.{number-line, pair-line}
 use Rattle.editions.specs.declared.Rewritten.{Rewritten}
@@ -78,11 +76,6 @@ factor-line s =
 unfoldable pub size-line : List ℕ → List ℕ
 size-line s = OTHER-HAS ++ (decimal (length (other-edition s)) ++ (BYTES-LIMIT ++ (10 ∷ [])))
 
--- of a sheet and an output of 40,000 bytes: no line where nothing is refused, or the number alone is known
-unfoldable pub edition-detail : List ℕ → List ℕ
-edition-detail s =
-    let own = sheet-refusal-in 1 64 s in
-    cond (eqb own 13) (columns-line s)
-    (cond (eqb own 0)
-    (cond (not (all-ones (sheet s .factors))) (factor-line s) (cond (ltb file-limit (length (other-edition s))) (size-line s) []))
-    [])
+-- of a sheet and the number that refuses its conversion into an output of 40,000 bytes: no line where the number alone is known
+unfoldable pub edition-detail : (sheet : List ℕ) → (refusal : ℕ) → List ℕ
+edition-detail s n = cond (eqb n 13) (columns-line s) (cond (eqb n 47) (factor-line s) (cond (eqb n 48) (size-line s) []))

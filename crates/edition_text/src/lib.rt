@@ -1,6 +1,7 @@
 // The line of a sheet's conversion, and what is known of a refusal in one line for standard error.
 //
-// Entries, which ask nothing of their caller: edition_line, edition_detail.
+// Entries, which ask nothing of their caller: edition_line, edition_detail. Helper for other crates, whose callers prove what it requires:
+// known_detail.
 ghost use mathlib.Core.Path.{_≡_};
 ghost use mathlib.Core.Bool.{false};
 ghost use Prim.Native.Nat.{_≤_, _<_};
@@ -8,7 +9,8 @@ ghost use lib.ListN.{length};
 ghost use Rattle.files.specs.Sheet as Sheets;
 ghost use Rattle.files.specs.Sheet.{sheet-refusal-in};
 ghost use Rattle.factors.specs.Factors.{all-ones};
-ghost use Rattle.editions.specs.Rewriting.{other-edition};
+ghost use Rattle.files.specs.Limits.{file-limit};
+ghost use Rattle.editions.specs.Rewriting.{other-edition, edition-refusal};
 ghost use Rattle.text.specs.Texts.{Holds};
 ghost use Rattle.edition_text.specs.Lines.{edition-line, first-other, columns-line, factor-line, size-line, edition-detail};
 use editions::Rewritten;
@@ -81,25 +83,29 @@ fn size_line(sheet: &[u8], size: usize) -> Text
     told.with_bytes(b"\n")
 }
 
+// What is known of a refusal of a sheet's conversion by this number, in one line; no text where the number alone is known. The caller proves
+// that it is the number for an output of 40,000 bytes, so the sheet is not judged again.
+pub fn known_detail(sheet: &[u8], refusal: u32) -> Text
+    requires { ⌜ refusal ≡ edition-refusal (now sheet) file-limit ⌝ }
+    ensures { λ r. ⌜ Holds (edition-detail (now (sheet .entry)) refusal) r ⌝ }
+{
+    if refusal == 13 {
+        return columns_line(sheet);
+    }
+    if refusal == 47 {
+        return factor_line(sheet);
+    }
+    if refusal == 48 {
+        let number = other_edition::other_number(sheet);
+        return size_line(sheet, other_edition::other_size(sheet, number));
+    }
+    Text::empty()
+}
+
 // ENTRY. What is known of the refusal of a sheet's conversion into an output of 40,000 bytes, in one line; no text where nothing is refused, or
 // the number alone is known.
 pub fn edition_detail(sheet: &[u8]) -> Text
-    ensures { λ r. ⌜ Holds (edition-detail (now (sheet .entry))) r ⌝ }
+    ensures { λ r. ⌜ Holds (edition-detail (now (sheet .entry)) (edition-refusal (now (sheet .entry)) file-limit)) r ⌝ }
 {
-    let own = validation::sheet_refusal_in(sheet, 1, 64);
-    if own == 13 {
-        return columns_line(sheet);
-    }
-    if own != 0 {
-        return Text::empty();
-    }
-    if !factors::is_plain(sheet) {
-        return factor_line(sheet);
-    }
-    let number = other_edition::other_number(sheet);
-    let size = other_edition::other_size(sheet, number);
-    if MOST_BYTES < size {
-        return size_line(sheet, size);
-    }
-    Text::empty()
+    known_detail(sheet, other_edition::refusal_in(sheet, MOST_BYTES))
 }

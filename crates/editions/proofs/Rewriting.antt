@@ -4,8 +4,8 @@ use mathlib.Core.Bool.{Bool, true, false, _||_, not, cond}
 use mathlib.Core.List.{List}
 use Prim.Native.Nat.{ℕ, zero, suc, _≤_, _<_}
 use native.Mathlib.Omega.{arith}
-use borrow.Author.Tests.{lt-ltb, le-ltb, ltb-false, not-true, not-false}
-use lib.Dec.{eqb, ltb, eqb·suc-zero}
+use borrow.Author.Tests.{ne-eqb, lt-ltb, le-ltb, ltb-false, not-true, not-false}
+use lib.Dec.{eqb, ltb}
 use lib.ListN.{length, take}
 use Rattle.files.specs.Bytes.{all-bytes}
 use Rattle.files.specs.Sheet.{WSH2, sheet, sheet-lettered, sheet-refusal-in}
@@ -47,13 +47,13 @@ numbered s o l = rw l (numbered-by (sheet-lettered WSH2 s))
 
 -- ---- What passes
 
-record Passes (s : List ℕ) (room : ℕ) : Type 0 where
-  own : sheet-refusal-in 1 64 s ≡ 0
-  plain : all-ones (sheet s .factors) ≡ true
-  fits : length (other-edition s) ≤ room
-  small : length (other-edition s) ≤ file-limit
+pub record Passes (s : List ℕ) (room : ℕ) : Type 0 where
+  pub own : sheet-refusal-in 1 64 s ≡ 0
+  pub plain : all-ones (sheet s .factors) ≡ true
+  pub fits : length (other-edition s) ≤ room
+  pub small : length (other-edition s) ≤ file-limit
 
-passes : (s : List ℕ) (room : ℕ) → edition-refusal s room ≡ 0 → Passes s room
+pub passes : (s : List ℕ) (room : ℕ) → edition-refusal s room ≡ 0 → Passes s room
 unfolding edition-refusal
 passes s room e =
     let n = length (other-edition s) in
@@ -104,31 +104,37 @@ module _ (s out : List ℕ) (h : all-bytes s ≡ true) where
   promised : {r : Rewritten} {now : List ℕ} → Gives refusal r now → Promises r now
   promised g = (g .0, (g .1, right g))
 
-  -- ---- As the code tests
+  pub refused : (n : ℕ) → n ≡ refusal → (n ≡ 0 → ⊥) → Promises (Refused n) out
+  unfolding rewriting slots-after
+  refused zero e z = absurd (z refl)
+  refused (suc n) e z = promised (rw (← e) (refl, refl))
 
-  pub refused-own : (n : ℕ) → n ≡ sheet-refusal-in 1 64 s → (n ≡ 0 → ⊥) → Promises (Refused n) out
-  unfolding edition-refusal rewriting slots-after
-  refused-own zero e z = absurd (z refl)
-  refused-own (suc n) e z = promised (rw (← e, eqb·suc-zero n) (refl, refl))
+  pub wrote : refusal ≡ 0 → (number : ℕ) → number ≡ other-number s → (size : ℕ) → size ≡ length (other-edition s) → {now : List ℕ} → now ≡ slots-after 0 (other-edition s) out → Promises (Wrote number size) now
+  unfolding rewriting
+  wrote z number en size es e = promised (rw z (rw (en, es), e))
+
+-- ---- The number, as the code tests
+
+module _ (s : List ℕ) (room : ℕ) where
+  pub by-own : {n : ℕ} → n ≡ sheet-refusal-in 1 64 s → (n ≡ 0 → ⊥) → n ≡ edition-refusal s room
+  unfolding edition-refusal
+  by-own e z = rw (ne-eqb (sheet-refusal-in 1 64 s) 0 (λ k. z (e ∙ k))) e
 
   module _ (ok : sheet-refusal-in 1 64 s ≡ 0) (g : Bool) (eg : g ≡ all-ones (sheet s .factors)) where
-    pub refused-factor : not g ≡ true → Promises (Refused 47) out
-    unfolding edition-refusal rewriting slots-after
-    refused-factor t = promised (rw (ok, ← eg, not-true g t) (refl, refl))
+    pub by-factor : not g ≡ true → 47 ≡ edition-refusal s room
+    unfolding edition-refusal
+    by-factor t = rw (ok, ← eg, not-true g t)
 
     module _ (t : not g ≡ false) (size : ℕ) (es : size ≡ length (other-edition s)) where
-      by-size : (b c : Bool) → ltb (length out) size ≡ b → ltb file-limit size ≡ c → refusal ≡ cond (b || c) 48 0
+      by-size : (b c : Bool) → ltb room size ≡ b → ltb file-limit size ≡ c → edition-refusal s room ≡ cond (b || c) 48 0
       unfolding edition-refusal
       by-size b c q r = rw (ok, ← eg, not-false g t, ← es, q, r)
 
-      pub refused-short : length out < size → Promises (Refused 48) out
-      unfolding rewriting slots-after
-      refused-short k = promised (rw (by-size true _ (lt-ltb (length out) size k) refl) (refl, refl))
+      pub by-short : room < size → 48 ≡ edition-refusal s room
+      by-short k = sym (by-size true _ (lt-ltb room size k) refl)
 
-      pub refused-large : size ≤ length out → file-limit < size → Promises (Refused 48) out
-      unfolding rewriting slots-after
-      refused-large l k = promised (rw (by-size false true (le-ltb (length out) size l) (lt-ltb file-limit size k)) (refl, refl))
+      pub by-large : size ≤ room → file-limit < size → 48 ≡ edition-refusal s room
+      by-large l k = sym (by-size false true (le-ltb room size l) (lt-ltb file-limit size k))
 
-      pub wrote : size ≤ length out → size ≤ file-limit → (number : ℕ) → number ≡ other-number s → {now : List ℕ} → now ≡ slots-after 0 (other-edition s) out → Promises (Wrote number size) now
-      unfolding rewriting
-      wrote l k number en e = promised (rw (by-size false false (le-ltb (length out) size l) (le-ltb file-limit size k)) (rw (en, es), e))
+      pub by-none : size ≤ room → size ≤ file-limit → 0 ≡ edition-refusal s room
+      by-none l k = sym (by-size false false (le-ltb room size l) (le-ltb file-limit size k))

@@ -154,6 +154,16 @@ pub fn replace_or_tell(path: &[u8], content: &[u8]) -> bool {
     false
 }
 
+// The same for the first `len` bytes of a buffer, which the work of a program wrote: none where it is refused. Then nothing is put there, and
+// standard error says that an older file is as it was. Whether there is a listing to print.
+pub fn replace_or_leave(path: &[u8], buffer: &[u8], len: usize) -> bool {
+    if len == 0 {
+        tell(path, b" is as it was\n");
+        return true;
+    }
+    replace_or_tell(path, first_bytes(buffer, len))
+}
+
 // Prints a text. Where standard output does not take all of it, standard error says so.
 pub fn print(t: Text)
     requires { ⌜ t .len ≤ text-limit ⌝ }

@@ -1,6 +1,6 @@
 // One fleet book from two, put into a buffer.
 //
-// Entry, which asks nothing of its caller: merge_books.
+// Entry, which asks nothing of its caller: merge_books. Helper for other crates, whose callers prove what it requires: merge_known.
 ghost use mathlib.Core.Path.{_≡_};
 ghost use Prim.Native.Nat.{_+_, _*_, _≤_};
 ghost use lib.ListN.{length, take};
@@ -89,16 +89,13 @@ fn refused(n: u32) -> Merged
     Merged { refusal: n, len: 0 }
 }
 
-// ENTRY. One fleet book from two, written to the first bytes of `output` without front text: the first book's rows, then each row of the
-// second that equals no row before it. Refuses the first book, then the second (1 to 6), then columns that differ (55), more than 256
-// boats (56) and a buffer shorter than the merged book (57), and leaves the buffer as it was; else gives the merged book's length. Later
-// bytes are as they were. The third clause says what holds of the rows and of every mixture of them (Merge-right).
-pub fn merge_books(first: &[u8], second: &[u8], output: &mut [u8]) -> Merged
+// `merge_books` for a caller who has judged the first book and hands in the number that refuses it, 0 where none does: it is not judged again.
+pub fn merge_known(first: &[u8], second: &[u8], output: &mut [u8], of_first: u32) -> Merged
+    requires { ⌜ «of_first» ≡ book-refusal (now first) ⌝ }
     ensures { λ r. ⌜ r ≡ merging (merge-refusal (now (first .entry)) (now (second .entry)) (length (now (output .entry)))) (length (merged-book (now (first .entry)) (now (second .entry)))) ⌝ }
     ensures { λ _. ⌜ now (output .exit) ≡ slots-after (merge-refusal (now (first .entry)) (now (second .entry)) (length (now (output .entry)))) (merged-book (now (first .entry)) (now (second .entry))) (now (output .entry)) ⌝ }
     ensures { λ r. ⌜ Merge-right (now (first .entry)) (now (second .entry)) r (now (output .exit)) ⌝ }
 {
-    let of_first = validation::book_refusal(first);
     if of_first != 0 {
         return refused(of_first);
     }
@@ -125,4 +122,16 @@ pub fn merge_books(first: &[u8], second: &[u8], output: &mut [u8]) -> Merged
         refusal: 0,
         len: back + 12,
     }
+}
+
+// ENTRY. One fleet book from two, written to the first bytes of `output` without front text: the first book's rows, then each row of the
+// second that equals no row before it. Refuses the first book, then the second (1 to 6), then columns that differ (55), more than 256
+// boats (56) and a buffer shorter than the merged book (57), and leaves the buffer as it was; else gives the merged book's length. Later
+// bytes are as they were. The third clause says what holds of the rows and of every mixture of them (Merge-right).
+pub fn merge_books(first: &[u8], second: &[u8], output: &mut [u8]) -> Merged
+    ensures { λ r. ⌜ r ≡ merging (merge-refusal (now (first .entry)) (now (second .entry)) (length (now (output .entry)))) (length (merged-book (now (first .entry)) (now (second .entry)))) ⌝ }
+    ensures { λ _. ⌜ now (output .exit) ≡ slots-after (merge-refusal (now (first .entry)) (now (second .entry)) (length (now (output .entry)))) (merged-book (now (first .entry)) (now (second .entry))) (now (output .entry)) ⌝ }
+    ensures { λ r. ⌜ Merge-right (now (first .entry)) (now (second .entry)) r (now (output .exit)) ⌝ }
+{
+    merge_known(first, second, output, validation::book_refusal(first))
 }

@@ -8,29 +8,20 @@ fn tell_of(folder: &[u8], name: &[u8], fault: &[u8]) {
     file_io::tell(file_io::first_bytes(&bytes, path.len), fault);
 }
 
-// Says on standard error which of two books this number refuses, where it is one of a book. Only then the first is judged again.
-fn tell_refused(folder: &[u8], first: &[u8], refusal: u32) {
+// Says on standard error which of two books is refused, by the number that refuses the first and the number that refuses the merge: one
+// of 1 to 6 is the second's where the first has none.
+fn tell_refused(folder: &[u8], first: u32, refusal: u32) {
+    if first != 0 {
+        tell_of(folder, b"fleet.wbk", b": this book is refused\n");
+        return;
+    }
     if refusal == 0 {
         return;
     }
     if 6 < refusal {
         return;
     }
-    if validation::book_refusal(first) != 0 {
-        tell_of(folder, b"fleet.wbk", b": this book is refused\n");
-        return;
-    }
     tell_of(folder, b"bought.wbk", b": this book is refused\n");
-}
-
-// Files a merged book, which has no bytes where the books are refused; what is in the way goes to standard error. Whether there is a line
-// to print.
-fn file(path: &[u8], output: &[u8; merged_book::MOST_BYTES], len: usize) -> bool {
-    if len == 0 {
-        file_io::tell(path, b" is as it was\n");
-        return true;
-    }
-    file_io::replace_or_tell(path, file_io::first_bytes(output, len))
 }
 
 // Files one book from fleet.wbk and bought.wbk of a folder there as merged.wbk, without front text, and prints its boats and columns. The
@@ -44,11 +35,11 @@ pub fn file_merged(folder: &[u8]) {
     let mut output = [0u8; merged_book::MOST_BYTES];
     let listed = merge_listing::merge_text(&first[..n], &second[..m], &mut output);
     let merged = listed.merged;
-    tell_refused(folder, &first[..n], merged.refusal);
+    tell_refused(folder, listed.first, merged.refusal);
     let path = paths::path_in(folder, b"merged.wbk");
     let bytes = path.bytes;
     let name = file_io::first_bytes(&bytes, path.len);
-    if file(name, &output, merged.len) {
+    if file_io::replace_or_leave(name, &output, merged.len) {
         file_io::print(listed.text);
     }
 }

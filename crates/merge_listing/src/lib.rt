@@ -12,9 +12,10 @@ ghost use Rattle.merge_listing.specs.Listings.{merge-line};
 use merged_book::Merged;
 use text::Text;
 
-// What two books leave to be filed and to be said.
+// What two books leave to be filed and to be said, and the number that refuses the first of them, 0 where none does.
 pub struct Listed {
     pub merged: Merged,
+    pub first: u32,
     pub text: Text,
 }
 
@@ -31,17 +32,23 @@ fn line_of(book: &[u8], refusal: u32) -> Text
     Text::empty().with_pair(b"fleet ", boats as u64, columns as u64)
 }
 
-// ENTRY. One fleet book from two, as `merge_books` writes it, and its line. The fourth clause says what holds of the book, as `merge_books`
-// promises it.
+// ENTRY. One fleet book from two, as `merge_books` writes it, and its line. Where a book is refused, the second clause tells which. The last
+// clause says what holds of the merged book, as `merge_books` promises it.
 pub fn merge_text(first: &[u8], second: &[u8], output: &mut [u8]) -> Listed
     ensures { λ r. ⌜ r .merged ≡ merging (merge-refusal (now (first .entry)) (now (second .entry)) (length (now (output .entry)))) (length (merged-book (now (first .entry)) (now (second .entry)))) ⌝ }
+    ensures { λ r. ⌜ r .first ≡ book-refusal (now (first .entry)) ⌝ }
     ensures { λ _. ⌜ now (output .exit) ≡ slots-after (merge-refusal (now (first .entry)) (now (second .entry)) (length (now (output .entry)))) (merged-book (now (first .entry)) (now (second .entry))) (now (output .entry)) ⌝ }
     ensures { λ r. ⌜ Holds (merge-line (merge-refusal (now (first .entry)) (now (second .entry)) (length (now (output .entry)))) (merged-book (now (first .entry)) (now (second .entry)))) (r .text) ⌝ }
     ensures { λ r. ⌜ Merge-right (now (first .entry)) (now (second .entry)) (r .merged) (now (output .exit)) ⌝ }
 {
-    let merged = merge_books::merge_books(first, second, output);
+    let of_first = validation::book_refusal(first);
+    let merged = merge_books::merge_known(first, second, output, of_first);
     let start = 0;
     let len = merged.len;
     let text = line_of(&output[start..len], merged.refusal);
-    Listed { merged, text }
+    Listed {
+        merged,
+        first: of_first,
+        text,
+    }
 }

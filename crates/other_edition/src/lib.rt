@@ -1,7 +1,7 @@
 // A sheet written in the other edition: WSH1 into WSH2 with every factor 1, WSH2 into WSH1 where every factor is 1.
 //
-// Entry, which asks nothing of its caller: other_edition. Helpers for other crates, whose callers prove what they require: other_number,
-// other_size.
+// Entry, which asks nothing of its caller: other_edition. Helpers for other crates: refusal_in, which asks nothing either; other_number and
+// other_size, whose callers prove what they require.
 ghost use mathlib.Core.Path.{_≡_};
 ghost use Prim.Native.Nat.{_+_, _*_, _≤_};
 ghost use lib.ListN.{length};
@@ -39,6 +39,28 @@ pub fn other_size(sheet: &[u8], number: u32) -> usize
         return sheet.len() - columns;
     }
     sheet.len() + columns
+}
+
+// The number that refuses the conversion into an output of `room` bytes, 0 where none does.
+pub fn refusal_in(sheet: &[u8], room: usize) -> u32
+    ensures { λ r. ⌜ r ≡ edition-refusal (now (sheet .entry)) room ⌝ }
+{
+    let own = validation::sheet_refusal_in(sheet, 1, 64);
+    if own != 0 {
+        return own;
+    }
+    if !factors::is_plain(sheet) {
+        return 47;
+    }
+    let number = other_number(sheet);
+    let size = other_size(sheet, number);
+    if room < size {
+        return 48;
+    }
+    if MOST_BYTES < size {
+        return 48;
+    }
+    0
 }
 
 // What follows the target, from its end on: every factor 1 in the edition 2, then the trailer. The target starts at the first byte.
@@ -82,21 +104,12 @@ pub fn other_edition(sheet: &[u8], output: &mut [u8]) -> Rewritten
     ensures { λ _. ⌜ now (output .exit) ≡ slots-after (edition-refusal (now (sheet .entry)) (length (now (output .entry)))) (other-edition (now (sheet .entry))) (now (output .entry)) ⌝ }
     ensures { λ r. ⌜ Edition-right (now (sheet .entry)) r (now (output .exit)) ⌝ }
 {
-    let refusal = validation::sheet_refusal_in(sheet, 1, 64);
+    let refusal = refusal_in(sheet, output.len());
     if refusal != 0 {
         return Rewritten::Refused(refusal);
     }
-    if !factors::is_plain(sheet) {
-        return Rewritten::Refused(47);
-    }
     let number = other_number(sheet);
     let size = other_size(sheet, number);
-    if output.len() < size {
-        return Rewritten::Refused(48);
-    }
-    if MOST_BYTES < size {
-        return Rewritten::Refused(48);
-    }
     put_other(sheet, number, output);
     Rewritten::Wrote(number, size)
 }

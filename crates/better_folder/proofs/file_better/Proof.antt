@@ -6,7 +6,6 @@ use Rattle.better_folder.proofs.file_better.Tie as tie
 use Rattle.better_folder.proofs.file_better.Reads as reads
 use Rattle.better_folder.proofs.file_better.Lts as lts
 use Rattle.better_card.proofs.part_of.Reads as part-of-reads
-use Rattle.better_folder.proofs.file.Reads as file-reads
 use Rattle.better_listing.proofs.better_text.Reads as better-text-reads
 use Rattle.file_io.proofs.first_bytes.Reads as first-bytes-reads
 use Rattle.file_io.proofs.print.Reads as print-reads
@@ -95,8 +94,8 @@ slice-aggregate-first-bytes-5 c = search needs
 first-bytes-requires-5 : tie.Need-first-bytes-requires-5
 first-bytes-requires-5 c κs = search needs
 
-file-requires : tie.Need-file-requires
-file-requires c κs = search needs
+replace-or-leave-requires : tie.Need-replace-or-leave-requires
+replace-or-leave-requires c κs = search needs
 
 print-requires : tie.Need-print-requires
 print-requires c κs = search needs
@@ -138,7 +137,7 @@ file-better-spec =
     path-in-requires
     slice-aggregate-first-bytes-5
     first-bytes-requires-5
-    file-requires
+    replace-or-leave-requires
     print-requires
     returns
     returns-2)

@@ -1,4 +1,4 @@
--- `merge_books::merge_books` meets its contract: a law for each return.
+-- `merge_books::merge_known` meets its contract: a law for each return.
 use mathlib.Core.Path.{sym, _∙_}
 use native.Mathlib.Omega.{arith}
 use Rattle.files.proofs.Accepted.{book-accepted}
@@ -6,48 +6,43 @@ use Rattle.derived_files.proofs.Rows.{cells-most}
 use Rattle.merge_books.proofs.Merging.{columns-most}
 use Rattle.merge_books.proofs.Written.{first-refused, second-refused, columns-refused, boats-refused, room-refused, part-inside, part-long, book-written}
 use borrow.Author.Needs.{needs}
-use Rattle.merge_books.proofs.merge_books.Statement.{statement}
-use Rattle.merge_books.proofs.merge_books.Tie as tie
-
-book-refusal-requires : tie.Need-book-refusal-requires
-book-refusal-requires c κs = search needs
+use Rattle.merge_books.proofs.merge_known.Statement.{statement}
+use Rattle.merge_books.proofs.merge_known.Tie as tie
 
 refused-requires : tie.Need-refused-requires
 refused-requires c κs = search needs
 
 returns : tie.Need-returns
 returns c =
-    let at-book-refusal = c .before .before in
-    let start = at-book-refusal .before .before .before .before in
-    first-refused (start .args .first .now) (start .args .second .now) (start .args .output .now) (c .refused .ensures) (at-book-refusal .book-refusal .ensures) (c .before .if1 .taken)
+    let start = c .before .before .before .before .before in
+    first-refused (start .args .first .now) (start .args .second .now) (start .args .output .now) (c .refused .ensures) (start .pre) (c .before .if1 .taken)
 
-book-refusal-requires-2 : tie.Need-book-refusal-requires-2
-book-refusal-requires-2 c κs = search needs
+book-refusal-requires : tie.Need-book-refusal-requires
+book-refusal-requires c κs = search needs
 
 refused-requires-2 : tie.Need-refused-requires-2
 refused-requires-2 c κs = search needs
 
 returns-2 : tie.Need-returns-2
 returns-2 c =
-    let at-book-refusal2 = c .before .before in
-    let at-if1 = at-book-refusal2 .before in
-    let at-book-refusal = at-if1 .before in
-    let start = at-book-refusal .before .before .before .before in
-    let first = sym (at-book-refusal .book-refusal .ensures) ∙ at-if1 .if1 .left in
-    second-refused (start .args .first .now) (start .args .second .now) (start .args .output .now) first (c .refused2 .ensures) (at-book-refusal2 .book-refusal2 .ensures) (c .before .if2 .taken)
+    let at-second = c .before .before in
+    let at-if1 = at-second .before in
+    let start = at-if1 .before .before .before .before in
+    let first = sym (start .pre) ∙ at-if1 .if1 .left in
+    second-refused (start .args .first .now) (start .args .second .now) (start .args .output .now) first (c .refused2 .ensures) (at-second .book-refusal .ensures) (c .before .if2 .taken)
 
 columns-requires : tie.Need-columns-requires
 columns-requires c κs =
     let at-if1 = c .before .before in
-    let at-book-refusal = at-if1 .before in
-    let first = sym (at-book-refusal .book-refusal .ensures) ∙ at-if1 .if1 .left in
+    let start = at-if1 .before .before .before .before in
+    let first = sym (start .pre) ∙ at-if1 .if1 .left in
     book-accepted _ first .at-least
 
 columns-requires-2 : tie.Need-columns-requires-2
 columns-requires-2 c κs =
     let at-if2 = c .before in
-    let at-book-refusal2 = at-if2 .before in
-    let second = sym (at-book-refusal2 .book-refusal2 .ensures) ∙ at-if2 .if2 .left in
+    let at-second = at-if2 .before in
+    let second = sym (at-second .book-refusal .ensures) ∙ at-if2 .if2 .left in
     book-accepted _ second .at-least
 
 refused-requires-3 : tie.Need-refused-requires-3
@@ -58,12 +53,11 @@ returns-3 c =
     let at-columns2 = c .before .before in
     let at-columns = at-columns2 .before in
     let at-if2 = at-columns .before in
-    let at-book-refusal2 = at-if2 .before in
-    let at-if1 = at-book-refusal2 .before in
-    let at-book-refusal = at-if1 .before in
-    let start = at-book-refusal .before .before .before .before in
-    let first = sym (at-book-refusal .book-refusal .ensures) ∙ at-if1 .if1 .left in
-    let second = sym (at-book-refusal2 .book-refusal2 .ensures) ∙ at-if2 .if2 .left in
+    let at-second = at-if2 .before in
+    let at-if1 = at-second .before in
+    let start = at-if1 .before .before .before .before in
+    let first = sym (start .pre) ∙ at-if1 .if1 .left in
+    let second = sym (at-second .book-refusal .ensures) ∙ at-if2 .if2 .left in
     columns-refused (start .args .first .now) (start .args .second .now) (start .args .output .now) first second (c .refused3 .ensures) (λ e. c .before .if3 .taken (at-columns .columns .ensures .0 ∙ e ∙ sym (at-columns2 .columns2 .ensures .0)))
 
 slice-aggregate-put-rows : tie.Need-slice-aggregate-put-rows
@@ -75,12 +69,11 @@ put-rows-requires c κs =
     let at-columns2 = at-if3 .before in
     let at-columns = at-columns2 .before in
     let at-if2 = at-columns .before in
-    let at-book-refusal2 = at-if2 .before in
-    let at-if1 = at-book-refusal2 .before in
-    let at-book-refusal = at-if1 .before in
-    let start = at-book-refusal .before .before .before .before in
-    let first = sym (at-book-refusal .book-refusal .ensures) ∙ at-if1 .if1 .left in
-    let second = sym (at-book-refusal2 .book-refusal2 .ensures) ∙ at-if2 .if2 .left in
+    let at-second = at-if2 .before in
+    let at-if1 = at-second .before in
+    let start = at-if1 .before .before .before .before in
+    let first = sym (start .pre) ∙ at-if1 .if1 .left in
+    let second = sym (at-second .book-refusal .ensures) ∙ at-if2 .if2 .left in
     let same = sym (at-columns .columns .ensures .0) ∙ at-if3 .if3 .left ∙ at-columns2 .columns2 .ensures .0 in
     ((first, second), (same, omega arith))
 
@@ -94,12 +87,11 @@ returns-4 c =
     let at-columns2 = at-if3 .before in
     let at-columns = at-columns2 .before in
     let at-if2 = at-columns .before in
-    let at-book-refusal2 = at-if2 .before in
-    let at-if1 = at-book-refusal2 .before in
-    let at-book-refusal = at-if1 .before in
-    let start = at-book-refusal .before .before .before .before in
-    let first = sym (at-book-refusal .book-refusal .ensures) ∙ at-if1 .if1 .left in
-    let second = sym (at-book-refusal2 .book-refusal2 .ensures) ∙ at-if2 .if2 .left in
+    let at-second = at-if2 .before in
+    let at-if1 = at-second .before in
+    let start = at-if1 .before .before .before .before in
+    let first = sym (start .pre) ∙ at-if1 .if1 .left in
+    let second = sym (at-second .book-refusal .ensures) ∙ at-if2 .if2 .left in
     let same = sym (at-columns .columns .ensures .0) ∙ at-if3 .if3 .left ∙ at-columns2 .columns2 .ensures .0 in
     boats-refused (start .args .first .now) (start .args .second .now) (start .args .output .now) first second same (at-put-rows .put-rows .ensures .0) (at-columns .columns .ensures .0) (c .refused4 .ensures) (c .before .if4 .taken)
 
@@ -107,27 +99,24 @@ mul-back : tie.Need-mul-back
 mul-back c =
     let at-columns = c .before .before .before .before .before .before in
     let at-if1 = at-columns .before .before .before in
-    let at-book-refusal = at-if1 .before in
-    let start = at-book-refusal .before .before .before .before in
-    let first = sym (at-book-refusal .book-refusal .ensures) ∙ at-if1 .if1 .left in
+    let start = at-if1 .before .before .before .before in
+    let first = sym (start .pre) ∙ at-if1 .if1 .left in
     omega (arith, cells-most (c .if4 .left) (columns-most _ first (at-columns .columns .ensures .0)))
 
 mul-back-2 : tie.Need-mul-back-2
 mul-back-2 c =
     let at-columns = c .before .before .before .before .before .before in
     let at-if1 = at-columns .before .before .before in
-    let at-book-refusal = at-if1 .before in
-    let start = at-book-refusal .before .before .before .before in
-    let first = sym (at-book-refusal .book-refusal .ensures) ∙ at-if1 .if1 .left in
+    let start = at-if1 .before .before .before .before in
+    let first = sym (start .pre) ∙ at-if1 .if1 .left in
     omega (arith, cells-most (c .if4 .left) (columns-most _ first (at-columns .columns .ensures .0)))
 
 add-if5 : tie.Need-add-if5
 add-if5 c =
     let at-columns = c .before .before .before .before .before .before in
     let at-if1 = at-columns .before .before .before in
-    let at-book-refusal = at-if1 .before in
-    let start = at-book-refusal .before .before .before .before in
-    let first = sym (at-book-refusal .book-refusal .ensures) ∙ at-if1 .if1 .left in
+    let start = at-if1 .before .before .before .before in
+    let first = sym (start .pre) ∙ at-if1 .if1 .left in
     omega (arith, cells-most (c .if4 .left) (columns-most _ first (at-columns .columns .ensures .0)))
 
 refused-requires-5 : tie.Need-refused-requires-5
@@ -141,12 +130,11 @@ returns-5 c =
     let at-columns2 = at-if3 .before in
     let at-columns = at-columns2 .before in
     let at-if2 = at-columns .before in
-    let at-book-refusal2 = at-if2 .before in
-    let at-if1 = at-book-refusal2 .before in
-    let at-book-refusal = at-if1 .before in
-    let start = at-book-refusal .before .before .before .before in
-    let first = sym (at-book-refusal .book-refusal .ensures) ∙ at-if1 .if1 .left in
-    let second = sym (at-book-refusal2 .book-refusal2 .ensures) ∙ at-if2 .if2 .left in
+    let at-second = at-if2 .before in
+    let at-if1 = at-second .before in
+    let start = at-if1 .before .before .before .before in
+    let first = sym (start .pre) ∙ at-if1 .if1 .left in
+    let second = sym (at-second .book-refusal .ensures) ∙ at-if2 .if2 .left in
     let same = sym (at-columns .columns .ensures .0) ∙ at-if3 .if3 .left ∙ at-columns2 .columns2 .ensures .0 in
     room-refused (start .args .first .now) (start .args .second .now) (start .args .output .now) first second same (at-put-rows .put-rows .ensures .0) (at-columns .columns .ensures .0) (at-if4 .if4 .left) (c .refused5 .ensures) (c .before .if5 .taken)
 
@@ -158,12 +146,11 @@ array-share-prefix-rows c =
     let at-columns2 = at-if3 .before in
     let at-columns = at-columns2 .before in
     let at-if2 = at-columns .before in
-    let at-book-refusal2 = at-if2 .before in
-    let at-if1 = at-book-refusal2 .before in
-    let at-book-refusal = at-if1 .before in
-    let start = at-book-refusal .before .before .before .before in
-    let first = sym (at-book-refusal .book-refusal .ensures) ∙ at-if1 .if1 .left in
-    let second = sym (at-book-refusal2 .book-refusal2 .ensures) ∙ at-if2 .if2 .left in
+    let at-second = at-if2 .before in
+    let at-if1 = at-second .before in
+    let start = at-if1 .before .before .before .before in
+    let first = sym (start .pre) ∙ at-if1 .if1 .left in
+    let second = sym (at-second .book-refusal .ensures) ∙ at-if2 .if2 .left in
     let same = sym (at-columns .columns .ensures .0) ∙ at-if3 .if3 .left ∙ at-columns2 .columns2 .ensures .0 in
     part-inside (start .args .first .now) (start .args .second .now) (start .args .output .now) first second same (at-put-rows .put-rows .ensures .0) (at-columns .columns .ensures .0) (at-if4 .if4 .left) (at-put-rows .put-rows .ensures .1)
 
@@ -175,12 +162,11 @@ slice-aggregate-put-bytes c =
     let at-columns2 = at-if3 .before in
     let at-columns = at-columns2 .before in
     let at-if2 = at-columns .before in
-    let at-book-refusal2 = at-if2 .before in
-    let at-if1 = at-book-refusal2 .before in
-    let at-book-refusal = at-if1 .before in
-    let start = at-book-refusal .before .before .before .before in
-    let first = sym (at-book-refusal .book-refusal .ensures) ∙ at-if1 .if1 .left in
-    let second = sym (at-book-refusal2 .book-refusal2 .ensures) ∙ at-if2 .if2 .left in
+    let at-second = at-if2 .before in
+    let at-if1 = at-second .before in
+    let start = at-if1 .before .before .before .before in
+    let first = sym (start .pre) ∙ at-if1 .if1 .left in
+    let second = sym (at-second .book-refusal .ensures) ∙ at-if2 .if2 .left in
     let same = sym (at-columns .columns .ensures .0) ∙ at-if3 .if3 .left ∙ at-columns2 .columns2 .ensures .0 in
     sym (part-long (start .args .first .now) (start .args .second .now) (start .args .output .now) first second same (at-put-rows .put-rows .ensures .0) (at-columns .columns .ensures .0) (at-if4 .if4 .left) (at-put-rows .put-rows .ensures .1))
 
@@ -193,12 +179,11 @@ put-bytes-requires c κs =
     let at-columns2 = at-if3 .before in
     let at-columns = at-columns2 .before in
     let at-if2 = at-columns .before in
-    let at-book-refusal2 = at-if2 .before in
-    let at-if1 = at-book-refusal2 .before in
-    let at-book-refusal = at-if1 .before in
-    let start = at-book-refusal .before .before .before .before in
-    let first = sym (at-book-refusal .book-refusal .ensures) ∙ at-if1 .if1 .left in
-    let second = sym (at-book-refusal2 .book-refusal2 .ensures) ∙ at-if2 .if2 .left in
+    let at-second = at-if2 .before in
+    let at-if1 = at-second .before in
+    let start = at-if1 .before .before .before .before in
+    let first = sym (start .pre) ∙ at-if1 .if1 .left in
+    let second = sym (at-second .book-refusal .ensures) ∙ at-if2 .if2 .left in
     let same = sym (at-columns .columns .ensures .0) ∙ at-if3 .if3 .left ∙ at-columns2 .columns2 .ensures .0 in
     omega (arith, at-if5 .if5 .left, part-long (start .args .first .now) (start .args .second .now) (start .args .output .now) first second same (at-put-rows .put-rows .ensures .0) (at-columns .columns .ensures .0) (at-if4 .if4 .left) (at-put-rows .put-rows .ensures .1))
 
@@ -222,23 +207,21 @@ returns-6 c =
     let at-columns2 = at-if3 .before in
     let at-columns = at-columns2 .before in
     let at-if2 = at-columns .before in
-    let at-book-refusal2 = at-if2 .before in
-    let at-if1 = at-book-refusal2 .before in
-    let at-book-refusal = at-if1 .before in
-    let start = at-book-refusal .before .before .before .before in
-    let first = sym (at-book-refusal .book-refusal .ensures) ∙ at-if1 .if1 .left in
-    let second = sym (at-book-refusal2 .book-refusal2 .ensures) ∙ at-if2 .if2 .left in
+    let at-second = at-if2 .before in
+    let at-if1 = at-second .before in
+    let start = at-if1 .before .before .before .before in
+    let first = sym (start .pre) ∙ at-if1 .if1 .left in
+    let second = sym (at-second .book-refusal .ensures) ∙ at-if2 .if2 .left in
     let same = sym (at-columns .columns .ensures .0) ∙ at-if3 .if3 .left ∙ at-columns2 .columns2 .ensures .0 in
     book-written (start .args .first .now) (start .args .second .now) (start .args .output .now) first second same (at-put-rows .put-rows .ensures .0) (at-columns .columns .ensures .0) (at-if4 .if4 .left) (at-put-rows .put-rows .ensures .1) (at-if5 .if5 .left) (at-put-bytes .put-bytes .ensures) (at-put-book-trailer .put-book-trailer .ensures)
 
-pub merge-books-spec : {M : Type 1} → statement M
-merge-books-spec =
+pub merge-known-spec : {M : Type 1} → statement M
+merge-known-spec =
     tie.close
     (tie.spec
-    book-refusal-requires
     refused-requires
     returns
-    book-refusal-requires-2
+    book-refusal-requires
     refused-requires-2
     returns-2
     columns-requires

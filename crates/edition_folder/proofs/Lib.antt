@@ -1,0 +1,2 @@
+-- The law behind the proofs of this crate.
+pub mod Numbers
