@@ -656,30 +656,30 @@ class SheetRecord:
 
 
 def queue_refusal(book: bytes, lengths, sheets: bytes, allowance: int, slots: int):
-    """The number that refuses a queue, or 0, and the sheets."""
+    """The number that refuses a queue, or 0, the sheets, and how many of them are accepted ahead of the one that refuses it."""
     refusal = book_refusal(book)
     if refusal:
-        return refusal, []
+        return refusal, [], 0
     if not 1 <= len(lengths) <= MOST_SHEETS or sum(lengths) != len(sheets):
-        return 44, []
+        return 44, [], 0
     if allowance < len(lengths) or allowance > MOST_SHEETS * MOST_STEPS:
-        return 45, []
+        return 45, [], 0
     parts, at = [], 0
     for length in lengths:
         parts.append(sheets[at:at + length])
         at += length
-    for part in parts:
+    for accepted, part in enumerate(parts):
         refusal = sheet_refusal(part, len(read_book(book)[0]))
         if refusal:
-            return refusal, []
-    return (21 if slots < SLOTS * len(parts) else 0), parts
+            return refusal, [], accepted
+    return (21 if slots < SLOTS * len(parts) else 0), parts, len(parts)
 
 
 def run_queue(book: bytes, lengths, sheets: bytes, allowance: int, slots: list[int]):
     """Refusal, the records (None if refused) and the share list afterwards. In each round every unfinished sheet, in queue order, takes
     one step of the published iteration, until all have a verdict or the allowance is gone.
     """
-    refusal, parts = queue_refusal(book, lengths, sheets, allowance, len(slots))
+    refusal, parts, _ = queue_refusal(book, lengths, sheets, allowance, len(slots))
     if refusal:
         return refusal, None, list(slots)
     rows, wanted = read_book(book), [read_sheet(part) for part in parts]

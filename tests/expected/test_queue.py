@@ -1,5 +1,7 @@
 #!/usr/bin/env python3
-"""What test_queue prints: the number that refuses each queue, its records, and a sum of all slots; then mixqueue in one folder after another."""
+"""What test_queue prints: the number that refuses each queue, how many of its sheets are accepted ahead of the one that refuses it, its records, and a sum
+of all slots; then mixqueue in one folder after another.
+"""
 import os
 import re
 import sys
@@ -13,7 +15,8 @@ from printing import checksum  # noqa: E402
 def queue(number, book, lengths, buffer, allowance, slots):
     """The lines of one case: the call is lent `slots` slots of a longer list, which is checked whole."""
     refusal, records, left = exact.run_queue(book, lengths, buffer, allowance, [queues.FILLED] * slots)
-    lines = ["case %d" % number, "refused %d" % refusal]
+    accepted = exact.queue_refusal(book, lengths, buffer, allowance, slots)[2]
+    lines = ["case %d" % number, "refused %d" % refusal, "accepted %d" % accepted]
     lines += ["record %d %d %d %d %d %d %d" % (r.asked, r.used, r.finished, r.distance, r.gap, r.verdict, r.length) for r in records or []]
     return "\n".join(lines + ["sum %d\n" % checksum(left + [queues.FILLED] * (queues.SLOTS - slots))])
 

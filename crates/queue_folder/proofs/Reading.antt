@@ -1,17 +1,18 @@
 -- Sheets read back to back: the loop of `read_sheets`, and the listing of all of them.
 use mathlib.Core.Path.{_≡_, refl, sym, ap, _∙_}
 use mathlib.Core.List.{List, [], _∷_, _++_, map, append-assoc, append-nil}
-use Prim.Native.Nat.{ℕ, zero, suc, _+_, _*_, _-_, _≤_, _<_}
+use Prim.Native.Nat.{ℕ, _+_, _*_, _-_, _≤_, _<_}
 use native.Mathlib.Numerals.{add-one}
 use native.Mathlib.Omega.{arith}
 use borrow.Rule.Slice.PartMut.{midOf, putMid, same-len-mid, take-put}
-use lib.ListN.{length, getD, take, drop, set, replicate, length-append, length-set, length-drop, length-replicate}
-use lib.Seq.{getD-take, take-suc-set, take-add, take-at, drop-at, length-take-le}
+use lib.ListN.{length, take, drop, set, replicate, length-append, length-set, length-drop, length-replicate}
+use lib.Seq.{take-suc-set, take-add, take-at, drop-at, length-take-le}
 use Rattle.io.specs.Counts.{Counts}
 use Rattle.text.specs.declared.Text.{Text}
 use Rattle.text.specs.Texts.{Holds}
 use Rattle.sheet_queue.specs.Queue.{sheets-of}
-use Rattle.queue_listing.specs.Lines.{queue-listing, Listed-right}
+use Rattle.sheet_queue.proofs.Refusals.{accepted-few}
+use Rattle.queue_listing.specs.Lines.{listing-accepted, queue-listing, Listed-right}
 use Rattle.queue_folder.specs.declared.Sheets.{Sheets}
 use Rattle.queue_folder.specs.Folder.{sheet-bytes, joined, Read-behind, Some-sheets, Some-queue}
 
@@ -112,61 +113,23 @@ module _ {count : ℕ} where
         bytes-are = g .bytes-are;
       }
 
--- ---- The sheets one by one
-
--- the bytes of the first sheets, and of one more
-one-more : (ss : List (List ℕ)) (k : ℕ) → k < length ss → length (joined (take k ss)) + getD (map length ss) k 0 ≡ length (joined (take (suc k) ss))
-unfolding joined
-one-more [] k h = absurd (omega arith)
-one-more (x ∷ ss) zero h = simp length-append (omega arith)
-one-more (x ∷ ss) (suc k) h = simp length-append (omega (arith, one-more ss k (omega arith)))
-
-first-short : (ss : List (List ℕ)) (k : ℕ) → length (joined (take k ss)) ≤ length (joined ss)
-unfolding joined
-first-short ss zero = omega arith
-first-short [] (suc k) = omega arith
-first-short (x ∷ ss) (suc k) = simp length-append (omega (arith, first-short ss k))
-
--- the first k of the sheets that were read have `at` bytes
-pub record Walked (count : ℕ) (lengths buffer : List ℕ) (at k : ℕ) : Type 0 where
-  pub sheets : List (List ℕ)
-  pub number : length sheets ≡ count
-  pub lengths-are : take count lengths ≡ map length sheets
-  pub inside : length (joined sheets) ≤ length buffer
-  pub room : length buffer ≡ 680017
-  pub long : length lengths ≡ 17
-  pub few : count ≤ 17
-  pub reached : k ≤ count
-  pub place : at ≡ length (joined (take k sheets))
-
-pub walked-start : {count : ℕ} {r : Sheets} {buffer : List ℕ} → count ≤ 17 → length buffer ≡ 680017 → Some-sheets count r buffer → Walked count (r .lengths) buffer 0 0
-unfolding joined
-walked-start {r = r} {buffer} h l s =
-    let all : length (joined (s .sheets)) ≡ r .len = rw (← s .bytes-are) (length-take-le (r .len) buffer (s .fits)) in
-    record { sheets = s .sheets; number = s .number; lengths-are = s .lengths-are; inside = omega (arith, all, s .fits); room = l; long = s .long; few = h; reached = omega arith; place = refl }
-
-module _ {count at k : ℕ} {lengths buffer : List ℕ} (w : Walked count lengths buffer at k) (below : k < count) where
-  next-place : at + getD lengths k 0 ≡ length (joined (take (suc k) (w .sheets)))
-  next-place =
-      let e : getD (map length (w .sheets)) k 0 ≡ getD lengths k 0 = rw (← w .lengths-are) (getD-take count lengths k 0 below) in
-      omega (arith, w .place, e, one-more (w .sheets) k (omega (arith, w .number)))
-
-  pub next-within : at + getD lengths k 0 ≤ length buffer
-  next-within = omega (arith, next-place, first-short (w .sheets) (suc k), w .inside)
-
-  pub walked-more : Walked count lengths buffer (at + getD lengths k 0) (k + 1)
-  walked-more = record { sheets = w .sheets; number = w .number; lengths-are = w .lengths-are; inside = w .inside; room = w .room; long = w .long; few = w .few; reached = omega arith; place = rw add-one next-place }
+-- ---- The listing of all of them
 
 pub all-room : (n : ℕ) → n ≤ length (replicate {A = ℕ} n 0)
 all-room n = omega (arith, length-replicate {A = ℕ} n 0)
 
-pub some-queue : {b buffer : List ℕ} {count a : ℕ} {r : Sheets} {t : Text} (s : Some-sheets count r buffer) →
-    Holds (queue-listing b (take count (r .lengths)) (take (r .len) buffer) a) t → Listed-right b (take count (r .lengths)) (take (r .len) buffer) a → Some-queue b count a t
-some-queue s h p =
+-- no more sheets are accepted than were read
+pub accepted-within : {n count : ℕ} (b ls bs : List ℕ) (a : ℕ) → n ≡ listing-accepted b (take count ls) bs a → count ≤ 17 → length ls ≡ 17 → n ≤ 17
+accepted-within {n} {count} b ls bs a e h l = omega (arith, e, accepted-few (length (take count ls)) b (take count ls) bs a, length-take-le count ls (omega arith))
+
+pub some-queue : {b buffer bs : List ℕ} {count a : ℕ} {r : Sheets} {t : Text} (s : Some-sheets count r buffer) → bs ≡ take (r .len) buffer →
+    Holds (queue-listing b (take count (r .lengths)) bs a) t → Listed-right b (take count (r .lengths)) bs a → Some-queue b count a t
+some-queue s e h p =
+    let all = e ∙ s .bytes-are in
     record {
       sheets = s .sheets;
       number = s .number;
       apart = told-apart (s .sheets);
-      text = rw (s .lengths-are, s .bytes-are) at h;
-      right = rw (s .lengths-are, s .bytes-are) at p;
+      text = rw (s .lengths-are, all) at h;
+      right = rw (s .lengths-are, all) at p;
     }

@@ -48,35 +48,28 @@ fn read_sheets(folder: &[u8], count: usize, buffer: &mut [u8]) -> Sheets
     Sheets { len: at, lengths }
 }
 
-// The first of the sheets that were read which this number refuses, with the book; their number where none is.
-fn refused_sheet(book: &[u8], count: usize, read: Sheets, buffer: &[u8], refusal: u32) -> usize
-    requires { ⌜ (count ≤ most-read) × ((length (now buffer) ≡ 680017) × Some-sheets count read (now buffer)) ⌝ }
-    ensures { λ r. ⌜ r ≤ count ⌝ }
+// Says what is wrong with the sheet behind `before` others.
+fn tell_sheet(folder: &[u8], before: usize, fault: &[u8])
+    requires { ⌜ before ≤ most-read ⌝ }
 {
-    let lengths = read.lengths;
-    let mut at = 0;
-    let mut k = 0;
-    while k < count {
-        let end = at + lengths[k] as usize;
-        if validation::files_refusal(book, &buffer[at..end]) == refusal {
-            return k;
-        }
-        at = end;
-        k += 1;
-    }
-    k
+    tell_of(folder, name_of(b"sheet", before, b".wsh"), fault);
 }
 
-// Names what the printed number refuses.
-fn tell_refused(folder: &[u8], book: &[u8], count: usize, read: Sheets, buffer: &[u8], refusal: u32)
-    requires { ⌜ (count ≤ most-read) × ((length (now buffer) ≡ 680017) × Some-sheets count read (now buffer)) ⌝ }
+// Says that the book is refused.
+fn tell_book(folder: &[u8]) {
+    let name = Text::empty().with_bytes(b"fleet.wbk");
+    tell_of(folder, name, b": this book is refused\n");
+}
+
+// Names what the printed number refuses: where it refuses a sheet, the one behind those that are accepted.
+fn tell_refused(folder: &[u8], count: usize, refusal: u32, accepted: usize)
+    requires { ⌜ accepted ≤ most-read ⌝ }
 {
     if refusal == 0 {
         return;
     }
     if refusal <= 6 {
-        let name = Text::empty().with_bytes(b"fleet.wbk");
-        tell_of(folder, name, b": this book is refused\n");
+        tell_book(folder);
         return;
     }
     if refusal == 45 {
@@ -84,32 +77,40 @@ fn tell_refused(folder: &[u8], book: &[u8], count: usize, read: Sheets, buffer: 
         return;
     }
     if refusal != 44 {
-        let sheet = refused_sheet(book, count, read, buffer, refusal);
-        let name = name_of(b"sheet", sheet, b".wsh");
-        tell_of(folder, name, b": this sheet is refused\n");
+        tell_sheet(folder, accepted, b": this sheet is refused\n");
         return;
     }
     if count == 0 {
-        let name = name_of(b"sheet", 0, b".wsh");
-        tell_of(folder, name, b": could not be opened\n");
+        tell_sheet(folder, 0, b": could not be opened\n");
         return;
     }
-    let name = name_of(b"sheet", sheet_queue::MOST_SHEETS, b".wsh");
-    tell_of(folder, name, b": there are more than 16 sheets\n");
+    tell_sheet(
+        folder,
+        sheet_queue::MOST_SHEETS,
+        b": there are more than 16 sheets\n",
+    );
 }
 
-// The listing of a book and of the first sheets of a folder on an allowance.
+// The listing of a book and of the first sheets of a folder, which are read into this buffer, on an allowance.
+fn queue_in(folder: &[u8], book: &[u8], count: usize, allowance: u32, buffer: &mut [u8]) -> Text
+    requires { ⌜ (count ≤ most-read) × (680017 ≤ length (now buffer)) ⌝ }
+    ensures { λ r. ⌜ Some-queue (now (book .entry)) count allowance r ⌝ }
+{
+    let read = read_sheets(folder, count, buffer);
+    let sheets = file_io::first_bytes(buffer, read.len);
+    let lengths = read.lengths;
+    let listed = queue_listing::queue_text(book, &lengths[..count], sheets, allowance);
+    tell_refused(folder, count, listed.refusal, listed.accepted);
+    listed.text
+}
+
+// The same with a buffer that serves any sheets: only this function sees its size.
 fn queue_of(folder: &[u8], book: &[u8], count: usize, allowance: u32) -> Text
     requires { ⌜ count ≤ most-read ⌝ }
     ensures { λ r. ⌜ Some-queue (now (book .entry)) count allowance r ⌝ }
 {
     let mut buffer = [0u8; SHEET_BYTES * MOST_READ];
-    let read = read_sheets(folder, count, &mut buffer);
-    let lengths = read.lengths;
-    let len = read.len;
-    let listed = queue_listing::queue_text(book, &lengths[..count], &buffer[..len], allowance);
-    tell_refused(folder, book, count, read, &buffer, listed.refusal);
-    listed.text
+    queue_in(folder, book, count, allowance, &mut buffer)
 }
 
 // Runs sheet1.wsh, sheet2.wsh and so on of a folder, up to one that cannot be opened, against fleet.wbk on one allowance of steps, and prints

@@ -11,16 +11,16 @@ use Rattle.text.specs.declared.Text.{Text}
 use Rattle.text.specs.Texts.{Holds}
 use Rattle.listing.specs.Lines.{refused-line}
 use Rattle.sheet_queue.specs.declared.SheetRecord.{SheetRecord}
-use Rattle.sheet_queue.specs.Queue.{lengths, sheets-of, problems, queue-steps, refusal-of, records-of, records-after, queue-slots-after}
+use Rattle.sheet_queue.specs.Queue.{lengths, sheets-of, problems, queue-steps, refusal-of, accepted-of, records-of, records-after, queue-slots-after}
 use Rattle.sheet_queue.proofs.Rounds.{below-or-not}
-use Rattle.sheet_queue.proofs.Refusals.{passes, too-many}
+use Rattle.sheet_queue.proofs.Refusals.{passes, too-many, too-many-accepted}
 use Rattle.sheet_queue.proofs.Promise.{queue-right}
 use Rattle.queue_rounds.specs.declared.Plan.{Plan}
 use Rattle.queue_rounds.specs.declared.Outcome.{Outcome}
 use Rattle.queue_rounds.specs.Plans.{plan-lengths}
 use Rattle.queue_rounds.specs.Work.{count-after, plan-records, Ran}
 use Rattle.queue_listing.specs.Plans.{Plans}
-use Rattle.queue_listing.specs.Lines.{sheet-lines, queue-text, queue-of, no-shares, listing-refusal, listing-records, queue-listing, Listed-right}
+use Rattle.queue_listing.specs.Lines.{sheet-lines, queue-text, queue-of, no-shares, listing-refusal, listing-accepted, listing-records, queue-listing, Listed-right}
 
 -- ---- The plan
 
@@ -66,7 +66,12 @@ module _ {b ns bs : List ℕ} {a : ℕ} {p : Plan} {r : Outcome} {slots′ : Lis
   pub number-is : r .refusal ≡ listing-refusal b ns bs a
   number-is =
       R .refusal-is ∙ ap (λ (n : ℕ). refusal-of n b (plan-lengths p) bs a 4096) (P .count-is)
-      ∙ ⊎-elim (λ (h : 16 < length ns). too-many (length ns) b (plan-lengths p) ns bs a 4096 h) (λ (h : length ns ≤ 16). ap (λ (ms : List ℕ). refusal-of (length ns) b ms bs a 4096) (P .lengths-are h)) (below-or-not 16 (length ns))
+      ∙ ⊎-elim (λ (h : 16 < length ns). too-many (length ns) b (plan-lengths p) ns bs a h 4096) (λ (h : length ns ≤ 16). ap (λ (ms : List ℕ). refusal-of (length ns) b ms bs a 4096) (P .lengths-are h)) (below-or-not 16 (length ns))
+
+  pub accepted-is : r .accepted ≡ listing-accepted b ns bs a
+  accepted-is =
+      R .accepted-is ∙ ap (λ (n : ℕ). accepted-of n b (plan-lengths p) bs a) (P .count-is)
+      ∙ ⊎-elim (λ (h : 16 < length ns). too-many-accepted (length ns) b (plan-lengths p) ns bs a h) (λ (h : length ns ≤ 16). ap (λ (ms : List ℕ). accepted-of (length ns) b ms bs a) (P .lengths-are h)) (below-or-not 16 (length ns))
 
   refused-by : {t : Text} (n : ℕ) → (n ≡ 0 → ⊥) → Holds (refused-line n) t → Holds (queue-text n (records-after n b bs a (queue-of ns))) t
   unfolding queue-text
@@ -80,7 +85,7 @@ module _ {b ns bs : List ℕ} {a : ℕ} {p : Plan} {r : Outcome} {slots′ : Lis
   -- of a queue that is not refused
   module _ (z : r .refusal ≡ 0) where
     few : length ns ≤ 16
-    few = passes (length ns) b ns bs a 4096 (sym number-is ∙ z) .most
+    few = passes (length ns) b ns bs a 4096 (sym number-is ∙ z) .ahead .most
 
     records-are : take (r .count) (r .records) ≡ records-after 0 b bs a (queue-of ns)
     unfolding plan-records records-after

@@ -3,11 +3,11 @@ use mathlib.Core.Bool.{Bool, false, cond}
 use mathlib.Core.List.{List, [], _∷_, _++_, map}
 use Prim.Native.Nat.{ℕ, zero, suc}
 use lib.Dec.{eqb}
-use lib.ListN.{replicate}
+use lib.ListN.{length, replicate}
 use Rattle.text.specs.Decimal.{decimal}
 use Rattle.listing.specs.Lines.{sheet-word, within-word, beyond-word, spent-word, refused-line}
 use Rattle.sheet_queue.specs.declared.SheetRecord.{SheetRecord}
-use Rattle.sheet_queue.specs.Queue.{queue-refusal, records-after, queue-slots-after}
+use Rattle.sheet_queue.specs.Queue.{queue-refusal, accepted-of, records-after, queue-slots-after}
 use Rattle.sheet_queue.specs.Promise.{Queue-right}
 
 -- ---- Lines
@@ -56,6 +56,10 @@ no-shares = replicate 4096 0
 -- the number that refuses the sheets of these lengths, 0 where none does; that of the slots never does
 abbrev pub listing-refusal : (book lengths buffer : List ℕ) → (allowance : ℕ) → ℕ
 listing-refusal b ns bs a = queue-refusal b ns bs a 4096
+
+-- how many of them are accepted ahead of the one that refuses
+abbrev pub listing-accepted : (book lengths buffer : List ℕ) → (allowance : ℕ) → ℕ
+listing-accepted b ns bs a = accepted-of (length ns) b ns bs a
 
 -- the records that they get
 abbrev pub listing-records : (book lengths buffer : List ℕ) → (allowance : ℕ) → List SheetRecord

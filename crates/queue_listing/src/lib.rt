@@ -5,9 +5,8 @@ ghost use mathlib.Core.Path.{_≡_};
 ghost use Prim.Native.Nat.{suc, _+_, _≤_, _<_};
 ghost use lib.ListN.{length, take};
 ghost use Rattle.text.specs.Texts.{text-limit, Holds, Adds};
-ghost use Rattle.queue_listing.specs.Lines.{named, verdict-words, sheet-line, sheet-lines, listing-refusal, queue-listing, Listed-right};
+ghost use Rattle.queue_listing.specs.Lines.{named, verdict-words, sheet-line, sheet-lines, listing-refusal, listing-accepted, queue-listing, Listed-right};
 ghost use Rattle.queue_listing.specs.Plans.{Plans};
-use listing::Listed;
 use queue_rounds::Outcome;
 use queue_rounds::Plan;
 use sheet_queue::SheetRecord;
@@ -102,10 +101,19 @@ fn plan_of(lengths: &[u32]) -> Plan
     }
 }
 
+// The listing of a queue, the number that refuses it, or 0, and how many of its sheets are accepted ahead of the one that refuses it: 0
+// where something ahead of the sheets does.
+pub struct Listed {
+    pub refusal: u32,
+    pub accepted: usize,
+    pub text: Text,
+}
+
 // ENTRY. The queue of sheets of these lengths, which stand back to back in one buffer, on one allowance of steps: a line a sheet, or the
-// number that refuses it, as `run_queue` runs and refuses it. The third clause says of what is listed all that `run_queue` promises of it.
+// number that refuses it, as `run_queue` runs and refuses it. The last clause says of what is listed all that `run_queue` promises of it.
 pub fn queue_text(book: &[u8], lengths: &[u32], sheets: &[u8], allowance: u32) -> Listed
     ensures { λ r. ⌜ r .refusal ≡ listing-refusal (now (book .entry)) (now (lengths .entry)) (now (sheets .entry)) allowance ⌝ }
+    ensures { λ r. ⌜ r .accepted ≡ listing-accepted (now (book .entry)) (now (lengths .entry)) (now (sheets .entry)) allowance ⌝ }
     ensures { λ r. ⌜ Holds (queue-listing (now (book .entry)) (now (lengths .entry)) (now (sheets .entry)) allowance) (r .text) ⌝ }
     ensures { λ _. ⌜ Listed-right (now (book .entry)) (now (lengths .entry)) (now (sheets .entry)) allowance ⌝ }
 {
@@ -113,10 +121,19 @@ pub fn queue_text(book: &[u8], lengths: &[u32], sheets: &[u8], allowance: u32) -
     let plan = plan_of(lengths);
     let outcome = queue_rounds::run_plan(plan, book, sheets, allowance, &mut shares);
     let refusal = outcome.refusal;
+    let accepted = outcome.accepted;
     if refusal != 0 {
         let text = listing::refused_listing(refusal);
-        return Listed { refusal, text };
+        return Listed {
+            refusal,
+            accepted,
+            text,
+        };
     }
     let text = lines(outcome);
-    Listed { refusal, text }
+    Listed {
+        refusal,
+        accepted,
+        text,
+    }
 }

@@ -26,7 +26,7 @@ use Rattle.iteration.specs.States.{Holds}
 use Rattle.run_loop.proofs.Keeping.{scores-start}
 use Rattle.sheet_queue.specs.declared.SheetRecord.{SheetRecord}
 use Rattle.sheet_queue.specs.Rounds.{steps-got}
-use Rattle.sheet_queue.specs.Queue.{blank, sheets-of, problems, with-steps, own-steps, queue-steps, refusal-of, record-of, records-of, shares-of, filled}
+use Rattle.sheet_queue.specs.Queue.{blank, sheets-of, problems, with-steps, own-steps, queue-steps, refusal-of, accepted-of, record-of, records-of, shares-of, filled}
 use Rattle.sheet_queue.specs.Promise.{part}
 use Rattle.sheet_queue.proofs.Alone.{alone-iterate}
 use Rattle.sheet_queue.proofs.Fair.{fair, everyone-starts}
@@ -252,10 +252,13 @@ module _ (b : List ℕ) (p : Plan) (bs : List ℕ) (a : ℕ) (slots : List ℕ) 
   abbrev refused-by : ℕ
   refused-by = refusal-of (p .count) b (plan-lengths p) bs a (length slots)
 
-  pub ran-refused : (n : ℕ) → n ≡ refused-by → (n ≡ 0 → ⊥) → Ran b p bs a slots (record { refusal = n; count = 0; records = replicate 16 blank }) slots
+  abbrev accepted-by : ℕ
+  accepted-by = accepted-of (p .count) b (plan-lengths p) bs a
+
+  pub ran-refused : (n : ℕ) {m : ℕ} → n ≡ refused-by → m ≡ accepted-by → (n ≡ 0 → ⊥) → Ran b p bs a slots (record { refusal = n; count = 0; records = replicate 16 blank; accepted = m }) slots
   unfolding count-after plan-records plan-slots
-  ran-refused zero e f = absurd (f refl)
-  ran-refused (suc n) e f = record { refusal-is = e; count-is = refl; count-few = omega arith; records-long = refl; records-are = refl; slots-are = refl }
+  ran-refused zero e g f = absurd (f refl)
+  ran-refused (suc n) e g f = record { refusal-is = e; count-is = refl; count-few = omega arith; records-long = refl; records-are = refl; slots-are = refl; accepted-is = g }
 
   module _ {n : ℕ} (e : n ≡ refused-by) (z : n ≡ 0) where
     passed : Passes (p .count) b (plan-lengths p) bs a (length slots)
@@ -265,14 +268,14 @@ module _ (b : List ℕ) (p : Plan) (bs : List ℕ) (a : ℕ) (slots : List ℕ) 
     plan-accepted =
         record {
           long = long;
-          some = passed .some;
-          few = passed .most;
-          total = passed .total;
-          each = λ i h. sheet-accepted passed i (omega (arith, sheet-count p long (passed .most) bs));
+          some = passed .ahead .some;
+          few = passed .ahead .most;
+          total = passed .ahead .total;
+          each = λ i h. sheet-accepted passed i (omega (arith, sheet-count p long (passed .ahead .most) bs));
         }
 
     pub plan-asks : (p .count ≤ a) × (256 * p .count ≤ length slots)
-    plan-asks = (passed .enough, passed .room)
+    plan-asks = (passed .ahead .enough, passed .room)
 
     abbrev all-shares : List (List ℕ)
     all-shares = shares-of (problems b (plan-sheets p bs)) (queue-steps a (problems b (plan-sheets p bs)))
@@ -282,7 +285,7 @@ module _ (b : List ℕ) (p : Plan) (bs : List ℕ) (a : ℕ) (slots : List ℕ) 
     ks-number = fair a (own-of b p bs) .one-each ∙ own-count b (plan-sheets p bs)
 
     shares-number : length all-shares ≡ p .count
-    shares-number = shares-count b (plan-sheets p bs) (queue-steps a (problems b (plan-sheets p bs))) ks-number ∙ sheet-count p long (passed .most) bs
+    shares-number = shares-count b (plan-sheets p bs) (queue-steps a (problems b (plan-sheets p bs))) ks-number ∙ sheet-count p long (passed .ahead .most) bs
 
     module _ {rs : List SheetRecord} {slots′ : List ℕ} (S : Served-all b p bs a rs slots′) (R : Same-rest b (p .count) slots slots′) where
       part-long : (i : ℕ) → i < p .count → length (part i slots′) ≡ 256
@@ -295,14 +298,15 @@ module _ (b : List ℕ) (p : Plan) (bs : List ℕ) (a : ℕ) (slots : List ℕ) 
       unfolding slots-after
       part-made i h = sym (take-append-drop (boats b) (part i slots′)) ∙ rw (S .shares-are i h, R .parts i h, shares-long i h)
 
-      pub ran-served : Ran b p bs a slots (record { refusal = 0; count = p .count; records = rs }) slots′
+      pub ran-served : {m : ℕ} → m ≡ accepted-by → Ran b p bs a slots (record { refusal = 0; count = p .count; records = rs; accepted = m }) slots′
       unfolding count-after plan-records plan-slots
-      ran-served =
+      ran-served g =
           record {
             refusal-is = sym z ∙ e;
             count-is = refl;
-            count-few = passed .most;
+            count-few = passed .ahead .most;
             records-long = S .records-long;
             records-are = S .records-are;
             slots-are = filled-by all-shares slots slots′ (λ i h. part-made i (omega (arith, shares-number))) (rw shares-number (R .rest));
+            accepted-is = g;
           }

@@ -8,9 +8,9 @@ use lib.ListN.{length, getD, take, drop, length-take, length-drop}
 use lib.Seq.{drop-drop, take-take, getD-take, length-take-le, drop-length}
 use Rattle.frank_wolfe.specs.Vectors.{sum}
 use Rattle.files.specs.Sheet.{sheet-refusal}
-use Rattle.sheet_queue.specs.Queue.{sheets-of, sheets-refusal}
+use Rattle.sheet_queue.specs.Queue.{sheets-of, sheets-refusal, accepted-ahead}
 use Rattle.sheet_queue.proofs.Records.{sheets-count}
-use Rattle.sheet_queue.proofs.Refusals.{sheet-more, sheet-stops}
+use Rattle.sheet_queue.proofs.Refusals.{sheet-more, sheet-stops, accepted-more, accepted-stops}
 use Rattle.queue_rounds.specs.declared.Plan.{Plan}
 use Rattle.queue_rounds.specs.Plans.{plan-lengths, plan-sheets, sheet-of}
 
@@ -79,21 +79,29 @@ module _ (p : Plan) (long : length (p .lengths) ≡ 16) (few : p .count ≤ 16) 
       pub sheet-here : take (start + n - start) (drop start bs) ≡ sheet-of p bs i
       sheet-here = let k : start + n - start ≡ n = omega arith in rw (k, es, en) (sym stands)
 
--- ---- Sheet by sheet, in a loop
+-- ---- Sheet by sheet, in a loop: the first i are accepted, and those that are left decide
 pub record Unrefused (c : ℕ) (ss : List (List ℕ)) (i : ℕ) : Type 0 where
   pub left : sheets-refusal c ss ≡ sheets-refusal c (drop i ss)
+  pub accepted : accepted-ahead c ss ≡ i + accepted-ahead c (drop i ss)
 
 module _ {c : ℕ} {ss : List (List ℕ)} where
   pub unrefused-none : Unrefused c ss 0
-  unrefused-none = record { left = refl }
+  unrefused-none = record { left = refl; accepted = omega arith }
 
   module _ {i : ℕ} (u : Unrefused c ss i) (h : i < length ss) {r : ℕ} (e : r ≡ sheet-refusal c (getD ss i [])) where
     pub unrefused-more : r ≡ 0 → Unrefused c ss (i + 1)
-    unrefused-more z = record { left = u .left ∙ rw add-one (sheet-more c ss i h (sym e ∙ z)) }
+    unrefused-more z =
+        let ok = sym e ∙ z in
+        record { left = u .left ∙ rw add-one (sheet-more c ss i h ok); accepted = rw add-one (omega (arith, u .accepted, accepted-more c ss i h ok)) }
 
-    pub refused-here : (r ≡ 0 → ⊥) → r ≡ sheets-refusal c ss
-    refused-here f = e ∙ sym (u .left ∙ sheet-stops c ss i h (λ z. f (e ∙ z)))
+    pub refused-here : (r ≡ 0 → ⊥) → (r ≡ sheets-refusal c ss) × (i ≡ accepted-ahead c ss)
+    refused-here f =
+        let g : sheet-refusal c (getD ss i []) ≡ 0 → ⊥ = λ z. f (e ∙ z) in
+        (e ∙ sym (u .left ∙ sheet-stops c ss i h g), omega (arith, u .accepted, accepted-stops c ss i h g))
 
-  pub unrefused-all : {i n : ℕ} → Unrefused c ss i → length ss ≡ n → n ≤ i → i ≤ n → 0 ≡ sheets-refusal c ss
-  unfolding sheets-refusal
-  unrefused-all {i} {n} u e f l = let k : i ≡ length ss = omega arith in sym (u .left ∙ rw (k, drop-length ss))
+  pub unrefused-all : {i n : ℕ} → Unrefused c ss i → length ss ≡ n → n ≤ i → i ≤ n → (0 ≡ sheets-refusal c ss) × (i ≡ accepted-ahead c ss)
+  unfolding sheets-refusal accepted-ahead
+  unrefused-all {i} {n} u e f l =
+      let k : i ≡ length ss = omega arith in
+      let z : accepted-ahead c (drop i ss) ≡ 0 = rw (k, drop-length ss) in
+      (sym (u .left ∙ rw (k, drop-length ss)), omega (arith, u .accepted, z))

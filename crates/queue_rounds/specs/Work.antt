@@ -10,7 +10,7 @@ use Rattle.method.specs.Iterates.{iterate}
 use Rattle.iteration.specs.declared.State.{State}
 use Rattle.iteration.specs.States.{Holds}
 use Rattle.sheet_queue.specs.declared.SheetRecord.{SheetRecord}
-use Rattle.sheet_queue.specs.Queue.{blank, problems, queue-steps, refusal-of, record-of, records-of, shares-of, filled}
+use Rattle.sheet_queue.specs.Queue.{blank, problems, queue-steps, refusal-of, accepted-of, record-of, records-of, shares-of, filled}
 use Rattle.sheet_queue.specs.Promise.{part}
 use Rattle.sheet_turn.specs.Turns.{plain-book, plain-sheet, Turn-scores}
 use Rattle.queue_rounds.specs.declared.Plan.{Plan}
@@ -79,3 +79,4 @@ pub record Ran (b : List ℕ) (p : Plan) (bs : List ℕ) (a : ℕ) (slots : List
   pub records-long : length (r .records) ≡ 16
   pub records-are : take (r .count) (r .records) ≡ plan-records (r .refusal) b p bs a
   pub slots-are : slots′ ≡ plan-slots (r .refusal) b p bs a slots
+  pub accepted-is : r .accepted ≡ accepted-of (p .count) b (plan-lengths p) bs a

@@ -7,7 +7,7 @@ ghost use lib.ListN.{length, getD, take, replicate};
 ghost use lib.IntN.{pos};
 ghost use Rattle.frank_wolfe.specs.Vectors.{sum};
 ghost use Rattle.files.specs.Book.{boats};
-ghost use Rattle.sheet_queue.specs.Queue.{blank, sheets-refusal, refusal-of, filled};
+ghost use Rattle.sheet_queue.specs.Queue.{blank, sheets-refusal, accepted-ahead, refusal-ahead, refusal-of, accepted-of, filled};
 ghost use Rattle.queue_rounds.specs.Plans.{plan-lengths, plan-sheets, sheet-of, own-of, Accepted};
 ghost use Rattle.queue_rounds.specs.Counts.{is-due, taken, Turned, Rounded};
 ghost use Rattle.queue_rounds.specs.Work.{no-state, Started, Working, Same-rest, Served-all, Ran};
@@ -20,11 +20,19 @@ pub struct Plan {
     pub lengths: [u32; 16],
 }
 
-// What a queue leaves: the number that refuses it, or 0; how many records there are, none on a refusal; and the records.
+// What refuses a queue: its number, or 0, and how many sheets are accepted ahead of the one that refuses it.
+pub struct Judged {
+    pub refusal: u32,
+    pub accepted: usize,
+}
+
+// What a queue leaves: the number that refuses it, or 0; how many records there are, none on a refusal; the records; and how many sheets are
+// accepted ahead of the one that refuses it.
 pub struct Outcome {
     pub refusal: u32,
     pub count: usize,
     pub records: [SheetRecord; 16],
+    pub accepted: usize,
 }
 
 // For each sheet the steps that it took and whether it is finished, and what is left of the allowance.
@@ -79,27 +87,34 @@ fn sheet_at<'a>(plan: Plan, i: usize, sheets: &'a [u8]) -> &'a [u8]
     &sheets[start..end]
 }
 
-// The number that refuses the first refused sheet, for a book of so many columns, or 0.
-fn sheets_refusal(plan: Plan, columns: u32, sheets: &[u8]) -> u32
+// The number that refuses the first refused sheet, for a book of so many columns, or 0, and how many are accepted ahead of it.
+fn judge_sheets(plan: Plan, columns: u32, sheets: &[u8]) -> Judged
     requires { ⌜ plan .count ≤ 16 ⌝ }
     requires { ⌜ sum (plan-lengths plan) ≡ length (now sheets) ⌝ }
-    ensures { λ r. ⌜ r ≡ sheets-refusal columns (plan-sheets plan (now (sheets .entry))) ⌝ }
+    ensures { λ r. ⌜ r .refusal ≡ sheets-refusal columns (plan-sheets plan (now (sheets .entry))) ⌝ }
+    ensures { λ r. ⌜ r .accepted ≡ accepted-ahead columns (plan-sheets plan (now (sheets .entry))) ⌝ }
 {
     let count = plan.count;
     let mut i = 0;
     while i < count {
         let refusal = validation::sheet_refusal(sheet_at(plan, i, sheets), columns);
         if refusal != 0 {
-            return refusal;
+            return Judged {
+                refusal,
+                accepted: i,
+            };
         }
         i += 1;
     }
-    0
+    Judged {
+        refusal: 0,
+        accepted: i,
+    }
 }
 
-// The number that refuses the queue, or 0.
-fn refusal(plan: Plan, book: &[u8], sheets: &[u8], allowance: u32, slots: usize) -> u32
-    ensures { λ r. ⌜ r ≡ refusal-of (plan .count) (now (book .entry)) (plan-lengths plan) (now (sheets .entry)) allowance slots ⌝ }
+// The number that refuses the queue ahead of its sheets, or 0.
+fn refusal_ahead(plan: Plan, book: &[u8], sheets: &[u8], allowance: u32) -> u32
+    ensures { λ r. ⌜ r ≡ refusal-ahead (plan .count) (now (book .entry)) (plan-lengths plan) (now (sheets .entry)) allowance ⌝ }
 {
     let of_book = validation::book_refusal(book);
     if of_book != 0 {
@@ -118,14 +133,32 @@ fn refusal(plan: Plan, book: &[u8], sheets: &[u8], allowance: u32, slots: usize)
     if allowance > sheet_queue::MOST_STEPS {
         return 45;
     }
-    let of_sheets = sheets_refusal(plan, files::columns(book) as u32, sheets);
-    if of_sheets != 0 {
-        return of_sheets;
-    }
-    if slots < sheet_queue::SLOTS * count {
-        return 21;
-    }
     0
+}
+
+// What refuses the queue.
+fn judge(plan: Plan, book: &[u8], sheets: &[u8], allowance: u32, slots: usize) -> Judged
+    ensures { λ r. ⌜ r .refusal ≡ refusal-of (plan .count) (now (book .entry)) (plan-lengths plan) (now (sheets .entry)) allowance slots ⌝ }
+    ensures { λ r. ⌜ r .accepted ≡ accepted-of (plan .count) (now (book .entry)) (plan-lengths plan) (now (sheets .entry)) allowance ⌝ }
+{
+    let ahead = refusal_ahead(plan, book, sheets, allowance);
+    if ahead != 0 {
+        return Judged {
+            refusal: ahead,
+            accepted: 0,
+        };
+    }
+    let judged = judge_sheets(plan, files::columns(book) as u32, sheets);
+    if judged.refusal != 0 {
+        return judged;
+    }
+    if slots < sheet_queue::SLOTS * plan.count {
+        return Judged {
+            refusal: 21,
+            accepted: judged.accepted,
+        };
+    }
+    judged
 }
 
 // ---- Turns
@@ -340,8 +373,8 @@ pub fn run_plan(
 ) -> Outcome
     ensures { λ r. ⌜ Ran (now (book .entry)) plan (now (sheets .entry)) allowance (now (shares .entry)) r (now (shares .exit)) ⌝ }
 {
-    let number = refusal(plan, book, sheets, allowance, shares.len());
-    if number != 0 {
+    let judged = judge(plan, book, sheets, allowance, shares.len());
+    if judged.refusal != 0 {
         let none = SheetRecord {
             asked: 0,
             used: 0,
@@ -352,9 +385,10 @@ pub fn run_plan(
             length: 0,
         };
         return Outcome {
-            refusal: number,
+            refusal: judged.refusal,
             count: 0,
             records: [none; 16],
+            accepted: judged.accepted,
         };
     }
     let records = serve_all(plan, book, sheets, allowance, shares);
@@ -362,6 +396,7 @@ pub fn run_plan(
         refusal: 0,
         count: plan.count,
         records,
+        accepted: judged.accepted,
     }
 }
 

@@ -90,12 +90,12 @@ module _ {b bs : List ℕ} {a : ℕ} (ys : List SheetRecord) {slots slots′ : L
   few-lengths h = lengths-are ys h
 
   number : r .refusal ≡ queue-refusal b (lengths ys) bs a (length slots)
-  number = R .refusal-is ∙ rw (lengths-count ys) (⊎-elim (λ (h : 16 < length ys). too-many (length ys) b (plan-lengths p) (lengths ys) bs a (length slots) h) (λ (h : length ys ≤ 16). rw (few-lengths h)) (below-or-not 16 (length ys)))
+  number = R .refusal-is ∙ rw (lengths-count ys) (⊎-elim (λ (h : 16 < length ys). too-many (length ys) b (plan-lengths p) (lengths ys) bs a h (length slots)) (λ (h : length ys ≤ 16). rw (few-lengths h)) (below-or-not 16 (length ys)))
 
   -- of a queue that is not refused
   module _ (z : r .refusal ≡ 0) where
     few : length ys ≤ 16
-    few = passes (length ys) b (plan-lengths p) bs a (length slots) (sym (R .refusal-is) ∙ z) .most
+    few = passes (length ys) b (plan-lengths p) bs a (length slots) (sym (R .refusal-is) ∙ z) .ahead .most
 
     count-all : r .count ≡ length ys
     unfolding count-after

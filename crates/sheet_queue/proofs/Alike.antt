@@ -19,7 +19,7 @@ use Rattle.files.proofs.Front.{sheet-front-unread, files-front-unread}
 use Rattle.method.specs.Problem.{Problem, plain-terms, problem}
 use Rattle.method.proofs.Promise.{same-problem, problem-behind}
 use Rattle.sheet_queue.specs.declared.SheetRecord.{SheetRecord}
-use Rattle.sheet_queue.specs.Queue.{lengths, sheets-of, problems, queue-steps, sheets-refusal, refusal-of, record-of, records-of, shares-of, filled, records-after, queue-slots-after}
+use Rattle.sheet_queue.specs.Queue.{lengths, sheets-of, problems, queue-steps, sheets-refusal, refusal-ahead, refusal-of, record-of, records-of, shares-of, filled, records-after, queue-slots-after}
 use Rattle.sheet_queue.specs.Alike.{Each, no-sheet, one-more, Same-or-edition, Exchanged, unmeasured, Same-queue}
 use Rattle.sheet_queue.proofs.Records.{lengths-count, sheets-count}
 
@@ -58,7 +58,7 @@ module _ {Alike : List ℕ → List ℕ → Type 0} (b b′ : List ℕ) (same-co
     same-problems = alike-problems (x .each)
 
     same-refusal : refusal-of (length (lengths other)) b′ (lengths other) bs′ a (length slots) ≡ refusal-of (length (lengths queue)) b (lengths queue) bs a (length slots)
-    unfolding refusal-of
+    unfolding refusal-ahead refusal-of
     same-refusal = rw (same-count, same-columns, same-numbers, alike-refusal (x .each), eq-eqb (sum (lengths other)) (length bs′) (x .other-total), eq-eqb (sum (lengths queue)) (length bs) (x .total))
 
     same-records : map unmeasured (records-after 0 b′ bs′ a other) ≡ map unmeasured (records-after 0 b bs a queue)

@@ -121,7 +121,7 @@ module _ (b bs : List ℕ) (a : ℕ) (queue : List SheetRecord) (slots : List �
 
     pub least-at : 1 ≤ getD ks i 0
     unfolding queue-steps
-    least-at = everyone-starts a ts (omega (arith, count-ts, P .enough)) i (omega (arith, count-ts)) (omega (arith, own-is, own-some))
+    least-at = everyone-starts a ts (omega (arith, count-ts, P .ahead .enough)) i (omega (arith, count-ts)) (omega (arith, own-is, own-some))
 
     pub most-at : getD ks i 0 ≤ steps-used (problem b (getD ss i []))
     most-at = omega (arith, queue-fair .within-own i, own-is)
@@ -143,7 +143,7 @@ module _ (b bs : List ℕ) (a : ℕ) (queue : List SheetRecord) (slots : List �
   shares-number = shares-count b ss ks (count-ks ∙ sym count-ns) ∙ count-ns
 
   boats-few : boats b ≤ 256
-  boats-few = book-accepted b (P .book) .most-boats
+  boats-few = book-accepted b (P .ahead .book) .most-boats
 
   pub roomy : Roomy (shares-of (problems b ss) ks) slots
   roomy = record { few = λ i h. omega (arith, shares-long i (omega (arith, shares-number)), boats-few); room = omega (arith, shares-number, P .room) }

@@ -60,15 +60,31 @@ unfoldable pub sheets-refusal : (columns : ℕ) → (sheets : List (List ℕ)) �
 sheets-refusal c [] = 0
 sheets-refusal c (s ∷ ss) = cond (eqb (sheet-refusal c s) 0) (sheets-refusal c ss) (sheet-refusal c s)
 
--- of n sheets: 1 to 6 of the book; 44, n is not 1 to 16 or the lengths do not total the buffer; 45, an allowance below n or above 5,760;
--- 11 to 17 and 46, sheet by sheet; 21, fewer than 256 slots a sheet; 0 if none applies
-unfoldable pub refusal-of : (n : ℕ) → (book lengths buffer : List ℕ) → (allowance slots : ℕ) → ℕ
-refusal-of n b ns bs a slots =
-    let in-sheets = sheets-refusal (columns b) (sheets-of ns bs) in
+-- how many sheets are accepted ahead of the first that is refused
+unfoldable pub accepted-ahead : (columns : ℕ) → (sheets : List (List ℕ)) → ℕ
+accepted-ahead c [] = 0
+accepted-ahead c (s ∷ ss) = cond (eqb (sheet-refusal c s) 0) (suc (accepted-ahead c ss)) 0
+
+-- ahead of n sheets: 1 to 6 of the book; 44, n is not 1 to 16 or the lengths do not total the buffer; 45, an allowance below n or above
+-- 5,760; 0 if none applies
+unfoldable pub refusal-ahead : (n : ℕ) → (book lengths buffer : List ℕ) → (allowance : ℕ) → ℕ
+refusal-ahead n b ns bs a =
     cond (not (eqb (book-refusal b) 0)) (book-refusal b)
     (cond (not (between 1 16 n && eqb (sum ns) (length bs))) 44
     (cond (ltb a n || ltb 5760 a) 45
-    (cond (not (eqb in-sheets 0)) in-sheets (cond (ltb slots (256 * n)) 21 0))))
+    0))
+
+-- of n sheets: the number ahead of them; 11 to 17 and 46, sheet by sheet; 21, fewer than 256 slots a sheet; 0 if none applies
+unfoldable pub refusal-of : (n : ℕ) → (book lengths buffer : List ℕ) → (allowance slots : ℕ) → ℕ
+refusal-of n b ns bs a slots =
+    let ahead = refusal-ahead n b ns bs a in
+    let in-sheets = sheets-refusal (columns b) (sheets-of ns bs) in
+    cond (not (eqb ahead 0)) ahead
+    (cond (not (eqb in-sheets 0)) in-sheets (cond (ltb slots (256 * n)) 21 0))
+
+-- how many of n sheets are accepted ahead of the one that refuses the queue, all where none does; 0 where the number ahead of them refuses it
+unfoldable pub accepted-of : (n : ℕ) → (book lengths buffer : List ℕ) → (allowance : ℕ) → ℕ
+accepted-of n b ns bs a = cond (eqb (refusal-ahead n b ns bs a) 0) (accepted-ahead (columns b) (sheets-of ns bs)) 0
 
 abbrev pub queue-refusal : (book lengths buffer : List ℕ) → (allowance slots : ℕ) → ℕ
 queue-refusal b ns bs a slots = refusal-of (length ns) b ns bs a slots

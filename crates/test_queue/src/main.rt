@@ -103,6 +103,7 @@ fn case(cases: &[u8], start: usize) -> usize {
         u16_at(cases, at + 2) as usize,
     );
     test_printing::line(b"refused", outcome.refusal as u64);
+    test_printing::line(b"accepted", outcome.accepted as u64);
     records(outcome);
     test_printing::line(b"sum", sum_of(&shares));
     end
@@ -126,14 +127,18 @@ fn folder(name: &[u8], allowance: u32) {
     queue_folder::list_queue(name, allowance);
 }
 
-// mixqueue in all folders.
-fn folders() {
+// mixqueue in the current folder, of three sheets.
+fn three_sheets() {
     folder(b"", 3);
     folder(b"", 6);
     folder(b"", 7);
     folder(b"", 5760);
     folder(b"", 2);
     folder(b"", 5761);
+}
+
+// mixqueue in folders of no sheet, of one, of sixteen and of seventeen.
+fn other_counts() {
     folder(b"none", 1);
     folder(b"none", 0);
     folder(b"one", 1);
@@ -145,6 +150,10 @@ fn folders() {
     folder(b"sixteen", 5760);
     folder(b"seventeen", 17);
     folder(b"seventeen", 0);
+}
+
+// mixqueue in folders with a number left out, with sheets of both editions, and with a refused sheet.
+fn other_sheets() {
     folder(b"no_third", 9);
     folder(b"counted_from_0", 9);
     folder(b"editions", 4);
@@ -154,6 +163,10 @@ fn folders() {
     folder(b"second_refused", 2);
     folder(b"empty", 9);
     folder(b"seventeenth_empty", 17);
+}
+
+// mixqueue in folders with a refused book, with files as long as they may be or longer, and on the highest number.
+fn borders() {
     folder(b"book_refused", 2);
     folder(b"book_before_44", 1);
     folder(b"no_book", 1);
@@ -162,9 +175,17 @@ fn folders() {
     folder(b"one", 4294967295);
 }
 
+// All of it; the cases are read into this buffer.
+fn run(buffer: &mut [u8]) {
+    let n = file_io::read_file(b"cases.dat", buffer);
+    each(file_io::first_bytes(buffer, n), 240);
+    three_sheets();
+    other_counts();
+    other_sheets();
+    borders();
+}
+
 fn main() {
     let mut cases = [0u8; 400000];
-    let n = file_io::read_file(b"cases.dat", &mut cases);
-    each(&cases[..n], 240);
-    folders();
+    run(&mut cases);
 }

@@ -32,7 +32,10 @@ same-length : tie.Need-same-length
 same-length c = search needs
 
 returns : tie.Need-returns
-returns c = read-behind _ _ _ (c .before .before .before .before .before .before .before .before .before .pre .1) (c .before .before .read-named .ensures) (search needs)
+returns c =
+    let at-read = c .before .before in
+    let start = at-read .before .before .before .before .before .before .before in
+    read-behind _ _ _ (start .pre .1) (at-read .read-named .ensures) (search needs)
 
 pub read-sheet-spec : {M : Type 1} → statement M
 read-sheet-spec =

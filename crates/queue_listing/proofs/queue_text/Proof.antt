@@ -1,5 +1,5 @@
 -- `queue_listing::queue_text` meets its contract.
-use Rattle.queue_listing.proofs.Listing.{listed-right, number-is, refused-listed, lines-listed}
+use Rattle.queue_listing.proofs.Listing.{listed-right, number-is, accepted-is, refused-listed, lines-listed}
 use borrow.Author.Needs.{needs}
 use Rattle.queue_listing.proofs.queue_text.Statement.{statement}
 use Rattle.queue_listing.proofs.queue_text.Tie as tie
@@ -21,7 +21,7 @@ returns c =
     let at-run = c .before .before .before in
     let R = at-run .run-plan .ensures in
     let P = at-run .before .before .plan-of .ensures in
-    (number-is P R, (refused-listed P R (c .before .if1 .taken) (c .refused-listing .ensures), listed-right _ _ _ _))
+    (number-is P R, (accepted-is P R, (refused-listed P R (c .before .if1 .taken) (c .refused-listing .ensures), listed-right _ _ _ _)))
 
 lines-requires : tie.Need-lines-requires
 lines-requires c κs =
@@ -33,7 +33,7 @@ returns-2 c =
     let at-run = c .before .before .before in
     let R = at-run .run-plan .ensures in
     let P = at-run .before .before .plan-of .ensures in
-    (number-is P R, (lines-listed P R (c .before .if1 .left) (c .lines .ensures), listed-right _ _ _ _))
+    (number-is P R, (accepted-is P R, (lines-listed P R (c .before .if1 .left) (c .lines .ensures), listed-right _ _ _ _)))
 
 pub queue-text-spec : {M : Type 1} → statement M
 queue-text-spec =

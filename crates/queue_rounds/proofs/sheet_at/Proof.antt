@@ -14,15 +14,17 @@ add-end c =
 
 part-result-end : tie.Need-part-result-end
 part-result-end c =
-    let p = c .before .before .before .before .pre in
-    let long : length (c .before .before .before .before .args .plan .lengths) ≡ 16 = search needs in
-    sheet-inside _ long (p .0 .1) (c .before .before .before .before .args .sheets .now) (p .1) _ (p .0 .0) (c .before .total-of .ensures .0) (c .wide .ensures .0)
+    let start = c .before .before .before .before in
+    let p = start .pre in
+    let long : length (start .args .plan .lengths) ≡ 16 = search needs in
+    sheet-inside _ long (p .0 .1) (start .args .sheets .now) (p .1) _ (p .0 .0) (c .before .total-of .ensures .0) (c .wide .ensures .0)
 
 returns : tie.Need-returns
 returns c =
-    let p = c .before .before .before .before .before .pre in
-    let long : length (c .before .before .before .before .before .args .plan .lengths) ≡ 16 = search needs in
-    sheet-here _ long (p .0 .1) (c .before .before .before .before .before .args .sheets .now) (p .1) _ (p .0 .0) (c .before .before .total-of .ensures .0) (c .before .wide .ensures .0)
+    let start = c .before .before .before .before .before in
+    let p = start .pre in
+    let long : length (start .args .plan .lengths) ≡ 16 = search needs in
+    sheet-here _ long (p .0 .1) (start .args .sheets .now) (p .1) _ (p .0 .0) (c .before .before .total-of .ensures .0) (c .before .wide .ensures .0)
 
 pub sheet-at-spec : {M : Type 1} → statement M
 sheet-at-spec =

@@ -24,8 +24,9 @@ add-n c =
 
 loop-again : tie.Need-loop-again Inv-loop μ-loop
 loop-again c =
-    let long : length (c .before .before .before .before .args .plan .lengths) ≡ 16 = search needs in
-    (omega arith, totalled-more (c .before .before .loop .inv .1) (omega (arith, long, c .before .loop-test .taken, c .before .before .before .before .pre)) (c .wide .ensures .0) (c .wide .ensures .1))
+    let start = c .before .before .before .before in
+    let long : length (start .args .plan .lengths) ≡ 16 = search needs in
+    (omega arith, totalled-more (c .before .before .loop .inv .1) (omega (arith, long, c .before .loop-test .taken, start .pre)) (c .wide .ensures .0) (c .wide .ensures .1))
 
 returns : tie.Need-returns Inv-loop μ-loop
 returns c = totalled-all (c .before .loop .inv .1) (c .before .loop .inv .0) (c .loop-test .left)
