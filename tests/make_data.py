@@ -10,6 +10,7 @@ HERE = os.path.dirname(os.path.abspath(__file__))
 sys.path.insert(0, HERE)
 from exact import make_book, make_card, make_sheet, true_card, write_card  # noqa: E402
 from generator import Draws, draw_row  # noqa: E402
+import card_details  # noqa: E402
 import csv_books  # noqa: E402
 import csv_sheets  # noqa: E402
 import details  # noqa: E402
@@ -181,6 +182,7 @@ def main():
         data[crate] = {os.path.join(name, file): content for name, files in cases.FOLDERS.items() for file, content in files.items()}
         data[crate]["cases.dat"] = cases.file_of(cases.cases())
     data["test_details"] = {"cases.dat": details.file_of(details.cases())}
+    data["test_card_details"] = {"cases.dat": card_details.file_of(card_details.cases())}
     data["test_program"] = {os.path.join(name, file): content for name, files in FOLDERS.items() for file, content in files.items()}
     for crate, files in data.items():
         for name, content in files.items():

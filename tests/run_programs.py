@@ -16,6 +16,7 @@ import tempfile
 
 HERE = os.path.dirname(os.path.abspath(__file__))
 sys.path.insert(0, HERE)
+import card_details  # noqa: E402
 import csv_books  # noqa: E402
 import csv_sheets  # noqa: E402
 import details  # noqa: E402
@@ -227,6 +228,16 @@ def queue_told(files, allowance, folder=""):
     return b"".join(lines)
 
 
+def card_told(files, names):
+    """What standard error says of the first of these cards that is refused."""
+    for name in names:
+        book, sheet, card = (content(files, file) for file in ("fleet.wbk", "sheet.wsh", name))
+        refusal = card_details.refusal_of(book, sheet, card)
+        if refusal:
+            return card_details.card_detail(name.encode(), book, sheet, card, refusal)
+    return b""
+
+
 # What mixwork says of a refusal that is not of the files.
 WORKING = {53: b"sheet.wsh: the search does not end Spent, so nothing is worked over\n", 54: b"MOVES: not from 1 to 1000\n"}
 
@@ -249,6 +260,7 @@ def told(program, files, refused=False, folder=""):
     elif "fleet.wbk" in READ[program]:
         book, sheet = content(files, "fleet.wbk"), content(files, "sheet.wsh")
         lines.append(details.detail(book, sheet, exact.files_refusal(book, sheet)))
+        lines.append(card_told(files, [name for name in READ[program] if name.endswith(".wcd")]))
     if program == "mixwork":
         lines.append(WORKING.get(refused, b""))
     if refused and program in FILED:
@@ -321,6 +333,11 @@ def check_mixcheck(program, runs):
     for name, before, listing in card_folders([name for name, _ in FILES]):
         out, err, left = run(program, before)
         runs.expect("mixcheck, " + name, (out, err, left) == (listing, told("mixcheck", before), before))
+    # each line about a card
+    for number, card in enumerate(card_details.cards()):
+        before = {"fleet.wbk": card_details.BOOK, "sheet.wsh": card_details.sheet_of(), "card.wcd": card}
+        out, err, left = run(program, before)
+        runs.expect("mixcheck, card %d" % number, (out, err, left) == (exact.card_listing(*before.values()), told("mixcheck", before), before))
 
 
 def check_report(program, runs):
@@ -329,10 +346,10 @@ def check_report(program, runs):
     if is_installed(program):
         report, arguments = os.path.join(os.path.dirname(program), "mixreport"), ()
     for name, before, listing in card_folders(("case a", "factors", "no book", "book of 40,001 bytes")):
-        out, _, left = run(report, before, arguments=arguments)
+        out, err, left = run(report, before, arguments=arguments)
         reports = [left.pop(report, None) for report in ("report.txt", "report.html")]
         if listing.startswith(b"refused"):
-            runs.expect("mixreport, " + name, (out, left, reports) == (listing, before, [None, None]))
+            runs.expect("mixreport, " + name, (out, left, reports) == (listing, before, [None, None]) and card_told(before, ["card.wcd"]) in err)
         else:
             lines = b"".join(b"    " + line + b"\n" for line in listing.splitlines())
             right = None not in reports and lines in reports[0] and b"<pre>" + listing.strip() + b"</pre>" in reports[1]
@@ -357,6 +374,17 @@ def check_mixbetter(program, runs):
                 after = before if refusal else dict(before, **{"better.wcd": part})
                 runs.expect("mixbetter, %s, %s, %s" % (name, first_name, second_name),
                             run(program, before) == (exact.better_listing(*four), faults, after))
+    # each number that refuses a card, of the first card and of the second
+    by_number = {card_details.refusal_of(BOOK, SHEET, card): card for card in card_details.cards()}
+    runs.expect("mixbetter, a card of each number", set(card_details.KINDS) <= set(by_number))
+    for number, card in by_number.items():
+        for names in (("first.wcd", "second.wcd"), ("second.wcd", "first.wcd")):
+            before = dict(zip(names, (card, by_number[0])), **{"fleet.wbk": BOOK, "sheet.wsh": SHEET})
+            four = [before[file] for file in READ["mixbetter"]]
+            refusal, part = exact.better_part(*four)
+            after = before if refusal else dict(before, **{"better.wcd": part})
+            runs.expect("mixbetter, %s by %d" % (names[0], number),
+                        run(program, before) == (exact.better_listing(*four), told("mixbetter", before, refusal != 0), after))
     # The file system takes no byte, and a folder in the card's place: an older card stays, and no other file is left.
     files = {"fleet.wbk": BOOK, "sheet.wsh": sheet, "first.wcd": farther, "second.wcd": nearer}
     for name, older, read_only in (("no room", b"older card", True), ("card a folder", FOLDER, False)):

@@ -1,7 +1,7 @@
 // The better of two cards, handed back as a part of the caller's own bytes.
 //
 // Entries, which ask nothing of their caller: choose, better_card.
-// Helper for other crates, whose callers prove what it requires: part_of.
+// Helpers for other crates: part_of, whose callers prove what it requires; judge_both asks nothing.
 ghost use mathlib.Core.Path.{_≡_};
 ghost use Prim.Native.Nat.{_+_, _≤_};
 ghost use lib.ListN.{length};
@@ -11,6 +11,7 @@ ghost use Rattle.card_format.specs.Format.{card-fields, card-answer};
 ghost use Rattle.card_format.specs.Checks.{check-refusal};
 ghost use Rattle.better_card_promise.specs.Choices.{better-refusal, nearer, numbered, better-part, better-place, part-of, place-of, bare-choice, no-choice, choice};
 ghost use Rattle.better_card_promise.specs.Promise.{Better-right};
+ghost use Rattle.better_card.specs.Wrong.{wrong-card};
 use better_card_promise::Choice;
 use method::Answer;
 use method::Searched;
@@ -68,6 +69,45 @@ fn behind_front(card: &[u8], number: u32) -> Choice
     }
 }
 
+// A choice, and which card its refusal is of: 1 for the first, also where the files are refused, 2 for the second.
+pub struct Ruling {
+    pub choice: Choice,
+    pub wrong: u32,
+}
+
+// The choice as `choose` gives it, and which card is refused where one is, so that nothing is judged again to name it.
+pub fn judge_both(book: &[u8], sheet: &[u8], first: &[u8], second: &[u8]) -> Ruling
+    ensures { λ r. ⌜ r .wrong ≡ wrong-card (now (book .entry)) (now (sheet .entry)) (now (first .entry)) ⌝ }
+    ensures { λ r. ⌜ r .choice ≡ choice (now (book .entry)) (now (sheet .entry)) (now (first .entry)) (now (second .entry)) ⌝ }
+    ensures { λ r. ⌜ Better-right (now (book .entry)) (now (sheet .entry)) (now (first .entry)) (now (second .entry)) (r .choice .refusal) (part-of (r .choice) (now (first .entry)) (now (second .entry))) ⌝ }
+    ensures { λ r. ⌜ r .choice .offset + r .choice .len ≤ length (numbered (r .choice .card) (now (first .entry)) (now (second .entry))) ⌝ }
+{
+    match checked(book, sheet, first) {
+        Searched::Refused(n) => Ruling {
+            choice: refused(n),
+            wrong: 1,
+        },
+        Searched::Answered(a) => match judged(book, sheet, second) {
+            Searched::Refused(n) => Ruling {
+                choice: refused(n),
+                wrong: 2,
+            },
+            Searched::Answered(b) => {
+                if nearer(b, a) {
+                    return Ruling {
+                        choice: behind_front(second, 2),
+                        wrong: 2,
+                    };
+                }
+                Ruling {
+                    choice: behind_front(first, 1),
+                    wrong: 2,
+                }
+            }
+        },
+    }
+}
+
 // ENTRY. The better of two cards for one book and sheet, by number, offset and length: the one with the lesser exact squared distance,
 // of equal ones the first. Refuses the files (1 to 17, 46), then the first card, then the second (31 to 39). The second clause says what
 // holds of the part that is named (Better-right), the third that it lies inside its card.
@@ -76,18 +116,8 @@ pub fn choose(book: &[u8], sheet: &[u8], first: &[u8], second: &[u8]) -> Choice
     ensures { λ r. ⌜ Better-right (now (book .entry)) (now (sheet .entry)) (now (first .entry)) (now (second .entry)) (r .refusal) (part-of r (now (first .entry)) (now (second .entry))) ⌝ }
     ensures { λ r. ⌜ r .offset + r .len ≤ length (numbered (r .card) (now (first .entry)) (now (second .entry))) ⌝ }
 {
-    match checked(book, sheet, first) {
-        Searched::Refused(n) => refused(n),
-        Searched::Answered(a) => match judged(book, sheet, second) {
-            Searched::Refused(n) => refused(n),
-            Searched::Answered(b) => {
-                if nearer(b, a) {
-                    return behind_front(second, 2);
-                }
-                behind_front(first, 1)
-            }
-        },
-    }
+    let ruling = judge_both(book, sheet, first, second);
+    ruling.choice
 }
 
 // The part of two cards that a choice names: its bytes, and in which card and where it starts.

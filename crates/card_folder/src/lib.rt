@@ -31,7 +31,8 @@ pub fn file_card(folder: &[u8]) {
     }
 }
 
-// Checks card.wcd against fleet.wbk and sheet.wsh in a folder, and prints the listing of the card's answer.
+// Checks card.wcd against fleet.wbk and sheet.wsh in a folder, and prints the listing of the card's answer; standard error says what is
+// known of a refusal.
 // A card that passes is a mixture with the squared distance, gap and verdict it states. That a search of so many steps finds it,
 // and so the bound on its distance by the steps, is not checked.
 pub fn check_card(folder: &[u8]) {
@@ -42,6 +43,8 @@ pub fn check_card(folder: &[u8]) {
     let m = file_io::read_in(folder, b"sheet.wsh", &mut sheet);
     let k = file_io::read_in(folder, b"card.wcd", &mut filed);
     let listed = card_listing::card_text(&book[..n], &sheet[..m], &filed[..k]);
-    refusal_output::tell_detail(&book[..n], &sheet[..m], listed.refusal);
+    let refusal = listed.refusal;
+    refusal_output::tell_detail(&book[..n], &sheet[..m], refusal);
+    refusal_output::tell_card(b"card.wcd", &book[..n], &sheet[..m], &filed[..k], refusal);
     file_io::print(listed.text);
 }

@@ -1,5 +1,6 @@
 -- `better_folder::file_better` meets its contract.
 use Rattle.refusal_output.proofs.Numbers.{choice-files}
+use Rattle.better_card.proofs.Wrong.{wrong-refused}
 use borrow.Author.Needs.{needs}
 use Rattle.better_folder.proofs.file_better.Statement.{statement}
 use Rattle.better_folder.proofs.file_better.Tie as tie
@@ -12,6 +13,7 @@ use Rattle.file_io.proofs.print.Reads as print-reads
 use Rattle.file_io.proofs.read_in.Reads as read-in-reads
 use Rattle.paths.proofs.path_in.Reads as path-in-reads
 use Rattle.refusal_output.proofs.tell_detail.Reads as tell-detail-reads
+use Rattle.better_folder.proofs.tell_card.Reads as tell-card-reads
 
 slice-aggregate-read-in : tie.Need-slice-aggregate-read-in
 slice-aggregate-read-in c = search needs
@@ -79,6 +81,9 @@ better-text-requires c κs = search needs
 tell-detail-requires : tie.Need-tell-detail-requires
 tell-detail-requires c κs = search (needs, choice-files)
 
+tell-card-requires : tie.Need-tell-card-requires
+tell-card-requires c κs = search (needs, wrong-refused)
+
 part-of-requires : tie.Need-part-of-requires
 part-of-requires c κs = search needs
 
@@ -98,7 +103,9 @@ replace-or-leave-requires : tie.Need-replace-or-leave-requires
 replace-or-leave-requires c κs = search needs
 
 print-requires : tie.Need-print-requires
-print-requires c κs = search needs
+print-requires c κs =
+    let at-listed = c .before .before .before .before .before .before .before .before .before .before .before in
+    at-listed .better-text .ensures .1 .1 .0 .fits
 
 returns : tie.Need-returns
 returns c = search needs
@@ -132,6 +139,7 @@ file-better-spec =
     first-bytes-requires-4
     better-text-requires
     tell-detail-requires
+    tell-card-requires
     part-of-requires
     slice-aggregate-path-in
     path-in-requires

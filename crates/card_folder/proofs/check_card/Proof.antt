@@ -1,4 +1,5 @@
 -- `card_folder::check_card` meets its contract.
+use mathlib.Core.Path.{sym}
 use Rattle.refusal_output.proofs.Numbers.{check-files}
 use borrow.Author.Needs.{needs}
 use Rattle.card_folder.proofs.check_card.Statement.{statement}
@@ -9,6 +10,7 @@ use Rattle.card_listing.proofs.card_text.Reads as card-text-reads
 use Rattle.file_io.proofs.print.Reads as print-reads
 use Rattle.file_io.proofs.read_in.Reads as read-in-reads
 use Rattle.refusal_output.proofs.tell_detail.Reads as tell-detail-reads
+use Rattle.refusal_output.proofs.tell_card.Reads as tell-card-reads
 
 slice-aggregate-read-in : tie.Need-slice-aggregate-read-in
 slice-aggregate-read-in c = search needs
@@ -73,6 +75,32 @@ slice-aggregate-tell-detail-2 c = search needs
 tell-detail-requires : tie.Need-tell-detail-requires
 tell-detail-requires c κs = check-files _ _ _ (c .before .before .card-text .ensures .0)
 
+slice-aggregate-tell-card : tie.Need-slice-aggregate-tell-card
+slice-aggregate-tell-card c = search needs
+
+array-share-prefix-book-3 : tie.Need-array-share-prefix-book-3
+array-share-prefix-book-3 c = search needs
+
+slice-aggregate-tell-card-2 : tie.Need-slice-aggregate-tell-card-2
+slice-aggregate-tell-card-2 c = search needs
+
+array-share-prefix-sheet-3 : tie.Need-array-share-prefix-sheet-3
+array-share-prefix-sheet-3 c = search needs
+
+slice-aggregate-tell-card-3 : tie.Need-slice-aggregate-tell-card-3
+slice-aggregate-tell-card-3 c = search needs
+
+array-share-prefix-filed-2 : tie.Need-array-share-prefix-filed-2
+array-share-prefix-filed-2 c = search needs
+
+slice-aggregate-tell-card-4 : tie.Need-slice-aggregate-tell-card-4
+slice-aggregate-tell-card-4 c = search needs
+
+tell-card-requires : tie.Need-tell-card-requires
+tell-card-requires c κs =
+    let at-told = c .before .before .before .before in
+    sym (at-told .before .before .before .card-text .ensures .0)
+
 print-requires : tie.Need-print-requires
 print-requires c κs = search needs
 
@@ -104,5 +132,13 @@ check-card-spec =
     array-share-prefix-sheet-2
     slice-aggregate-tell-detail-2
     tell-detail-requires
+    slice-aggregate-tell-card
+    array-share-prefix-book-3
+    slice-aggregate-tell-card-2
+    array-share-prefix-sheet-3
+    slice-aggregate-tell-card-3
+    array-share-prefix-filed-2
+    slice-aggregate-tell-card-4
+    tell-card-requires
     print-requires
     returns)

@@ -1,13 +1,14 @@
--- `better_card::choose` meets its contract.
+-- `better_card::judge_both` meets its contract.
 use mathlib.Core.Path.{_∙_}
 use mathlib.Core.List.{[]}
 use Rattle.files.proofs.Numbers.{all-bytes-known}
+use Rattle.better_card.proofs.Wrong.{first-wrong, second-wrong}
 use Rattle.better_card_promise.proofs.Choosing.{files-accepted, promised, first-refused, second-refused, first-inside, second-inside, first-chosen, second-chosen}
 use borrow.Author.Needs.{needs}
-use Rattle.better_card.proofs.choose.Statement.{statement}
-use Rattle.better_card.proofs.choose.Tie as tie
-use Rattle.better_card.proofs.choose.Reads as reads
-use Rattle.better_card.proofs.choose.Lts as lts
+use Rattle.better_card.proofs.judge_both.Statement.{statement}
+use Rattle.better_card.proofs.judge_both.Tie as tie
+use Rattle.better_card.proofs.judge_both.Reads as reads
+use Rattle.better_card.proofs.judge_both.Lts as lts
 use Rattle.better_card.proofs.behind_front.Reads as behind-front-reads
 use Rattle.better_card.proofs.checked.Reads as checked-reads
 use Rattle.better_card.proofs.judged.Reads as judged-reads
@@ -61,7 +62,7 @@ returns c =
     let at-a = at-second .before .before in
     let at-first = at-a .before .before in
     let at-slices = at-first .before in
-    promised _ _ _ _ (all-bytes-known _ (at-slices .before .shared-slice-known3 .given)) (all-bytes-known _ (at-slices .shared-slice-known4 .given)) (c .behind-front .ensures ∙ second-chosen _ _ _ _ (at-first .checked .ensures) (at-a .a .given .1) (at-second .judged .ensures) (at-b .b .given .1) (at-nearer .nearer .ensures) (c .before .if1 .taken))
+    (second-wrong _ _ _ (at-first .checked .ensures) (at-a .a .given .1), promised _ _ _ _ (all-bytes-known _ (at-slices .before .shared-slice-known3 .given)) (all-bytes-known _ (at-slices .shared-slice-known4 .given)) (c .behind-front .ensures ∙ second-chosen _ _ _ _ (at-first .checked .ensures) (at-a .a .given .1) (at-second .judged .ensures) (at-b .b .given .1) (at-nearer .nearer .ensures) (c .before .if1 .taken)))
 
 behind-front-requires-2 : tie.Need-behind-front-requires-2
 behind-front-requires-2 c κs =
@@ -78,7 +79,7 @@ returns-2 c =
     let at-n = c .before .before in
     let at-first = at-n .before .before in
     let at-slices = at-first .before in
-    promised _ _ _ _ (all-bytes-known _ (at-slices .before .shared-slice-known3 .given)) (all-bytes-known _ (at-slices .shared-slice-known4 .given)) (c .refused .ensures ∙ first-refused _ _ _ _ (at-first .checked .ensures) _ (at-n .n .given .1))
+    (first-wrong _ _ _ (at-first .checked .ensures) _ (at-n .n .given .1), promised _ _ _ _ (all-bytes-known _ (at-slices .before .shared-slice-known3 .given)) (all-bytes-known _ (at-slices .shared-slice-known4 .given)) (c .refused .ensures ∙ first-refused _ _ _ _ (at-first .checked .ensures) _ (at-n .n .given .1)))
 
 returns-3 : tie.Need-returns-3
 returns-3 c =
@@ -87,7 +88,7 @@ returns-3 c =
     let at-a = at-second .before .before in
     let at-first = at-a .before .before in
     let at-slices = at-first .before in
-    promised _ _ _ _ (all-bytes-known _ (at-slices .before .shared-slice-known3 .given)) (all-bytes-known _ (at-slices .shared-slice-known4 .given)) (c .refused2 .ensures ∙ second-refused _ _ _ _ (at-first .checked .ensures) (at-a .a .given .1) (at-second .judged .ensures) _ (at-n .n2 .given .1))
+    (second-wrong _ _ _ (at-first .checked .ensures) (at-a .a .given .1), promised _ _ _ _ (all-bytes-known _ (at-slices .before .shared-slice-known3 .given)) (all-bytes-known _ (at-slices .shared-slice-known4 .given)) (c .refused2 .ensures ∙ second-refused _ _ _ _ (at-first .checked .ensures) (at-a .a .given .1) (at-second .judged .ensures) _ (at-n .n2 .given .1)))
 
 returns-4 : tie.Need-returns-4
 returns-4 c =
@@ -97,10 +98,10 @@ returns-4 c =
     let at-a = at-second .before .before in
     let at-first = at-a .before .before in
     let at-slices = at-first .before in
-    promised _ _ _ _ (all-bytes-known _ (at-slices .before .shared-slice-known3 .given)) (all-bytes-known _ (at-slices .shared-slice-known4 .given)) (c .behind-front2 .ensures ∙ first-chosen _ _ _ _ (at-first .checked .ensures) (at-a .a .given .1) (at-second .judged .ensures) (at-b .b .given .1) (at-nearer .nearer .ensures) (c .before .if1 .left))
+    (second-wrong _ _ _ (at-first .checked .ensures) (at-a .a .given .1), promised _ _ _ _ (all-bytes-known _ (at-slices .before .shared-slice-known3 .given)) (all-bytes-known _ (at-slices .shared-slice-known4 .given)) (c .behind-front2 .ensures ∙ first-chosen _ _ _ _ (at-first .checked .ensures) (at-a .a .given .1) (at-second .judged .ensures) (at-b .b .given .1) (at-nearer .nearer .ensures) (c .before .if1 .left)))
 
-pub choose-spec : {M : Type 1} → statement M
-choose-spec =
+pub judge-both-spec : {M : Type 1} → statement M
+judge-both-spec =
     tie.close
     (tie.spec
     checked-requires
