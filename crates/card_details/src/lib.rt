@@ -15,7 +15,8 @@ ghost use Rattle.method.specs.Problem.{fixed, weight};
 ghost use Rattle.card_format.specs.Format.{card-fields, card-shares, card-answer};
 ghost use Rattle.card_format.specs.Checks.{check-refusal};
 ghost use Rattle.card_truth.specs.Readable.{Card-readable};
-ghost use Rattle.card_details.specs.Details.{said, counts, size-line, counts-line, steps-line, back-line, entry-fault, entry-line, entries-line, total-line, numbers-line, tolerance-line, form-line, truth-line, card-detail};
+ghost use Rattle.card_details.specs.Words.{ITS-SHARES};
+ghost use Rattle.card_details.specs.Details.{NEWLINE, said, counts, size-line, counts-line, steps-line, back-line, entry-fault, entry-line, entries-line, total-line, numbers-line, tolerance-line, form-line, truth-line, card-detail};
 use method::Answer;
 use method::Searched;
 use text::Text;
@@ -251,6 +252,14 @@ fn total_line(name: &[u8], book: &[u8], card: &[u8], shares: [u16; 256]) -> Text
     )
 }
 
+// The line of a number of a card and of the number that its shares have in its place.
+fn held(name: &[u8], words: &[u8], own: u64, found: u64) -> Text
+    requires { ⌜ length (now words) ≤ 100 ⌝ }
+    ensures { λ r. ⌜ Holds (counts (now (name .entry)) (now (words .entry)) own ITS-SHARES found NEWLINE) r ⌝ }
+{
+    counts(name, words, own, b", its shares ", found, b"\n")
+}
+
 // The line of a card whose numbers are not those of an answer.
 fn answer_line(name: &[u8], sheet: &[u8], card: &[u8], a: Answer) -> Text
     requires { ⌜ (16 ≤ length (now sheet)) × (36 ≤ length (now card)) ⌝ }
@@ -258,31 +267,17 @@ fn answer_line(name: &[u8], sheet: &[u8], card: &[u8], a: Answer) -> Text
 {
     let e = files::u64_at(card, card.len() - 24);
     if e != a.distance {
-        return counts(
-            name,
-            b" has the distance ",
-            e,
-            b", its shares ",
-            a.distance,
-            b"\n",
-        );
+        return held(name, b" has the distance ", e, a.distance);
     }
     let g = files::u64_at(card, card.len() - 16);
     if g != a.gap {
-        return counts(name, b" has the gap ", g, b", its shares ", a.gap, b"\n");
+        return held(name, b" has the gap ", g, a.gap);
     }
     let v = files::u16_at(card, card.len() - 32);
     let found = a.verdict;
     let verdict = verdicts::verdict_number(found);
     if v != verdict {
-        return counts(
-            name,
-            b" has the verdict ",
-            v as u64,
-            b", its shares ",
-            verdict as u64,
-            b"\n",
-        );
+        return held(name, b" has the verdict ", v as u64, verdict as u64);
     }
     let t = card_input::steps_used(card);
     counts(

@@ -6,6 +6,7 @@ use Rattle.card_details.proofs.answer_line.Tie as tie
 use Rattle.card_details.proofs.answer_line.Reads as reads
 use Rattle.card_details.proofs.answer_line.Lts as lts
 use Rattle.card_details.proofs.counts.Reads as counts-reads
+use Rattle.card_details.proofs.held.Reads as held-reads
 use Rattle.card_input.proofs.steps_used.Reads as steps-used-reads
 use Rattle.files.proofs.steps.Reads as steps-reads
 use Rattle.files.proofs.u16_at.Reads as u16-at-reads
@@ -18,17 +19,11 @@ sub-u64-at c = search needs
 u64-at-requires : tie.Need-u64-at-requires
 u64-at-requires c κs = search needs
 
-slice-aggregate-counts : tie.Need-slice-aggregate-counts
-slice-aggregate-counts c = search needs
+slice-aggregate-held : tie.Need-slice-aggregate-held
+slice-aggregate-held c = search needs
 
-slice-aggregate-counts-2 : tie.Need-slice-aggregate-counts-2
-slice-aggregate-counts-2 c = search needs
-
-slice-aggregate-counts-3 : tie.Need-slice-aggregate-counts-3
-slice-aggregate-counts-3 c = search needs
-
-counts-requires : tie.Need-counts-requires
-counts-requires c κs = search needs
+held-requires : tie.Need-held-requires
+held-requires c κs = search needs
 
 returns : tie.Need-returns
 returns c = search (needs, distance-told)
@@ -39,17 +34,11 @@ sub-u64-at-2 c = search needs
 u64-at-requires-2 : tie.Need-u64-at-requires-2
 u64-at-requires-2 c κs = search needs
 
-slice-aggregate-counts-4 : tie.Need-slice-aggregate-counts-4
-slice-aggregate-counts-4 c = search needs
+slice-aggregate-held-2 : tie.Need-slice-aggregate-held-2
+slice-aggregate-held-2 c = search needs
 
-slice-aggregate-counts-5 : tie.Need-slice-aggregate-counts-5
-slice-aggregate-counts-5 c = search needs
-
-slice-aggregate-counts-6 : tie.Need-slice-aggregate-counts-6
-slice-aggregate-counts-6 c = search needs
-
-counts-requires-2 : tie.Need-counts-requires-2
-counts-requires-2 c κs = search needs
+held-requires-2 : tie.Need-held-requires-2
+held-requires-2 c κs = search needs
 
 returns-2 : tie.Need-returns-2
 returns-2 c = search (needs, gap-told)
@@ -63,23 +52,17 @@ u16-at-requires c κs = search needs
 verdict-number-requires : tie.Need-verdict-number-requires
 verdict-number-requires c κs = search needs
 
-slice-aggregate-counts-7 : tie.Need-slice-aggregate-counts-7
-slice-aggregate-counts-7 c = search needs
+slice-aggregate-held-3 : tie.Need-slice-aggregate-held-3
+slice-aggregate-held-3 c = search needs
 
-cast-counts : tie.Need-cast-counts
-cast-counts c = search needs
+cast-held : tie.Need-cast-held
+cast-held c = search needs
 
-slice-aggregate-counts-8 : tie.Need-slice-aggregate-counts-8
-slice-aggregate-counts-8 c = search needs
+cast-held-2 : tie.Need-cast-held-2
+cast-held-2 c = search needs
 
-cast-counts-2 : tie.Need-cast-counts-2
-cast-counts-2 c = search needs
-
-slice-aggregate-counts-9 : tie.Need-slice-aggregate-counts-9
-slice-aggregate-counts-9 c = search needs
-
-counts-requires-3 : tie.Need-counts-requires-3
-counts-requires-3 c κs = search needs
+held-requires-3 : tie.Need-held-requires-3
+held-requires-3 c κs = search needs
 
 returns-3 : tie.Need-returns-3
 returns-3 c = search (needs, other-verdict)
@@ -87,26 +70,26 @@ returns-3 c = search (needs, other-verdict)
 steps-used-requires : tie.Need-steps-used-requires
 steps-used-requires c κs = search needs
 
-slice-aggregate-counts-10 : tie.Need-slice-aggregate-counts-10
-slice-aggregate-counts-10 c = search needs
+slice-aggregate-counts : tie.Need-slice-aggregate-counts
+slice-aggregate-counts c = search needs
 
-cast-counts-3 : tie.Need-cast-counts-3
-cast-counts-3 c = search needs
+cast-counts : tie.Need-cast-counts
+cast-counts c = search needs
 
-slice-aggregate-counts-11 : tie.Need-slice-aggregate-counts-11
-slice-aggregate-counts-11 c = search needs
+slice-aggregate-counts-2 : tie.Need-slice-aggregate-counts-2
+slice-aggregate-counts-2 c = search needs
 
 steps-requires : tie.Need-steps-requires
 steps-requires c κs = search needs
 
-cast-counts-4 : tie.Need-cast-counts-4
-cast-counts-4 c = search needs
+cast-counts-2 : tie.Need-cast-counts-2
+cast-counts-2 c = search needs
 
-slice-aggregate-counts-12 : tie.Need-slice-aggregate-counts-12
-slice-aggregate-counts-12 c = search needs
+slice-aggregate-counts-3 : tie.Need-slice-aggregate-counts-3
+slice-aggregate-counts-3 c = search needs
 
-counts-requires-4 : tie.Need-counts-requires-4
-counts-requires-4 c κs = search needs
+counts-requires : tie.Need-counts-requires
+counts-requires c κs = search needs
 
 returns-4 : tie.Need-returns-4
 returns-4 c = search (needs, spent-told)
@@ -117,34 +100,28 @@ answer-line-spec =
     (tie.spec
     sub-u64-at
     u64-at-requires
-    slice-aggregate-counts
-    slice-aggregate-counts-2
-    slice-aggregate-counts-3
-    counts-requires
+    slice-aggregate-held
+    held-requires
     returns
     sub-u64-at-2
     u64-at-requires-2
-    slice-aggregate-counts-4
-    slice-aggregate-counts-5
-    slice-aggregate-counts-6
-    counts-requires-2
+    slice-aggregate-held-2
+    held-requires-2
     returns-2
     sub-u16-at
     u16-at-requires
     verdict-number-requires
-    slice-aggregate-counts-7
-    cast-counts
-    slice-aggregate-counts-8
-    cast-counts-2
-    slice-aggregate-counts-9
-    counts-requires-3
+    slice-aggregate-held-3
+    cast-held
+    cast-held-2
+    held-requires-3
     returns-3
     steps-used-requires
-    slice-aggregate-counts-10
-    cast-counts-3
-    slice-aggregate-counts-11
+    slice-aggregate-counts
+    cast-counts
+    slice-aggregate-counts-2
     steps-requires
-    cast-counts-4
-    slice-aggregate-counts-12
-    counts-requires-4
+    cast-counts-2
+    slice-aggregate-counts-3
+    counts-requires
     returns-4)
