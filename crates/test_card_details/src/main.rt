@@ -71,7 +71,7 @@ fn each(cases: &[u8], count: u64) {
 }
 
 fn main() {
-    let mut cases = [0u8; 600000];
+    let mut cases = [0u8; 134000];
     let n = file_io::read_file(b"cases.dat", &mut cases);
     each(&cases[..n], 400);
 }

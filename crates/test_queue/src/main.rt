@@ -186,6 +186,6 @@ fn run(buffer: &mut [u8]) {
 }
 
 fn main() {
-    let mut cases = [0u8; 400000];
+    let mut cases = [0u8; 110000];
     run(&mut cases);
 }

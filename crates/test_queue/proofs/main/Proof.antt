@@ -7,7 +7,7 @@ use Rattle.test_queue.proofs.main.Statement.{statement}
 use Rattle.test_queue.proofs.main.Tie as tie
 
 slice-aggregate-run : tie.Need-slice-aggregate-run
-slice-aggregate-run c = sym (length-replicate {A = ℕ} 400000 0)
+slice-aggregate-run c = sym (length-replicate {A = ℕ} 110000 0)
 
 run-requires : tie.Need-run-requires
 run-requires c κs = search needs
