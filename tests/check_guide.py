@@ -12,6 +12,7 @@ import csv_books  # noqa: E402
 import csv_sheets  # noqa: E402
 import exact  # noqa: E402
 import leanings  # noqa: E402
+import origins  # noqa: E402
 import queues  # noqa: E402
 
 ROOT = os.path.join(HERE, "..")
@@ -40,7 +41,7 @@ def fault_lines(guide):
     said = {csv_books.made(case)[3] for case in [*csv_books.by_hand(), *csv_books.of_guide(), bytes(200001)]}
     said |= {csv_sheets.printed(*pair) for pair in [*csv_sheets.by_hand(), *csv_sheets.of_guide()]}
     said |= {name + b": not found in this folder" for name in (b"fleet.csv", b"sheet.csv")}
-    said = {line.decode("latin-1").strip() for line in said}
+    said = {line.decode("latin-1").strip() for line in [*said, origins.OLD_BOOK, origins.OLD_SHEET]}
     lines = re.findall(r"`((?:fleet|sheet)\.csv[ :][^`]*)`", guide)
     return lines, [line for line in lines if line not in said]
 

@@ -96,6 +96,12 @@ def made(data):
     return 0, 0, 0, lines.encode(), text + book
 
 
+def is_made(data, book):
+    """Whether a book is the one that a CSV makes; a CSV with a fault makes none."""
+    fault, *_, own = made(data)
+    return not fault and book == own
+
+
 # ---- cases by hand
 
 YARD = """boat,hull weight,mach weight,outfit weight,elec weight,aux weight,deck weight,LCG moment,VCG moment

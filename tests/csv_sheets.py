@@ -4,6 +4,7 @@ A file of cases has, for each, the length of the fleet's CSV in 2 bytes and that
 """
 import csv_books
 import csv_reader
+import exact
 from csv_books import YARD as FLEET
 from csv_books import quoted, table_of
 from exact import make_sheet
@@ -25,6 +26,24 @@ def printed(fleet, data):
     """The lines of a sheet, or the line of its fault; that of a fleet with a fault is the fleet's own."""
     fault, _, _, lines, _ = made(fleet, data)
     return csv_books.made(fleet)[3] if fault == csv_reader.FLEET else lines
+
+
+def front(sheet):
+    """The bytes before the body of a sheet that is not refused."""
+    (back, *_), before = exact.split(sheet, exact.SHEET_TRAILER)
+    return before[:len(before) - back]
+
+
+def is_made(fleet, data, sheet):
+    """Whether a sheet is the one that two CSVs make, in either edition. A fleet's CSV with a fault, or none, does not tell the order of the
+    columns: then whether the sheet's CSV is its front text."""
+    fault, *_, own = made(fleet, data)
+    if fault == csv_reader.FLEET:
+        return not exact.sheet_refusal_in(sheet, 1, exact.MOST_COLUMNS) and front(sheet) == data
+    if fault:
+        return False
+    refusal, _, size, other = exact.other_edition(own, bytes(csv_books.MOST_FILE))
+    return sheet == own or (not refusal and sheet == other[:size])
 
 
 # ---- cases by hand

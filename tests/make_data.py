@@ -16,6 +16,7 @@ import csv_sheets  # noqa: E402
 import details  # noqa: E402
 import leanings  # noqa: E402
 import merges  # noqa: E402
+import origins  # noqa: E402
 import queues  # noqa: E402
 import pairs  # noqa: E402
 import sheet_editions  # noqa: E402
@@ -181,6 +182,7 @@ def main():
     for crate, cases in (("test_book", csv_books), ("test_sheet", csv_sheets), ("test_rewriting", sheet_editions), ("test_merge", merges), ("test_lean", leanings), ("test_queue", queues), ("test_worked", workings)):
         data[crate] = {os.path.join(name, file): content for name, files in cases.FOLDERS.items() for file, content in files.items()}
         data[crate]["cases.dat"] = cases.file_of(cases.cases())
+    data["test_origin"] = {"cases.dat": origins.file_of(origins.cases())}
     data["test_details"] = {"cases.dat": details.file_of(details.cases())}
     data["test_card_details"] = {"cases.dat": card_details.file_of(card_details.cases())}
     data["test_program"] = {os.path.join(name, file): content for name, files in FOLDERS.items() for file, content in files.items()}

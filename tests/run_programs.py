@@ -23,6 +23,7 @@ import details  # noqa: E402
 import exact  # noqa: E402
 import leanings  # noqa: E402
 import merges  # noqa: E402
+import origins  # noqa: E402
 import queues  # noqa: E402
 import sheet_editions  # noqa: E402
 import workings  # noqa: E402
@@ -63,6 +64,24 @@ FILES = [
     ("other columns", {"fleet.wbk": exact.make_book(P, NAMED), "sheet.wsh": exact.make_sheet([1], steps=9, tolerance=1)}),
     ("value out of range, no sheet", {"fleet.wbk": WRONG_BOOK}),
 ]
+
+
+def old_folders():
+    """Folders with CSVs beside the files, old ones and others: of origins.py, where no byte stands for a file that is not there, then some with a folder
+    in the place of a CSV, and with an empty one."""
+    for name, *files in [*origins.by_hand(), *origins.too_long()]:
+        yield name, {file: data for file, data in zip(("fleet.csv", "sheet.csv", "fleet.wbk", "sheet.wsh"), files) if data}
+    changed = {"fleet.wbk": origins.BOOK, "sheet.wsh": origins.ASKED, "fleet.csv": origins.CHANGED, "sheet.csv": origins.WITH_FACTORS}
+    yield "both changed", changed
+    for file in ("fleet.csv", "sheet.csv"):
+        yield "both changed, no " + file, {name: data for name, data in changed.items() if name != file}
+        yield "both changed, %s a folder" % file, dict(changed, **{file: FOLDER})
+        yield "both changed, %s empty" % file, dict(changed, **{file: b""})
+    for file in ("fleet.wbk", "sheet.wsh"):
+        yield "both changed, %s a folder" % file, dict(changed, **{file: FOLDER})
+
+
+FILES += old_folders()
 
 
 def content(files, name):
@@ -155,7 +174,9 @@ READ = {
 }
 # The number that comes before the folder, as the usage names it and as it is tried, where a program takes one.
 NUMBERS = {"mixqueue": (b"ALLOWANCE", 9), "mixwork": (b"MOVES", 9)}
-FILED = {"mixcard": "card.wcd", "mixbetter": "better.wcd", "mixedition": "other.wsh", "mixmerge": "merged.wbk", "mixwork": "worked.wcd"}
+# What standard error says of files that were not made from the CSVs beside them, by the programs that look at them.
+OLD = {"mixlist": origins.old_files, "mixcard": origins.old_files, "mixcheck": origins.old_files, "mixwork": origins.old_files, "mixsheet": origins.old_book}
+FILED = {"mixbook": "fleet.wbk", "mixsheet": "sheet.wsh", "mixcard": "card.wcd", "mixbetter": "better.wcd", "mixedition": "other.wsh", "mixmerge": "merged.wbk", "mixwork": "worked.wcd"}
 
 
 def cards_in(files):
@@ -254,6 +275,8 @@ def told(program, files, refused=False, folder=""):
             lines.append((folder + name).encode() + b": not found in this folder\n")
         elif files[name] is FOLDER:
             lines.append((folder + name).encode() + b": could not be read whole\n")
+    if program in OLD:
+        lines.append(OLD[program](files))
     if program == "mixmerge":
         wrong = [name for name in READ[program] if exact.book_refusal(content(files, name))]
         lines.extend((folder + name).encode() + b": this book is refused\n" for name in wrong[:1])
@@ -275,11 +298,12 @@ def number_of(name):
 
 def check_output(program, files, runs):
     """Standard output takes no byte: standard error says so, and what is filed is filed all the same."""
-    number = number_of(os.path.basename(program))
+    name = os.path.basename(program)
+    number = number_of(name)
     with open("/dev/full", "wb") as full:
         _, err, left = run(program, files, arguments=number, output=full)
-    runs.expect("%s, no standard output" % os.path.basename(program),
-                (err, left) == (b"standard output: could not be written whole\n", run(program, files, arguments=number)[2]))
+    runs.expect("%s, no standard output" % name,
+                (err, left) == (told(name, files) + b"standard output: could not be written whole\n", run(program, files, arguments=number)[2]))
 
 
 def check_mixlist(program, runs):
@@ -345,8 +369,9 @@ def check_report(program, runs):
     report, arguments = MIXREPORT, ("--mixcheck", os.path.abspath(program))
     if is_installed(program):
         report, arguments = os.path.join(os.path.dirname(program), "mixreport"), ()
-    for name, before, listing in card_folders(("case a", "factors", "no book", "book of 40,001 bytes")):
+    for name, before, listing in card_folders(("case a", "factors", "no book", "book of 40,001 bytes", "both changed", "both changed, no sheet.csv", "in the other edition")):
         out, err, left = run(report, before, arguments=arguments)
+        runs.expect("mixreport, old files, " + name, b"".join(line for line in err.splitlines(True) if b"was made from" in line) == origins.old_files(before))
         reports = [left.pop(report, None) for report in ("report.txt", "report.html")]
         if listing.startswith(b"refused"):
             runs.expect("mixreport, " + name, (out, left, reports) == (listing, before, [None, None]) and card_told(before, ["card.wcd"]) in err)
@@ -392,6 +417,9 @@ def check_mixbetter(program, runs):
         runs.expect("mixbetter, " + name, run(program, before, read_only) == (b"", b"better.wcd: could not be written\n", before))
 
 
+BOOK_KEPT, SHEET_KEPT = b"fleet.wbk is as it was\n", b"sheet.wsh is as it was\n"
+
+
 def check_mixbook(program, runs):
     """The spreadsheets written by hand, with an older book or none, then files that are too long or folders."""
     for number, data in enumerate([*csv_books.by_hand(), *csv_books.of_guide()]):
@@ -400,12 +428,12 @@ def check_mixbook(program, runs):
             fault, _, _, lines, book = csv_books.made(data)
             after = before if fault else dict(before, **{"fleet.wbk": book})
             out, err, left = run(program, before)
-            runs.expect("mixbook, case %d, %s" % (number, older), (out, err, left) == ((b"", lines, after) if fault else (lines, b"", after)))
+            runs.expect("mixbook, case %d, %s" % (number, older), (out, err, left) == ((b"", lines + BOOK_KEPT, after) if fault else (lines, b"", after)))
     long = csv_books.YARD.ljust(200001, b"\n")
-    for name, before, fault in (("200,001 bytes", {"fleet.csv": long}, b"fleet.csv: more than 200000 bytes\n"),
-                                ("300,000 bytes", {"fleet.csv": long.ljust(300000, b"\n")}, b"fleet.csv: more than 200000 bytes\n"),
-                                ("no CSV", {"fleet.wbk": BOOK}, told("mixbook", {})),
-                                ("CSV a folder", {"fleet.csv": FOLDER}, told("mixbook", {"fleet.csv": FOLDER}))):
+    for name, before, fault in (("200,001 bytes", {"fleet.csv": long}, b"fleet.csv: more than 200000 bytes\n" + BOOK_KEPT),
+                                ("300,000 bytes", {"fleet.csv": long.ljust(300000, b"\n")}, b"fleet.csv: more than 200000 bytes\n" + BOOK_KEPT),
+                                ("no CSV", {"fleet.wbk": BOOK}, told("mixbook", {}, True)),
+                                ("CSV a folder", {"fleet.csv": FOLDER}, told("mixbook", {"fleet.csv": FOLDER}, True))):
         runs.expect("mixbook, " + name, run(program, before) == (b"", fault, before))
     before = {"fleet.csv": csv_books.YARD, "fleet.wbk": b"older book"}
     runs.expect("mixbook, no room", run(program, before, read_only=True) == (b"", b"fleet.wbk: could not be written\n", before))
@@ -421,13 +449,21 @@ def check_mixsheet(program, runs):
             before["sheet.wsh"] = b"older sheet"
         lines, sheet = csv_sheets.printed(fleet, data), csv_sheets.made(fleet, data)[4]
         after = dict(before, **{"sheet.wsh": sheet}) if sheet else before
-        runs.expect("mixsheet, case %d" % number, run(program, before) == ((lines, b"", after) if sheet else (b"", lines, before)))
+        runs.expect("mixsheet, case %d" % number, run(program, before) == ((lines, b"", after) if sheet else (b"", lines + SHEET_KEPT, before)))
     fleet, data = {"fleet.csv": csv_sheets.FLEET}, {"sheet.csv": csv_sheets.SHEET}
     long = dict(fleet, **{"sheet.csv": csv_sheets.SHEET.ljust(100000, b"\n")})
-    runs.expect("mixsheet, 100,000 bytes", run(program, long) == (b"", b"sheet.csv: more than 39000 bytes\n", long))
+    runs.expect("mixsheet, 100,000 bytes", run(program, long) == (b"", b"sheet.csv: more than 39000 bytes\n" + SHEET_KEPT, long))
     for name, before in (("no fleet", data), ("no sheet", fleet), ("no CSV", {}), ("fleet a folder", dict(data, **{"fleet.csv": FOLDER})),
                          ("sheet a folder", dict(fleet, **{"sheet.csv": FOLDER})), ("both folders", {"fleet.csv": FOLDER, "sheet.csv": FOLDER})):
-        runs.expect("mixsheet, " + name, run(program, before) == (b"", told("mixsheet", before), before))
+        for book in (None, BOOK):
+            before = before if book is None else dict(before, **{"fleet.wbk": book})
+            runs.expect("mixsheet, %s, %s" % (name, book), run(program, before) == (b"", told("mixsheet", before, True), before))
+    for name, before in old_folders():
+        if before.get("fleet.csv") is not None and before.get("sheet.csv") is not None:
+            lines, sheet = csv_sheets.printed(before["fleet.csv"], before["sheet.csv"]), csv_sheets.made(before["fleet.csv"], before["sheet.csv"])[4]
+            expected = (lines, told("mixsheet", before), dict(before, **{"sheet.wsh": sheet})) if sheet else (b"", told("mixsheet", before) + lines + SHEET_KEPT, before)
+            if before.get("sheet.wsh", b"") is not FOLDER:
+                runs.expect("mixsheet, " + name, run(program, before) == expected)
     for name, older, read_only in (("no room", b"older sheet", True), ("sheet.wsh a folder", FOLDER, False)):
         before = dict(fleet, **data, **{"sheet.wsh": older})
         runs.expect("mixsheet, " + name, run(program, before, read_only) == (b"", b"sheet.wsh: could not be written\n", before))
@@ -644,7 +680,7 @@ def check_script(place, runs):
     """The script in bin: bytes of a name that are no ASCII, another shell, a link to it, and a program that is not there."""
     name = bytes(range(127, 256))
     data = b'boat,a\n"' + name + b'",1.5\n'
-    line = csv_books.made(data)[3]
+    line = csv_books.made(data)[3] + BOOK_KEPT
     mixbook = os.path.join(place, "mixbook")
     runs.expect("mixbook, all bytes above 126", name in line and run(mixbook, {"fleet.csv": data}) == (b"", line, {"fleet.csv": data}))
     with tempfile.TemporaryDirectory() as folder:

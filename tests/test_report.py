@@ -30,6 +30,7 @@ sys.path[:0] = [HERE, os.path.join(ROOT, "report")]
 import csv_books  # noqa: E402
 import csv_sheets  # noqa: E402
 import exact  # noqa: E402
+import origins  # noqa: E402
 import decimals  # noqa: E402
 import names  # noqa: E402
 import page  # noqa: E402
@@ -760,9 +761,12 @@ def sha256(content):
 # ---------------------------------------------------------------- runs
 
 STANDS_FOR_MIXCHECK = """#!%s
+import os
 import sys
 sys.path.insert(0, %r)
 import exact
+import origins
+sys.stderr.buffer.write(origins.old_files({name: exact.read_file(name) for name in os.listdir(".")}))
 sys.stdout.buffer.write(exact.card_listing(*(exact.read_file(name) for name in ("fleet.wbk", "sheet.wsh", "card.wcd"))))
 """ % (sys.executable, HERE)
 PRINTS = "#!%s\nprint(%%r, end='')\n" % sys.executable
@@ -799,6 +803,9 @@ def runs():
     agree("a report with factors", (code, err, "The factors total 3." in " ".join(left["report.txt"].decode().split())), (0, "", True))
     code, out, err, left = run(dict(factored, **{"sheet.wsh": other["sheet.wsh"]}), STANDS_FOR_MIXCHECK)
     agree("by other factors", (code, out, sorted(left)), (1, "refused 38\n", sorted(factored)))
+    for label, fleet in (("old files", origins.CHANGED), ("a CSV that is too long", bytes(2000000))):
+        code, out, err, left = run(dict(files, **{"fleet.csv": fleet, "sheet.csv": b"another"}), STANDS_FOR_MIXCHECK)
+        agree(label, (code, err.encode(), "report.txt" in left), (0, origins.OLD_BOOK + origins.OLD_SHEET, True))
     tampered = dict(files, **{"card.wcd": files["card.wcd"][:2] + b"\x0c" + files["card.wcd"][3:]})
     without = {name: files[name] for name in ("fleet.wbk", "sheet.wsh")}
     for label, these, mixcheck, line, said in (

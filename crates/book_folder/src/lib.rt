@@ -3,11 +3,12 @@
 
 // Makes the book of fleet.csv in a folder, files it there as fleet.wbk and prints its boats, columns and front text. The current folder
 // has no name. Where the CSV is missing or has a fault, or the book cannot be written, an older fleet.wbk stays as it was, and standard
-// error says what is wrong. One byte more is read than a CSV may have, so that a longer one is refused and not cut.
+// error says what is wrong, and of a CSV also that. One byte more is read than a CSV may have, so that a longer one is refused and not cut.
 pub fn file_book(folder: &[u8]) {
     let mut csv = [0u8; 200001];
     let content = file_io::content_in(folder, b"fleet.csv", &mut csv);
     if !content.there {
+        file_io::tell_kept(folder, b"fleet.wbk");
         return;
     }
     let n = content.len;
@@ -15,6 +16,7 @@ pub fn file_book(folder: &[u8]) {
     let made = csv_book::csv_book(&csv[..n], &mut output);
     if made.fault != 0 {
         file_io::tell_text(csv_book_text::fleet_fault(&csv[..n], made));
+        file_io::tell_kept(folder, b"fleet.wbk");
         return;
     }
     let path = paths::path_in(folder, b"fleet.wbk");

@@ -1,6 +1,7 @@
 // The work of mixcard and mixcheck, in a folder that the caller names. What the system reads and writes no contract can say;
 // test_program holds what is printed and filed to the reference.
 // Of each file one byte more is read than it may have, so that a longer file is refused and not cut.
+// Of both standard error says where a CSV in the folder is not what the book or the sheet was made from.
 
 // Files the card of a search, which has no bytes where the search is refused; what is in the way goes to standard error.
 // Whether there is a listing to print.
@@ -20,6 +21,7 @@ pub fn file_card(folder: &[u8]) {
     let mut sheet = [0u8; 40001];
     let n = file_io::read_in(folder, b"fleet.wbk", &mut book);
     let m = file_io::read_in(folder, b"sheet.wsh", &mut sheet);
+    old_files::tell_old(folder, &book[..n], &sheet[..m]);
     let mut output = [0u8; card_listing::MOST_CARD];
     let filing = card_listing::filed_text(&book[..n], &sheet[..m], &mut output);
     refusal_output::tell_detail(&book[..n], &sheet[..m], filing.refusal);
@@ -42,9 +44,13 @@ pub fn check_card(folder: &[u8]) {
     let n = file_io::read_in(folder, b"fleet.wbk", &mut book);
     let m = file_io::read_in(folder, b"sheet.wsh", &mut sheet);
     let k = file_io::read_in(folder, b"card.wcd", &mut filed);
-    let listed = card_listing::card_text(&book[..n], &sheet[..m], &filed[..k]);
+    let fleet = file_io::first_bytes(&book, n);
+    let asked = file_io::first_bytes(&sheet, m);
+    let card = file_io::first_bytes(&filed, k);
+    old_files::tell_old(folder, fleet, asked);
+    let listed = card_listing::card_text(fleet, asked, card);
     let refusal = listed.refusal;
-    refusal_output::tell_detail(&book[..n], &sheet[..m], refusal);
-    refusal_output::tell_card(b"card.wcd", &book[..n], &sheet[..m], &filed[..k], refusal);
+    refusal_output::tell_detail(fleet, asked, refusal);
+    refusal_output::tell_card(b"card.wcd", fleet, asked, card, refusal);
     file_io::print(listed.text);
 }

@@ -48,25 +48,16 @@ fn tell_unopened(path: &[u8]) {
     }
 }
 
-// Reads a file into a buffer. One with more bytes than the buffer fills it. A file that cannot be opened, or whose reading fails on
-// the way, is not there and counts as empty, and standard error says so. Left free: which bytes are read, those of the buffer behind the
-// count, and all of them after a read that failed.
-pub fn content_of(path: &[u8], buffer: &mut [u8]) -> Content
+// Reads an open file into a buffer and closes it. One with more bytes than the buffer fills it. A file whose reading fails on the way is
+// not there and counts as empty. Left free: which bytes are read, those of the buffer behind the count, and all of them after a read that
+// failed.
+fn content_at(fd: i32, buffer: &mut [u8]) -> Content
     ensures { λ r. ⌜ Counts (r .len) (now (buffer .exit)) ⌝ }
 {
-    let fd = os::open_read(path);
-    if fd < 0 {
-        tell_unopened(path);
-        return Content {
-            there: false,
-            len: 0,
-        };
-    }
     let n = io::read_full(fd, buffer);
     if n < buffer.len() {
         if !at_end(fd) {
             libc::close(fd);
-            tell(path, b": could not be read whole\n");
             return Content {
                 there: false,
                 len: 0,
@@ -78,6 +69,26 @@ pub fn content_of(path: &[u8], buffer: &mut [u8]) -> Content
         there: true,
         len: n,
     }
+}
+
+// Reads a file into a buffer. One that cannot be opened, or whose reading fails on the way, is not there and counts as empty, and standard
+// error says so.
+pub fn content_of(path: &[u8], buffer: &mut [u8]) -> Content
+    ensures { λ r. ⌜ Counts (r .len) (now (buffer .exit)) ⌝ }
+{
+    let fd = os::open_read(path);
+    if fd < 0 {
+        tell_unopened(path);
+        return Content {
+            there: false,
+            len: 0,
+        };
+    }
+    let content = content_at(fd, buffer);
+    if !content.there {
+        tell(path, b": could not be read whole\n");
+    }
+    content
 }
 
 // The same, for a caller to whom a file that is not there is an empty one: how many of its bytes are in the buffer.
@@ -101,6 +112,23 @@ pub fn read_in(folder: &[u8], name: &[u8], buffer: &mut [u8]) -> usize
     ensures { λ r. ⌜ Counts r (now (buffer .exit)) ⌝ }
 {
     content_in(folder, name, buffer).len
+}
+
+// The same of a file that need not be there: standard error says nothing.
+pub fn found_in(folder: &[u8], name: &[u8], buffer: &mut [u8]) -> Content
+    ensures { λ r. ⌜ Counts (r .len) (now (buffer .exit)) ⌝ }
+{
+    let path = paths::path_in(folder, name);
+    let bytes = path.bytes;
+    let len = path.len;
+    let fd = os::open_read(first_bytes(&bytes, len));
+    if fd < 0 {
+        return Content {
+            there: false,
+            len: 0,
+        };
+    }
+    content_at(fd, buffer)
 }
 
 // Writes a new file whole, lets everybody read it, and closes it. Whether all of that was done.
@@ -162,6 +190,13 @@ pub fn replace_or_leave(path: &[u8], buffer: &[u8], len: usize) -> bool {
         return true;
     }
     replace_or_tell(path, first_bytes(buffer, len))
+}
+
+// Says on standard error that a file in a folder is as it was.
+pub fn tell_kept(folder: &[u8], name: &[u8]) {
+    let path = paths::path_in(folder, name);
+    let bytes = path.bytes;
+    tell(first_bytes(&bytes, path.len), b" is as it was\n");
 }
 
 // Prints a text. Where standard output does not take all of it, standard error says so.

@@ -20,6 +20,7 @@ fn file_made(folder: &[u8], fleet: &[u8], csv: &[u8]) {
     let made = csv_sheet::csv_sheet(fleet, csv, &mut output);
     if made.fault != 0 {
         tell_fault(fleet, csv, made);
+        file_io::tell_kept(folder, b"sheet.wsh");
         return;
     }
     let path = paths::path_in(folder, b"sheet.wsh");
@@ -30,21 +31,33 @@ fn file_made(folder: &[u8], fleet: &[u8], csv: &[u8]) {
     }
 }
 
+// Says that fleet.csv is not what the fleet.wbk of a folder was made from, where there is one.
+fn tell_old_book(folder: &[u8], fleet: &[u8]) {
+    let mut book = [0u8; 40001];
+    let content = file_io::found_in(folder, b"fleet.wbk", &mut book);
+    let n = content.len;
+    old_files::tell_book(fleet, &book[..n]);
+}
+
 // Makes the sheet of fleet.csv and sheet.csv in a folder, files it there as sheet.wsh and prints its lines. The current folder has no
 // name. Where a CSV is missing or has a fault, or the sheet cannot be written, an older sheet.wsh stays as it was, and standard error says
-// what is wrong. One byte more is read than a CSV may have, so that a longer one is refused and not cut.
+// what is wrong, and of a CSV also that. It says too where a fleet.wbk was not made from fleet.csv. One byte more is read than a CSV may have,
+// so that a longer one is refused and not cut.
 pub fn file_sheet(folder: &[u8]) {
     let mut fleet = [0u8; 200001];
     let mut csv = [0u8; 39001];
     let first = file_io::content_in(folder, b"fleet.csv", &mut fleet);
     let second = file_io::content_in(folder, b"sheet.csv", &mut csv);
-    if !first.there {
-        return;
-    }
-    if !second.there {
-        return;
-    }
     let n = first.len;
     let m = second.len;
+    if !first.there {
+        file_io::tell_kept(folder, b"sheet.wsh");
+        return;
+    }
+    tell_old_book(folder, &fleet[..n]);
+    if !second.there {
+        file_io::tell_kept(folder, b"sheet.wsh");
+        return;
+    }
     file_made(folder, &fleet[..n], &csv[..m]);
 }

@@ -26,13 +26,15 @@ fn tell_working(refusal: u32) {
 
 // Searches fleet.wbk and sheet.wsh in a folder, works the search over by at most so many moves where it ends Spent, files the card of the
 // result there as worked.wcd and prints its listing. The current folder has no name. Where the call is refused or the card cannot be written,
-// an older worked.wcd stays as it was, and standard error says so, with what is known of the refusal. Of each file one byte more is
+// an older worked.wcd stays as it was, and standard error says so, with what is known of the refusal. It says too
+// where a CSV in the folder is not what the book or the sheet was made from. Of each file one byte more is
 // read than it may have, so that a longer file is refused and not cut.
 pub fn file_worked(folder: &[u8], moves: u32) {
     let mut book = [0u8; 40001];
     let mut sheet = [0u8; 40001];
     let n = file_io::read_in(folder, b"fleet.wbk", &mut book);
     let m = file_io::read_in(folder, b"sheet.wsh", &mut sheet);
+    old_files::tell_old(folder, &book[..n], &sheet[..m]);
     let mut output = [0u8; card_listing::MOST_CARD];
     let filing = worked_listing::worked_text(&book[..n], &sheet[..m], moves, &mut output);
     refusal_output::tell_detail(&book[..n], &sheet[..m], filing.refusal);
