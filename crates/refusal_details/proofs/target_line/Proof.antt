@@ -11,7 +11,7 @@ use borrow.Author.Needs.{needs}
 use Rattle.refusal_details.proofs.target_line.Statement.{statement}
 use Rattle.refusal_details.proofs.target_line.Tie as tie
 
-found : (c : tie.After-first-out) → (let s = c .before .before .before .before .before .before .args .sheet .now in Out-at (sheet s .target) s (c .before .before .sheet-body .result) (c .first-out .result))
+found : (c : tie.After-first-out) → (let at-sheet-body = c .before .before in let start = at-sheet-body .before .before .before .before in let s = start .args .sheet .now in Out-at (sheet s .target) s (at-sheet-body .sheet-body .result) (c .first-out .result))
 found c =
     let start = c .before .before .before .before .before .before in
     target-found _ _ (start .pre .1) (c .before .before .sheet-body .ensures) (c .before .sheet-columns .ensures .0) (c .first-out .ensures)

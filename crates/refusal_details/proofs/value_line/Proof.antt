@@ -13,10 +13,10 @@ use borrow.Author.Needs.{needs}
 use Rattle.refusal_details.proofs.value_line.Statement.{statement}
 use Rattle.refusal_details.proofs.value_line.Tie as tie
 
-product : (c : tie.After-boats) → (let b = c .before .before .before .before .before .args .book .now in c .boats .result * c .before .before .columns .result ≡ boats b * columns b)
+product : (c : tie.After-boats) → (let at-columns = c .before .before in let start = at-columns .before .before .before in let b = start .args .book .now in c .boats .result * at-columns .columns .result ≡ boats b * columns b)
 product c = rw (c .boats .ensures, c .before .before .columns .ensures .0)
 
-found : (c : tie.After-first-out) → (let b = c .before .before .before .before .before .before .args .book .now in Out-at (book-values b) b (c .before .before .before .before .book-body .result) (c .first-out .result))
+found : (c : tie.After-first-out) → (let at-columns = c .before .before .before in let start = at-columns .before .before .before in let b = start .args .book .now in Out-at (book-values b) b (at-columns .before .book-body .result) (c .first-out .result))
 found c =
     let at-columns = c .before .before .before in
     book-found _ (at-columns .before .before .before .pre) (at-columns .before .book-body .ensures) (c .before .boats .ensures) (at-columns .columns .ensures .0) (c .first-out .ensures)

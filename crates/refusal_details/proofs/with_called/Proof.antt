@@ -17,7 +17,7 @@ inside c =
     let long : length (c .put-cell .last .1 .1 .1 .0) ≡ 200 = search needs in
     omega (arith, c .put-cell .ensures .1 .0)
 
-name-is : (c : tie.After-put-cell) → (let x = c .before .before .before .before .args in take (c .put-cell .result) (c .put-cell .last .1 .1 .1 .0) ≡ cell-text (x .row) (x .field) (x .csv .now))
+name-is : (c : tie.After-put-cell) → (let start = c .before .before .before .before in let x = start .args in take (c .put-cell .result) (c .put-cell .last .1 .1 .1 .0) ≡ cell-text (x .row) (x .field) (x .csv .now))
 name-is c =
     let start = c .before .before .before .before in
     let x = start .args in
