@@ -1,4 +1,6 @@
--- `queue_rounds::clear_parts` meets its contract; `Inv-loop` is what its loop keeps.
+-- `queue_rounds::clear_parts` meets its contract. The loop keeps `Cleared`: in the first i parts the slots of the boats are 0 and the others as they were, and so are all slots behind these parts.
+-- A turn sets the slots of the boats in part i to 0.
+-- It ends: the parts that are left fall by one.
 use mathlib.Core.Path.{_≡_, refl, sym, _∙_}
 use native.Mathlib.Omega.{arith}
 use borrow.Author.Needs.{needs}

@@ -1,4 +1,6 @@
--- `queue_rounds::judge_sheets` meets its contract.
+-- `queue_rounds::judge_sheets` meets its contract. The loop keeps `Unrefused`: the first i sheets are accepted, and those that are left decide as all do.
+-- A turn judges sheet i; a refusal ends the function.
+-- It ends: the sheets that are left fall by one.
 use mathlib.Core.Path.{_≡_, refl, sym, _∙_}
 use native.Mathlib.Omega.{arith}
 use borrow.Author.Needs.{needs}
@@ -9,7 +11,6 @@ use Rattle.queue_rounds.proofs.Sheets.{sheet-count, Unrefused, unrefuse
 use Rattle.queue_rounds.proofs.judge_sheets.Statement.{statement}
 use Rattle.queue_rounds.proofs.judge_sheets.Tie as tie
 
--- the first i sheets are accepted, and those that are left decide; a turn judges the next; the sheets that are left grow fewer
 abbrev Inv-loop : tie.InvT-loop
 Inv-loop plan columns sheets count i₀ i = (i ≤ plan .count) × Unrefused columns (plan-sheets plan sheets) i
 

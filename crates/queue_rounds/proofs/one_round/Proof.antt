@@ -1,4 +1,6 @@
--- `queue_rounds::one_round` meets its contract; `Inv-loop` is what its loop keeps.
+-- `queue_rounds::one_round` meets its contract. The loop keeps `Partway`: the turns of the sheets from i on end where the whole round ends; `Working` holds, and slots that are no shares are as they were.
+-- A turn of the loop gives sheet i its turn.
+-- It ends: the sheets that are left fall by one.
 use mathlib.Core.Path.{_≡_, refl, sym, _∙_}
 use native.Mathlib.Omega.{arith}
 use borrow.Author.Needs.{needs}

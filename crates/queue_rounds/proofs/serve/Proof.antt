@@ -1,4 +1,6 @@
--- `queue_rounds::serve` meets its contract; `Inv-loop` is what its loop keeps.
+-- `queue_rounds::serve` meets its contract. The loop keeps `Serving`: the steps used are those after some number of whole rounds, and with the steps left they are the allowance; `Working` holds, and slots that are no shares are as they were.
+-- A turn makes one more round; where it takes no step, no later round takes one, and the function returns.
+-- It ends: a round that takes a step leaves fewer steps of the allowance.
 use mathlib.Core.Path.{_≡_, refl, sym, _∙_}
 use native.Mathlib.Omega.{arith}
 use borrow.Author.Needs.{needs}

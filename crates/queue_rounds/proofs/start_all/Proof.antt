@@ -1,4 +1,6 @@
--- `queue_rounds::start_all` meets its contract; `Inv-loop` is what its loop keeps.
+-- `queue_rounds::start_all` meets its contract. The loop keeps `Started-to`: the first i sheets have their first states.
+-- A turn puts the first state of sheet i.
+-- It ends: the sheets that are left fall by one.
 use mathlib.Core.Path.{_≡_, refl, sym, _∙_}
 use native.Mathlib.Omega.{arith}
 use borrow.Author.Needs.{needs}

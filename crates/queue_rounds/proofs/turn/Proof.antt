@@ -3,6 +3,8 @@ use mathlib.Core.Path.{_≡_, refl, sym, _∙_}
 use native.Mathlib.Omega.{arith}
 use borrow.Author.Needs.{needs}
 use lib.ListN.{length}
+use Prim.Native.Nat.{_+_, _*_, _-_}
+use borrow.Rule.Slice.PartMut.{midOf}
 use borrow.Author.Tests.{not-true, not-false}
 use Rattle.queue_rounds.proofs.Turns.{waits}
 use Rattle.queue_rounds.proofs.Works.{own-length, rest-same, i-few, slots-room, scores-room, turn-asks, took-asks, turn-turned, turn-rest, turn-works}
@@ -102,15 +104,26 @@ took-requires c κs =
     let start = at-due .before .before .before .before .before in
     let p = start .pre in took-asks (p .1) (p .0) (sym (at-due .due .ensures) ∙ not-false (at-due .due .result) (at-if1 .if1 .left))
 
+-- a turn keeps the length of the part of the scores that it is lent
+scores-kept : (c : tie.After-turn) → (let at-sheet-at = c .before .before .before .before .before .before in let at-due = at-sheet-at .before .before in let start = at-due .before .before .before .before .before in let x = start .args in
+    length (c .turn .last .1 .1 .1 .1 .0) ≡ length (midOf (256 * x .i) (256 * x .i + 256 - 256 * x .i) (x .scores .now)))
+scores-kept c = search (needs, c .turn .ok)
+
 returns-2 : tie.Need-returns-2
 returns-2 c =
-    let p = c .before .before .before .before .before .before .before .before .before .before .before .before .before .before .before .before .before .before .before .pre in
-    let d = sym (c .before .before .before .before .before .before .before .before .before .before .before .before .before .before .due .ensures) ∙ not-false (c .before .before .before .before .before .before .before .before .before .before .before .before .before .before .due .result) (c .before .before .before .before .before .before .before .before .before .before .before .before .before .if1 .left) in
-    let e = c .before .before .before .before .before .before .before .before .before .before .before .before .sheet-at .ensures in
-    let h = c .before .before .before .before .before .before .turn .ensures in
+    let at-turn = c .before .before .before .before .before .before in
+    let at-sheet-at = at-turn .before .before .before .before .before .before in
+    let at-if1 = at-sheet-at .before in
+    let at-due = at-if1 .before in
+    let start = at-due .before .before .before .before .before in
+    let p = start .pre in
+    let d = sym (at-due .due .ensures) ∙ not-false (at-due .due .result) (at-if1 .if1 .left) in
+    let e = at-sheet-at .sheet-at .ensures in
+    let h = at-turn .turn .ensures in
+    let l = scores-kept at-turn in
     rw (c .took .ensures) (
-      turn-works (p .1) (p .0) d e (h .0) (h .1 .0) (h .1 .1 .0) (h .1 .1 .1) (search (needs, c .before .before .before .before .before .before .turn .ok)),
-      (turn-turned (p .1) (p .0) d e (h .0) (h .1 .0) (h .1 .1 .0) (h .1 .1 .1) (search (needs, c .before .before .before .before .before .before .turn .ok)), turn-rest (p .1) (p .0) d e (h .0) (h .1 .0) (h .1 .1 .0) (h .1 .1 .1) (search (needs, c .before .before .before .before .before .before .turn .ok))),
+      turn-works (p .1) (p .0) d e (h .0) (h .1 .0) (h .1 .1 .0) (h .1 .1 .1) l,
+      (turn-turned (p .1) (p .0) d e (h .0) (h .1 .0) (h .1 .1 .0) (h .1 .1 .1) l, turn-rest (p .1) (p .0) d e (h .0) (h .1 .0) (h .1 .1 .0) (h .1 .1 .1) l),
     )
 
 pub turn-spec : {M : Type 1} → statement M
