@@ -40,8 +40,10 @@ returns-3 c =
 returns-4 : tie.Need-returns-4
 returns-4 c =
     let at-last = c .before in
-    let start = at-last .before .before .before .before .before in
-    told-other _ _ (start .pre) (at-last .before .before .if1 .left) (at-last .before .if2 .left) (at-last .if3 .left) (c .empty .ensures)
+    let at-if2 = at-last .before in
+    let at-if1 = at-if2 .before in
+    let start = at-if1 .before .before .before in
+    told-other _ _ (start .pre) (at-if1 .if1 .left) (at-if2 .if2 .left) (at-last .if3 .left) (c .empty .ensures)
 
 pub known-detail-spec : {M : Type 1} → statement M
 known-detail-spec =

@@ -43,8 +43,10 @@ slice-aggregate-result c =
 returns : tie.Need-returns
 returns c =
     let at-names = c .before .before in
-    let at-book-body = at-names .before .before .before .before in
-    named _ (at-book-body .book-body .ensures) (at-names .before .before .boats .ensures) (at-names .before .columns .ensures .0) (at-names .names-all .ensures) (c .before .if1 .taken)
+    let at-columns = at-names .before in
+    let at-boats = at-columns .before in
+    let at-book-body = at-boats .before .before in
+    named _ (at-book-body .book-body .ensures) (at-boats .boats .ensures) (at-columns .columns .ensures .0) (at-names .names-all .ensures) (c .before .if1 .taken)
 
 slice-aggregate-result-2 : tie.Need-slice-aggregate-result-2
 slice-aggregate-result-2 c = search needs
@@ -52,8 +54,10 @@ slice-aggregate-result-2 c = search needs
 returns-2 : tie.Need-returns-2
 returns-2 c =
     let at-names = c .before .before in
-    let at-book-body = at-names .before .before .before .before in
-    nameless _ (at-book-body .book-body .ensures) (at-names .before .before .boats .ensures) (at-names .before .columns .ensures .0) (at-names .names-all .ensures) (c .before .if1 .left) {k = 0} refl
+    let at-columns = at-names .before in
+    let at-boats = at-columns .before in
+    let at-book-body = at-boats .before .before in
+    nameless _ (at-book-body .book-body .ensures) (at-boats .boats .ensures) (at-columns .columns .ensures .0) (at-names .names-all .ensures) (c .before .if1 .left) {k = 0} refl
 
 pub names-csv-spec : {M : Type 1} → statement M
 names-csv-spec =

@@ -13,13 +13,15 @@ use Rattle.refusal_details.proofs.target_line.Tie as tie
 
 found : (c : tie.After-first-out) → (let at-sheet-body = c .before .before in let start = at-sheet-body .before .before .before .before in let s = start .args .sheet .now in Out-at (sheet s .target) s (at-sheet-body .sheet-body .result) (c .first-out .result))
 found c =
-    let start = c .before .before .before .before .before .before in
-    target-found _ _ (start .pre .1) (c .before .before .sheet-body .ensures) (c .before .sheet-columns .ensures .0) (c .first-out .ensures)
+    let at-sheet-body = c .before .before in
+    let start = at-sheet-body .before .before .before .before in
+    target-found _ _ (start .pre .1) (at-sheet-body .sheet-body .ensures) (c .before .sheet-columns .ensures .0) (c .first-out .ensures)
 
 front-few : (c : tie.After-first-out) → length (c .before .before .before .names-csv .result .now) ≤ 200000
 front-few c =
-    let start = c .before .before .before .before .before .before in
-    rw (c .before .before .before .names-csv .ensures) (omega (arith, few-names (start .args .book .now), book-accepted _ (start .pre .0) .at-most))
+    let at-names-csv = c .before .before .before in
+    let start = at-names-csv .before .before .before in
+    rw (at-names-csv .names-csv .ensures) (omega (arith, few-names (start .args .book .now), book-accepted _ (start .pre .0) .at-most))
 
 names-csv-requires : tie.Need-names-csv-requires
 names-csv-requires c κs = let o = book-accepted _ (c .before .before .pre .0) in (o .whole, (o .at-most, o .some-columns))

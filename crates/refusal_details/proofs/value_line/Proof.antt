@@ -23,13 +23,15 @@ found c =
 
 front-few : (c : tie.After-first-out) → length (c .before .before .names-csv .result .now) ≤ 200000
 front-few c =
-    let start = c .before .before .before .before .before .before in
-    rw (c .before .before .names-csv .ensures) (omega (arith, few-names (start .args .book .now), found c .few))
+    let at-names-csv = c .before .before in
+    let start = at-names-csv .before .before .before .before in
+    rw (at-names-csv .names-csv .ensures) (omega (arith, few-names (start .args .book .now), found c .few))
 
 some-columns : (c : tie.After-first-out) → 0 < c .before .before .before .columns .result
 some-columns c =
-    let start = c .before .before .before .before .before .before in
-    omega (arith, c .before .before .before .columns .ensures .0, book-out _ (start .pre) .some-columns)
+    let at-columns = c .before .before .before in
+    let start = at-columns .before .before .before in
+    omega (arith, at-columns .columns .ensures .0, book-out _ (start .pre) .some-columns)
 
 small-boat : (c : tie.After-first-out) → c .first-out .result / c .before .before .before .columns .result < 65536
 small-boat c = let o = found c in omega (arith, div-le-self (c .first-out .result) (c .before .before .before .columns .result), o .inside, o .few)
@@ -59,9 +61,10 @@ mul-first-out c =
 
 first-out-requires : tie.Need-first-out-requires
 first-out-requires c κs =
-    let start = c .before .before .before .before .before in
+    let at-book-body = c .before .before .before in
+    let start = at-book-body .before .before in
     let o = book-out _ (start .pre) in
-    omega (arith, product c, c .before .before .before .book-body .ensures, o .whole)
+    omega (arith, product c, at-book-body .book-body .ensures, o .whole)
 
 div-i : tie.Need-div-i
 div-i c = some-columns c
@@ -102,9 +105,10 @@ slice-aggregate-with-called-2 c = search needs
 
 with-called-requires-2 : tie.Need-with-called-requires-2
 with-called-requires-2 c κs =
-    let at-first = c .before .before .before .before .before .before .before in
     let at-begun = c .before .before .before .before in
-    (omega (arith, c .before .with-called .ensures .1, at-begun .with-bytes .ensures .length-is, at-begun .before .before .empty .ensures .length-is), (front-few at-first, (omega arith, small-column at-first)))
+    let at-empty = at-begun .before .before in
+    let at-first = at-empty .before in
+    (omega (arith, c .before .with-called .ensures .1, at-begun .with-bytes .ensures .length-is, at-empty .empty .ensures .length-is), (front-few at-first, (omega arith, small-column at-first)))
 
 mul-u16-at : tie.Need-mul-u16-at
 mul-u16-at c =
@@ -126,12 +130,16 @@ with-out-requires c κs = search needs
 
 returns : tie.Need-returns
 returns c =
-    let at-boat = c .before .before .before .before in
-    let at-begun = at-boat .before .before .before in
-    let at-first = at-begun .before .before .before in
-    let at-columns = at-first .before .before .before in
-    value-told _ (at-first .before .before .names-csv .ensures) (at-columns .columns .ensures .0) (found at-first) (at-boat .before .before .first-boat .ensures .0) (c .before .u16-at .ensures .0)
-    (at-begun .before .before .empty .ensures) (at-begun .with-bytes .ensures) (at-boat .with-called .ensures .0) (c .before .before .with-called2 .ensures .0) (c .with-out .ensures)
+    let at-with-called2 = c .before .before in
+    let at-boat = at-with-called2 .before .before in
+    let at-first-boat = at-boat .before .before in
+    let at-begun = at-first-boat .before in
+    let at-empty = at-begun .before .before in
+    let at-first = at-empty .before in
+    let at-names-csv = at-first .before .before in
+    let at-columns = at-names-csv .before in
+    value-told _ (at-names-csv .names-csv .ensures) (at-columns .columns .ensures .0) (found at-first) (at-first-boat .first-boat .ensures .0) (c .before .u16-at .ensures .0)
+    (at-empty .empty .ensures) (at-begun .with-bytes .ensures) (at-boat .with-called .ensures .0) (at-with-called2 .with-called2 .ensures .0) (c .with-out .ensures)
 
 pub value-line-spec : {M : Type 1} → statement M
 value-line-spec =

@@ -47,10 +47,11 @@ with-number-requires c κs = search needs
 returns : tie.Need-returns
 returns c =
     let at-word = c .before in
-    let at-put = at-word .before .before .before .before .before in
+    let at-with-bytes = at-word .before in
+    let at-put = at-with-bytes .before .before .before .before in
     let start = at-put .before .before .before .before in
     let none : at-put .put-cell .result ≡ 0 = search needs in
-    called-by-number _ _ _ (sym (at-put .put-cell .ensures .0) ∙ none) (start .pre .1 .1 .0) (at-word .before .with-bytes .ensures) (at-word .with-bytes2 .ensures) (c .with-number .ensures)
+    called-by-number _ _ _ (sym (at-put .put-cell .ensures .0) ∙ none) (start .pre .1 .1 .0) (at-with-bytes .with-bytes .ensures) (at-word .with-bytes2 .ensures) (c .with-number .ensures)
 
 array-share-prefix-name : tie.Need-array-share-prefix-name
 array-share-prefix-name c = search needs
