@@ -40,24 +40,27 @@ slice-aggregate-plain-start c =
 
 array-share-prefix-own-sheet : tie.Need-array-share-prefix-own-sheet
 array-share-prefix-own-sheet c =
-    let at-put-book = c .before .before .before .before .before in
+    let at-put-sheet = c .before .before in
+    let at-put-book = at-put-sheet .before .before .before in
     let at-factors-of = at-put-book .before .before in
     let start = at-factors-of .before .before .before in
-    sheet-inside _ _ (start .pre .0) (at-factors-of .factors-of .ensures) (at-put-book .put-book .ensures .1) (at-put-book .put-book .ensures .0) (c .before .before .put-sheet .ensures .1) (c .before .before .put-sheet .ensures .0)
+    sheet-inside _ _ (start .pre .0) (at-factors-of .factors-of .ensures) (at-put-book .put-book .ensures .1) (at-put-book .put-book .ensures .0) (at-put-sheet .put-sheet .ensures .1) (at-put-sheet .put-sheet .ensures .0)
 
 slice-aggregate-plain-start-2 : tie.Need-slice-aggregate-plain-start-2
 slice-aggregate-plain-start-2 c =
-    let at-put-book = c .before .before .before .before .before .before in
+    let at-put-sheet = c .before .before .before in
+    let at-put-book = at-put-sheet .before .before .before in
     let at-factors-of = at-put-book .before .before in
     let start = at-factors-of .before .before .before in
-    sym (length-take-le _ _ (sheet-inside _ _ (start .pre .0) (at-factors-of .factors-of .ensures) (at-put-book .put-book .ensures .1) (at-put-book .put-book .ensures .0) (c .before .before .before .put-sheet .ensures .1) (c .before .before .before .put-sheet .ensures .0)))
+    sym (length-take-le _ _ (sheet-inside _ _ (start .pre .0) (at-factors-of .factors-of .ensures) (at-put-book .put-book .ensures .1) (at-put-book .put-book .ensures .0) (at-put-sheet .put-sheet .ensures .1) (at-put-sheet .put-sheet .ensures .0)))
 
 plain-start-requires : tie.Need-plain-start-requires
 plain-start-requires c κs =
-    let at-put-book = c .before .before .before .before .before .before in
+    let at-put-sheet = c .before .before .before in
+    let at-put-book = at-put-sheet .before .before .before in
     let at-factors-of = at-put-book .before .before in
     let start = at-factors-of .before .before .before in
-    derived-passed _ _ (start .pre .0) (at-factors-of .factors-of .ensures) (at-put-book .put-book .ensures .1) (at-put-book .put-book .ensures .0) (c .before .before .before .put-sheet .ensures .1) (c .before .before .before .put-sheet .ensures .0)
+    derived-passed _ _ (start .pre .0) (at-factors-of .factors-of .ensures) (at-put-book .put-book .ensures .1) (at-put-book .put-book .ensures .0) (at-put-sheet .put-sheet .ensures .1) (at-put-sheet .put-sheet .ensures .0)
 
 returns : tie.Need-returns
 returns c =

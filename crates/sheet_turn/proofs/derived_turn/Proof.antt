@@ -40,17 +40,19 @@ slice-aggregate-plain-turn c =
 
 array-share-prefix-own-sheet : tie.Need-array-share-prefix-own-sheet
 array-share-prefix-own-sheet c =
-    let at-put-book = c .before .before .before .before .before in
+    let at-put-sheet = c .before .before in
+    let at-put-book = at-put-sheet .before .before .before in
     let at-factors-of = at-put-book .before .before in
     let start = at-factors-of .before .before .before .before in
-    sheet-inside _ _ (start .pre .0) (at-factors-of .factors-of .ensures) (at-put-book .put-book .ensures .1) (at-put-book .put-book .ensures .0) (c .before .before .put-sheet .ensures .1) (c .before .before .put-sheet .ensures .0)
+    sheet-inside _ _ (start .pre .0) (at-factors-of .factors-of .ensures) (at-put-book .put-book .ensures .1) (at-put-book .put-book .ensures .0) (at-put-sheet .put-sheet .ensures .1) (at-put-sheet .put-sheet .ensures .0)
 
 slice-aggregate-plain-turn-2 : tie.Need-slice-aggregate-plain-turn-2
 slice-aggregate-plain-turn-2 c =
-    let at-put-book = c .before .before .before .before .before .before in
+    let at-put-sheet = c .before .before .before in
+    let at-put-book = at-put-sheet .before .before .before in
     let at-factors-of = at-put-book .before .before in
     let start = at-factors-of .before .before .before .before in
-    sym (length-take-le _ _ (sheet-inside _ _ (start .pre .0) (at-factors-of .factors-of .ensures) (at-put-book .put-book .ensures .1) (at-put-book .put-book .ensures .0) (c .before .before .before .put-sheet .ensures .1) (c .before .before .before .put-sheet .ensures .0)))
+    sym (length-take-le _ _ (sheet-inside _ _ (start .pre .0) (at-factors-of .factors-of .ensures) (at-put-book .put-book .ensures .1) (at-put-book .put-book .ensures .0) (at-put-sheet .put-sheet .ensures .1) (at-put-sheet .put-sheet .ensures .0)))
 
 plain-turn-requires : tie.Need-plain-turn-requires
 plain-turn-requires c κs =
@@ -74,7 +76,8 @@ plain-turn-requires c κs =
 
 returns : tie.Need-returns
 returns c =
-    let at-put-sheet = c .before .before .before .before .before .before .before .before .before in
+    let at-plain-turn = c .before .before .before in
+    let at-put-sheet = at-plain-turn .before .before .before .before .before .before in
     let at-put-book = at-put-sheet .before .before .before in
     let at-factors-of = at-put-book .before .before in
     let start = at-factors-of .before .before .before .before in
@@ -82,7 +85,7 @@ returns c =
     let ef = at-factors-of .factors-of .ensures in
     let eb = at-put-book .put-book .ensures in
     let es = at-put-sheet .put-sheet .ensures in
-    let h = c .before .before .before .plain-turn .ensures in (
+    let h = at-plain-turn .plain-turn .ensures in (
       holds-back _ _ (p .0) ef (eb .1) (eb .0) (es .1) (es .0) (h .0),
       (shares-back _ _ (p .0) ef (eb .1) (eb .0) (es .1) (es .0) _ _ (h .1 .0), scores-back _ _ (p .0) ef (eb .1) (eb .0) (es .1) (es .0) (h .1 .1)),
     )

@@ -12,8 +12,9 @@ use Rattle.sheet_turn.proofs.plain_turn.Lts as lts
 
 products-of-requires : tie.Need-products-of-requires
 products-of-requires c κs =
-    let start = c .before .before .before .before .before .before in
-    let p = start .pre in (p .0, (c .before .before .layout-of .ensures, (best-below _ _ (p .0) fixed-sized (p .1 .0), book-fits _ _ (p .0) .most-boats)))
+    let at-layout-of = c .before .before in
+    let start = at-layout-of .before .before .before .before in
+    let p = start .pre in (p .0, (at-layout-of .layout-of .ensures, (best-below _ _ (p .0) fixed-sized (p .1 .0), book-fits _ _ (p .0) .most-boats)))
 
 mul-own : tie.Need-mul-own
 mul-own c =
@@ -50,14 +51,15 @@ rescored-requires c κs =
 
 picked-requires : tie.Need-picked-requires
 picked-requires c κs =
-    let at-add-shares = c .before .before .before .before .before .before .before .before in
+    let at-rescored = c .before .before .before in
+    let at-add-shares = at-rescored .before .before .before .before .before in
     let at-products-of = at-add-shares .before .before .before .before .before in
     let at-layout-of = at-products-of .before .before .before in
     let start = at-layout-of .before .before .before .before in
     let p = start .pre in
     let l = at-layout-of .layout-of .ensures in
     let P = products-here _ _ (p .0) _ _ (at-products-of .products-of .ensures .0) in
-    let f = c .before .before .before .rescored .ensures in
+    let f = at-rescored .rescored .ensures in
     let qs = shared-here _ _ (p .0) fixed-sized (p .1 .0) (p .1 .1 .0) (fixed-share _) (p .1 .1 .1 .0) (at-add-shares .add-shares .ensures) in
     (pickable-next _ _ (p .0) fixed-sized l (p .1 .0) (p .1 .1 .0) (fixed-share _) (p .1 .1 .1 .1) P (f .1) qs, least-next _ _ (p .0) fixed-sized l (p .1 .0) (p .1 .1 .0) (fixed-share _) (p .1 .1 .1 .1) P (f .1) (f .0))
 

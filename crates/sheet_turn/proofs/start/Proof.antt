@@ -14,8 +14,9 @@ is-plain-requires c κs = whole _ _ (c .before .before .pre)
 
 returns : tie.Need-returns
 returns c =
-    let start = c .before .before .before .before .before in
-    from-itself _ _ (start .pre) (c .before .before .is-plain .ensures) (c .before .if1 .taken) (λ (x y : List ℕ). Holds fixed x y 0 (c .plain-start .result)) (c .plain-start .ensures)
+    let at-is-plain = c .before .before in
+    let start = at-is-plain .before .before .before in
+    from-itself _ _ (start .pre) (at-is-plain .is-plain .ensures) (c .before .if1 .taken) (λ (x y : List ℕ). Holds fixed x y 0 (c .plain-start .result)) (c .plain-start .ensures)
 
 derived-start-requires : tie.Need-derived-start-requires
 derived-start-requires c κs =
@@ -24,8 +25,9 @@ derived-start-requires c κs =
 
 returns-2 : tie.Need-returns-2
 returns-2 c =
-    let start = c .before .before .before .before .before in
-    from-twin _ _ (start .pre) (c .before .before .is-plain .ensures) (c .before .if1 .left) (λ (x y : List ℕ). Holds fixed x y 0 (c .derived-start .result)) (c .derived-start .ensures)
+    let at-is-plain = c .before .before in
+    let start = at-is-plain .before .before .before in
+    from-twin _ _ (start .pre) (at-is-plain .is-plain .ensures) (c .before .if1 .left) (λ (x y : List ℕ). Holds fixed x y 0 (c .derived-start .result)) (c .derived-start .ensures)
 
 pub start-spec : {M : Type 1} → statement M
 start-spec =

@@ -13,8 +13,9 @@ stepped-requires c κs =
 
 answer-requires : tie.Need-answer-requires
 answer-requires c κs =
-    let start = c .before .before .before .before .before .before .before .before .before in
-    let p = start .pre in record-answerable _ _ (p .0) _ (p .1 .1 .0) (c .before .before .before .stepped .ensures .0)
+    let at-stepped = c .before .before .before in
+    let start = at-stepped .before .before .before .before .before .before in
+    let p = start .pre in record-answerable _ _ (p .0) _ (p .1 .1 .0) (at-stepped .stepped .ensures .0)
 
 steps-requires : tie.Need-steps-requires
 steps-requires c κs =
@@ -28,11 +29,13 @@ cast-t19 c =
 
 returns : tie.Need-returns
 returns c =
-    let at-stepped = c .before .before .before .before .before .before .before in
+    let at-steps = c .before .before in
+    let at-answer = at-steps .before in
+    let at-stepped = at-answer .before .before .before .before in
     let start = at-stepped .before .before .before .before .before .before in
     let p = start .pre in
     let h = at-stepped .stepped .ensures in
-    (h .0, (record-right _ _ (p .0) _ (p .1 .1 .0) (h .0) (c .before .before .before .answer .ensures) (c .before .before .steps .ensures) (c .before .stops .ensures) (c .verdict-number .ensures), (h .1 .0, h .1 .1)))
+    (h .0, (record-right _ _ (p .0) _ (p .1 .1 .0) (h .0) (at-answer .answer .ensures) (at-steps .steps .ensures) (c .before .stops .ensures) (c .verdict-number .ensures), (h .1 .0, h .1 .1)))
 
 pub turn-spec : {M : Type 1} → statement M
 turn-spec =
