@@ -1,4 +1,6 @@
--- `queue_listing::lines` meets its contract.
+-- `queue_listing::lines` meets its contract. The loop keeps `Sheets-added`: the text has the lines of the first i records, and those that are left complete it.
+-- A turn adds the line of record i, of at most 121 bytes.
+-- It ends: the records that are left fall by one.
 use mathlib.Core.Path.{_≡_, refl, sym, _∙_}
 use Prim.Native.Nat.{_-_}
 use native.Mathlib.Omega.{arith}
@@ -9,8 +11,6 @@ use borrow.Author.Needs.{needs}
 use Rattle.queue_listing.proofs.lines.Statement.{statement}
 use Rattle.queue_listing.proofs.lines.Tie as tie
 
--- the lines of the first i records stand in the text; those that are left behind them make the text of all; the records that are left grow
--- fewer
 abbrev Inv-loop : tie.InvT-loop
 Inv-loop outcome count longer₀ i₀ longer i = Sheets-added (take (outcome .count) (outcome .records)) longer i × (length (take (outcome .count) (outcome .records)) ≡ outcome .count)
 

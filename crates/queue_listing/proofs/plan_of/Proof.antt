@@ -1,4 +1,6 @@
--- `queue_listing::plan_of` meets its contract.
+-- `queue_listing::plan_of` meets its contract. The loop keeps `Copied`: the first i lengths are copied, and there are at most 16 of them.
+-- A turn copies length i.
+-- It ends: the lengths that are left fall by one.
 use mathlib.Core.Path.{_≡_, refl}
 use Prim.Native.Nat.{_-_}
 use native.Mathlib.Omega.{arith}
