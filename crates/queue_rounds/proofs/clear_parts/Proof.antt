@@ -34,15 +34,17 @@ part-clear-end c = omega (arith, c .before .before .before .pre .1, c .loop-test
 
 clear-requires : tie.Need-clear-requires Inv-loop μ-loop
 clear-requires c κs =
-    let start = c .before .before .before .before in
-    omega (arith, start .pre .0, mid-length (c .before .before .loop .i) (c .before .before .loop .shares) (omega (arith, start .pre .1, c .before .loop-test .taken, c .before .before .loop .inv .1 .long)))
+    let at-loop = c .before .before in
+    let start = at-loop .before .before in
+    omega (arith, start .pre .0, mid-length (at-loop .loop .i) (at-loop .loop .shares) (omega (arith, start .pre .1, c .before .loop-test .taken, at-loop .loop .inv .1 .long)))
 
 loop-again : tie.Need-loop-again Inv-loop μ-loop
 loop-again c =
-    let at-test = c .before .before .before .before in
+    let at-clear = c .before .before in
+    let at-test = at-clear .before .before in
     let at-loop = at-test .before in
     let start = at-loop .before .before in
-    (omega arith, cleared-more (at-loop .loop .inv .1) (start .pre .0) (omega (arith, start .pre .1, at-test .loop-test .taken)) (c .before .before .clear .ensures))
+    (omega arith, cleared-more (at-loop .loop .inv .1) (start .pre .0) (omega (arith, start .pre .1, at-test .loop-test .taken)) (at-clear .clear .ensures))
 
 same-length : tie.Need-same-length Inv-loop μ-loop
 same-length c = c .before .loop .inv .1 .long

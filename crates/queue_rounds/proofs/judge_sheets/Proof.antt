@@ -17,6 +17,10 @@ Inv-loop plan columns sheets count i₀ i = (i ≤ plan .count) × Unrefused col
 abbrev μ-loop : tie.MeasureT-loop
 μ-loop plan columns sheets count i₀ i = plan .count - i
 
+-- a plan has 16 lengths
+lengths-long : (c : tie.Start Inv-loop μ-loop) → length (c .args .plan .lengths) ≡ 16
+lengths-long c = search needs
+
 loop-holds : tie.Need-loop-holds Inv-loop μ-loop
 loop-holds c = (omega arith, unrefused-none)
 
@@ -25,30 +29,30 @@ sheet-at-requires c κs = ((c .loop-test .taken, c .before .before .before .pre 
 
 returns : tie.Need-returns Inv-loop μ-loop
 returns c =
-    let start = c .before .before .before .before .before .before in
-    let long : length (start .args .plan .lengths) ≡ 16 = search needs in
     let at-refusal = c .before in
     let at-sheet = at-refusal .before in
     let at-test = at-sheet .before in
     let at-loop = at-test .before in
+    let start = at-loop .before .before in
+    let long = lengths-long start in
     let n = sheet-count (start .args .plan) long (start .pre .0) (start .args .sheets .now) in
     refused-here (at-loop .loop .inv .1) (omega (arith, n, at-test .loop-test .taken)) (at-refusal .sheet-refusal .ensures ∙ rw (at-sheet .sheet-at .ensures)) (c .if1 .taken)
 
 loop-again : tie.Need-loop-again Inv-loop μ-loop
 loop-again c =
-    let start = c .before .before .before .before .before .before in
-    let long : length (start .args .plan .lengths) ≡ 16 = search needs in
     let at-refusal = c .before in
     let at-sheet = at-refusal .before in
     let at-test = at-sheet .before in
     let at-loop = at-test .before in
+    let start = at-loop .before .before in
+    let long = lengths-long start in
     let n = sheet-count (start .args .plan) long (start .pre .0) (start .args .sheets .now) in
     (omega arith, unrefused-more (at-loop .loop .inv .1) (omega (arith, n, at-test .loop-test .taken)) (at-refusal .sheet-refusal .ensures ∙ rw (at-sheet .sheet-at .ensures)) (c .if1 .left))
 
 returns-2 : tie.Need-returns-2 Inv-loop μ-loop
 returns-2 c =
     let start = c .before .before .before in
-    let long : length (start .args .plan .lengths) ≡ 16 = search needs in
+    let long = lengths-long start in
     unrefused-all (c .before .loop .inv .1) (sheet-count (start .args .plan) long (start .pre .0) (start .args .sheets .now)) (c .loop-test .left) (c .before .loop .inv .0)
 
 pub judge-sheets-spec : {M : Type 1} → statement M

@@ -28,10 +28,11 @@ turn-requires c κs = (c .before .before .loop-test .taken, c .before .before .b
 
 loop-again : tie.Need-loop-again Inv-loop μ-loop
 loop-again c =
-    let at-test = c .before .before .before .before .before .before in
+    let at-turn = c .before .before .before in
+    let at-test = at-turn .before .before .before in
     let at-loop = at-test .before in
     let v = at-loop .loop .inv in
-    let h = c .before .before .before .turn .ensures in
+    let h = at-turn .turn .ensures in
     (omega arith, (h .0, (passes (v .1 .1 .0) (omega (arith, own-length (v .1 .0 .accepted), at-test .loop-test .taken)) (h .1 .0), rest-both (v .1 .1 .1) (h .1 .1))))
 
 same-length : tie.Need-same-length Inv-loop μ-loop

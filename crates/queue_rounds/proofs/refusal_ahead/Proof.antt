@@ -23,42 +23,50 @@ total-of-requires c κs = between-true 1 16 _ (sym (c .before .is-between .ensur
 
 returns-3 : tie.Need-returns-3
 returns-3 c =
-    let at-if1 = c .before .before .before .before in
+    let at-if2 = c .before .before in
+    let at-is-between = at-if2 .before in
+    let at-if1 = at-is-between .before in
     let at-book-refusal = at-if1 .before in
     let h1 = sym (at-book-refusal .book-refusal .ensures) ∙ at-if1 .if1 .left in
-    let h2 = sym (c .before .before .before .is-between .ensures) ∙ not-false (c .before .before .before .is-between .result) (c .before .before .if2 .left) in
+    let h2 = sym (at-is-between .is-between .ensures) ∙ not-false (at-is-between .is-between .result) (at-if2 .if2 .left) in
     sym (by-total _ _ _ _ _ h1 h2 (λ e. c .if3 .taken (c .before .total-of .ensures .0 ∙ e)))
 
 returns-4 : tie.Need-returns-4
 returns-4 c =
-    let at-is-between = c .before .before .before .before in
+    let at-total-of = c .before .before in
+    let at-if2 = at-total-of .before in
+    let at-is-between = at-if2 .before in
     let at-if1 = at-is-between .before in
     let at-book-refusal = at-if1 .before in
     let h1 = sym (at-book-refusal .book-refusal .ensures) ∙ at-if1 .if1 .left in
-    let h2 = sym (at-is-between .is-between .ensures) ∙ not-false (at-is-between .is-between .result) (c .before .before .before .if2 .left) in
-    let h3 = sym (c .before .before .total-of .ensures .0) ∙ c .before .if3 .left in
+    let h2 = sym (at-is-between .is-between .ensures) ∙ not-false (at-is-between .is-between .result) (at-if2 .if2 .left) in
+    let h3 = sym (at-total-of .total-of .ensures .0) ∙ c .before .if3 .left in
     sym (by-least _ _ _ _ _ h1 h2 h3 (c .if4 .taken))
 
 returns-5 : tie.Need-returns-5
 returns-5 c =
-    let at-if2 = c .before .before .before .before in
+    let at-if3 = c .before .before in
+    let at-total-of = at-if3 .before in
+    let at-if2 = at-total-of .before in
     let at-is-between = at-if2 .before in
     let at-if1 = at-is-between .before in
     let at-book-refusal = at-if1 .before in
     let h1 = sym (at-book-refusal .book-refusal .ensures) ∙ at-if1 .if1 .left in
     let h2 = sym (at-is-between .is-between .ensures) ∙ not-false (at-is-between .is-between .result) (at-if2 .if2 .left) in
-    let h3 = sym (c .before .before .before .total-of .ensures .0) ∙ c .before .before .if3 .left in
+    let h3 = sym (at-total-of .total-of .ensures .0) ∙ at-if3 .if3 .left in
     sym (by-most _ _ _ _ _ h1 h2 h3 (c .before .if4 .left) (c .if5 .taken))
 
 returns-6 : tie.Need-returns-6
 returns-6 c =
-    let at-if2 = c .before .before .before .before in
+    let at-if3 = c .before .before in
+    let at-total-of = at-if3 .before in
+    let at-if2 = at-total-of .before in
     let at-is-between = at-if2 .before in
     let at-if1 = at-is-between .before in
     let at-book-refusal = at-if1 .before in
     let h1 = sym (at-book-refusal .book-refusal .ensures) ∙ at-if1 .if1 .left in
     let h2 = sym (at-is-between .is-between .ensures) ∙ not-false (at-is-between .is-between .result) (at-if2 .if2 .left) in
-    let h3 = sym (c .before .before .before .total-of .ensures .0) ∙ c .before .before .if3 .left in
+    let h3 = sym (at-total-of .total-of .ensures .0) ∙ at-if3 .if3 .left in
     sym (none-ahead _ _ _ _ _ h1 h2 h3 (c .before .if4 .left) (c .if5 .left))
 
 pub refusal-ahead-spec : {M : Type 1} → statement M

@@ -7,19 +7,23 @@ use Rattle.queue_rounds.proofs.Ends.{ran-refused, plan-accepted, plan-a
 use Rattle.queue_rounds.proofs.run_plan.Statement.{statement}
 use Rattle.queue_rounds.proofs.run_plan.Tie as tie
 
+-- a plan has 16 lengths
+lengths-long : (c : tie.Start) → length (c .args .plan .lengths) ≡ 16
+lengths-long c = search needs
+
 returns : tie.Need-returns
 returns c =
-    let start = c .before .before .before .before .before .before in
-    let long : length (start .args .plan .lengths) ≡ 16 = search needs in
     let at-judge = c .before .before in
+    let start = at-judge .before .before .before .before in
+    let long = lengths-long start in
     ran-refused _ _ _ _ _ long _ (at-judge .judge .ensures .0) (at-judge .judge .ensures .1) (c .if1 .taken)
 
 serve-all-requires : tie.Need-serve-all-requires
 serve-all-requires c κs =
-    let start = c .before .before .before .before .before .before .before in
-    let long : length (start .args .plan .lengths) ≡ 16 = search needs in
     let at-if1 = c .before in
     let at-judge = at-if1 .before .before in
+    let start = at-judge .before .before .before .before in
+    let long = lengths-long start in
     let number = at-judge .judge .ensures .0 in
     (plan-accepted _ _ _ _ (start .args .shares .now) long number (at-if1 .if1 .left), plan-asks _ _ _ _ (start .args .shares .now) long number (at-if1 .if1 .left))
 
@@ -28,11 +32,11 @@ same-length c = c .before .before .serve-all .ensures .1 .long
 
 returns-2 : tie.Need-returns-2
 returns-2 c =
-    let start = c .before .before .before .before .before .before .before .before .before .before in
-    let long : length (start .args .plan .lengths) ≡ 16 = search needs in
     let at-serve = c .before .before in
     let at-if1 = at-serve .before .before in
     let at-judge = at-if1 .before .before in
+    let start = at-judge .before .before .before .before in
+    let long = lengths-long start in
     ran-served _ _ _ _ _ long (at-judge .judge .ensures .0) (at-if1 .if1 .left) (at-serve .serve-all .ensures .0) (at-serve .serve-all .ensures .1) (at-judge .judge .ensures .1)
 
 pub run-plan-spec : {M : Type 1} → statement M

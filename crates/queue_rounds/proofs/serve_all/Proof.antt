@@ -34,19 +34,21 @@ serve-requires c κs =
 
 same-length : tie.Need-same-length
 same-length c =
-    let at-clear-parts = c .before .before .before .before .before .before .before .before .before in
+    let at-serve = c .before .before .before in
+    let at-clear-parts = at-serve .before .before .before .before .before .before in
     let at-boats = at-clear-parts .before in
     let start = at-boats .before .before .before .before .before in
     let p = start .pre in
-    rest-both (start-rest (p .0) _ (p .1 .1) (at-boats .boats .ensures) (at-clear-parts .clear-parts .ensures)) (c .before .before .before .serve .ensures .1) .long
+    rest-both (start-rest (p .0) _ (p .1 .1) (at-boats .boats .ensures) (at-clear-parts .clear-parts .ensures)) (at-serve .serve .ensures .1) .long
 
 returns : tie.Need-returns
 returns c =
-    let at-clear-parts = c .before .before .before .before .before .before .before .before .before in
+    let at-serve = c .before .before .before in
+    let at-clear-parts = at-serve .before .before .before .before .before .before in
     let at-boats = at-clear-parts .before in
     let start = at-boats .before .before .before .before .before in
     let p = start .pre in
-    (c .before .before .before .serve .ensures .0, rest-both (start-rest (p .0) _ (p .1 .1) (at-boats .boats .ensures) (at-clear-parts .clear-parts .ensures)) (c .before .before .before .serve .ensures .1))
+    (at-serve .serve .ensures .0, rest-both (start-rest (p .0) _ (p .1 .1) (at-boats .boats .ensures) (at-clear-parts .clear-parts .ensures)) (at-serve .serve .ensures .1))
 
 pub serve-all-spec : {M : Type 1} → statement M
 serve-all-spec =

@@ -21,10 +21,11 @@ part-result-end c =
 
 returns : tie.Need-returns
 returns c =
-    let start = c .before .before .before .before .before in
+    let at-total-of = c .before .before in
+    let start = at-total-of .before .before .before in
     let p = start .pre in
     let long : length (start .args .plan .lengths) ≡ 16 = search needs in
-    sheet-here _ long (p .0 .1) (start .args .sheets .now) (p .1) _ (p .0 .0) (c .before .before .total-of .ensures .0) (c .before .wide .ensures .0)
+    sheet-here _ long (p .0 .1) (start .args .sheets .now) (p .1) _ (p .0 .0) (at-total-of .total-of .ensures .0) (c .before .wide .ensures .0)
 
 pub sheet-at-spec : {M : Type 1} → statement M
 sheet-at-spec =

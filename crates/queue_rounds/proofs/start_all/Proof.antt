@@ -33,18 +33,22 @@ start-requires c κs =
 
 mul-states : tie.Need-mul-states Inv-loop μ-loop
 mul-states c =
-    let start = c .before .before .before .before .before .before in
-    record { fits = omega (arith, start .pre .few, c .before .before .loop-test .taken) }
+    let at-test = c .before .before in
+    let start = at-test .before .before .before .before in
+    record { fits = omega (arith, start .pre .few, at-test .loop-test .taken) }
 
 array-set-from-states : tie.Need-array-set-from-states Inv-loop μ-loop
 array-set-from-states c =
-    let start = c .before .before .before .before .before .before in
-    omega (arith, start .pre .few, c .before .before .loop-test .taken)
+    let at-test = c .before .before in
+    let start = at-test .before .before .before .before in
+    omega (arith, start .pre .few, at-test .loop-test .taken)
 
 loop-again : tie.Need-loop-again Inv-loop μ-loop
 loop-again c =
-    let start = c .before .before .before .before .before .before in
-    (omega arith, started-more (c .before .before .before .loop .inv .1) (omega (arith, start .pre .few, c .before .before .loop-test .taken)) (c .before .sheet-at .ensures) (c .start .ensures))
+    let at-test = c .before .before in
+    let at-loop = at-test .before in
+    let start = at-loop .before .before .before in
+    (omega arith, started-more (at-loop .loop .inv .1) (omega (arith, start .pre .few, at-test .loop-test .taken)) (c .before .sheet-at .ensures) (c .start .ensures))
 
 returns : tie.Need-returns Inv-loop μ-loop
 returns c = started-all (c .before .loop .inv .1) (c .loop-test .left)

@@ -19,14 +19,16 @@ loop-holds c = (omega arith, totalled-none _)
 
 add-n : tie.Need-add-n Inv-loop μ-loop
 add-n c =
-    let start = c .before .before .before .before in
-    record { fits = omega (arith, c .before .before .loop .inv .1 .few, c .before .before .loop .inv .0, start .pre, c .wide .ensures .1) }
+    let at-loop = c .before .before in
+    let start = at-loop .before .before in
+    record { fits = omega (arith, at-loop .loop .inv .1 .few, at-loop .loop .inv .0, start .pre, c .wide .ensures .1) }
 
 loop-again : tie.Need-loop-again Inv-loop μ-loop
 loop-again c =
-    let start = c .before .before .before .before in
+    let at-loop = c .before .before in
+    let start = at-loop .before .before in
     let long : length (start .args .plan .lengths) ≡ 16 = search needs in
-    (omega arith, totalled-more (c .before .before .loop .inv .1) (omega (arith, long, c .before .loop-test .taken, start .pre)) (c .wide .ensures .0) (c .wide .ensures .1))
+    (omega arith, totalled-more (at-loop .loop .inv .1) (omega (arith, long, c .before .loop-test .taken, start .pre)) (c .wide .ensures .0) (c .wide .ensures .1))
 
 returns : tie.Need-returns Inv-loop μ-loop
 returns c = totalled-all (c .before .loop .inv .1) (c .before .loop .inv .0) (c .loop-test .left)
