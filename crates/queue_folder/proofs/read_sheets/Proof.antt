@@ -1,4 +1,6 @@
--- `queue_folder::read_sheets` meets its contract.
+-- `queue_folder::read_sheets` meets its contract. The loop keeps `Going`: k sheets stand back to back in the first bytes of the buffer, and their lengths are in the list; the buffer has the length it came with.
+-- A turn reads sheet k behind them and puts its length.
+-- It ends: the sheets that are left fall by one.
 use mathlib.Core.Path.{_≡_, refl, _∙_}
 use Prim.Native.Nat.{_-_}
 use native.Mathlib.Omega.{arith}
@@ -8,8 +10,6 @@ use borrow.Author.Needs.{needs}
 use Rattle.queue_folder.proofs.read_sheets.Statement.{statement}
 use Rattle.queue_folder.proofs.read_sheets.Tie as tie
 
--- k sheets stand back to back in the first bytes of the buffer, and their lengths in the list; a turn reads one more behind them; the sheets
--- that are left grow fewer
 abbrev Inv-loop : tie.InvT-loop
 Inv-loop folder count buffer₀ lengths₀ at₀ k₀ buffer lengths at k = Going count lengths buffer at k × (length buffer ≡ length buffer₀)
 
