@@ -3,7 +3,8 @@
 
 // Makes the book of fleet.csv in a folder, files it there as fleet.wbk and prints its boats, columns and front text. The current folder
 // has no name. Where the CSV is missing or has a fault, or the book cannot be written, an older fleet.wbk stays as it was, and standard
-// error says what is wrong, and of a CSV also that. One byte more is read than a CSV may have, so that a longer one is refused and not cut.
+// error says what is wrong. After a fault of the CSV it also says that fleet.wbk is as it was. One byte more is read than a CSV may have, so
+// that a longer one is refused and not cut.
 pub fn file_book(folder: &[u8]) {
     let mut csv = [0u8; 200001];
     let content = file_io::content_in(folder, b"fleet.csv", &mut csv);

@@ -41,8 +41,8 @@ fn tell_old_book(folder: &[u8], fleet: &[u8]) {
 
 // Makes the sheet of fleet.csv and sheet.csv in a folder, files it there as sheet.wsh and prints its lines. The current folder has no
 // name. Where a CSV is missing or has a fault, or the sheet cannot be written, an older sheet.wsh stays as it was, and standard error says
-// what is wrong, and of a CSV also that. It says too where a fleet.wbk was not made from fleet.csv. One byte more is read than a CSV may have,
-// so that a longer one is refused and not cut.
+// what is wrong. After a fault of a CSV it also says that sheet.wsh is as it was. It says too where a fleet.wbk was not made from fleet.csv.
+// One byte more is read than a CSV may have, so that a longer one is refused and not cut.
 pub fn file_sheet(folder: &[u8]) {
     let mut fleet = [0u8; 200001];
     let mut csv = [0u8; 39001];
