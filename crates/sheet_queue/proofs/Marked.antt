@@ -1,9 +1,11 @@
--- Marked queues by the steps of their runs alone, by computation.
+-- Marked queues by the steps of their runs alone, by computation; 5,760 rounds by a law.
 use mathlib.Core.Path.{_≡_, refl}
 use mathlib.Core.List.{[], _∷_, _++_}
+use native.Mathlib.Omega.{arith}
 use lib.ListN.{replicate}
 use Rattle.frank_wolfe.specs.Vectors.{sum}
 use Rattle.sheet_queue.specs.Rounds.{turn, round, after, steps-got}
+use Rattle.sheet_queue.proofs.Fair.{enough}
 
 one-each : steps-got 3 (9 ∷ 3 ∷ 1 ∷ []) ≡ 1 ∷ 1 ∷ 1 ∷ []
 unfolding turn round after steps-got sum
@@ -18,8 +20,8 @@ unfolding turn round after steps-got sum
 third-finished = refl
 
 all-finished : steps-got 5760 (9 ∷ 3 ∷ 1 ∷ []) ≡ 9 ∷ 3 ∷ 1 ∷ []
-unfolding turn round after steps-got sum
-all-finished = refl
+unfolding sum
+all-finished = enough 5760 (9 ∷ 3 ∷ 1 ∷ []) (omega arith)
 
 odd-one-first : steps-got 5 (9 ∷ 9 ∷ []) ≡ 3 ∷ 2 ∷ []
 unfolding turn round after steps-got sum
