@@ -6,6 +6,11 @@ LIMITS = [2000, 2001, 63536, 63535]
 TOTALS = [64, 64, 1, 63, 65, 0, 64, 255]
 
 
+def names(folders):
+    """The names of folders as a test program reads them: the length of each in 2 bytes, and the name."""
+    return b"".join(len(name).to_bytes(2, "little") + name.encode() for name in folders)
+
+
 class Draws:
     """A linear congruential generator."""
 

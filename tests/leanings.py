@@ -2,12 +2,12 @@
 either edition of cards and sheets, front text, damaged and missing files.
 
 A file of cases has, for each, the length of the book, the number of cards and how many pairs follow, in 2 bytes each, then the book, and for
-each pair the lengths of sheet and card in 2 bytes each and both files.
+each pair the lengths of sheet and card in 2 bytes each and both files. Behind the last case it has the names of the folders.
 """
 import struct
 
 import exact
-from generator import Draws, draw_row
+from generator import Draws, draw_row, names
 
 P = [[0, 0], [4, 0], [0, 4]]
 COUNT = 160
@@ -96,7 +96,7 @@ def file_of(found):
     for book, count, pairs in found:
         parts.append(struct.pack("<HHH", len(book), count, len(pairs)) + book)
         parts.extend(struct.pack("<HH", len(sheet), len(card)) + sheet + card for sheet, card in pairs)
-    return b"".join(parts)
+    return b"".join(parts) + names(FOLDERS)
 
 
 def listed(book, count, pairs):

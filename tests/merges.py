@@ -1,12 +1,13 @@
 """Pairs of fleet books, written by hand and drawn, and the folders that mixmerge is run in: many equal rows, rows that differ in one byte,
 both sides of 256 boats, buffers of the merged book's length and one byte less, front text, damaged books.
 
-A file of cases has, for each, the lengths of both books and of the buffer in 2 bytes each, then the two books.
+A file of cases has, for each, the lengths of both books and of the buffer in 2 bytes each, then the two books. Behind the last case it has the
+names of the folders.
 """
 import struct
 
 import exact
-from generator import Draws
+from generator import Draws, names
 
 P = [[0, 0], [4, 0], [0, 4]]
 COUNT = 400
@@ -90,7 +91,7 @@ def cases():
 
 
 def file_of(found):
-    return b"".join(struct.pack("<HHH", len(first), len(second), room) + first + second for first, second, room in found)
+    return b"".join(struct.pack("<HHH", len(first), len(second), room) + first + second for first, second, room in found) + names(FOLDERS)
 
 
 def kinds(found):

@@ -2,7 +2,8 @@
 border of the allowance, of the number of sheets, of the lengths and of the slots, refused sheets at every place.
 
 A file of cases has, for each, in 2 bytes each the number of sheets, of slots, the lengths of the book and of the buffer; the allowance in 4
-bytes; the first 16 lengths in 4 bytes each; then the book and the buffer.
+bytes; the first 16 lengths in 4 bytes each; then the book and the buffer. Behind the last case it has the runs of mixqueue: for each the
+allowance in 4 bytes, the length of the folder's name in 2, and the name.
 """
 import struct
 
@@ -112,7 +113,8 @@ def cases():
 def file_of(found):
     return b"".join(struct.pack("<HHHHI", len(lengths), slots, len(book), len(buffer), allowance)
                     + struct.pack("<16I", *(lengths + [0] * 16)[:16]) + book + buffer
-                    for book, lengths, buffer, allowance, slots in found)
+                    for book, lengths, buffer, allowance, slots in found) \
+        + b"".join(struct.pack("<IH", allowance, len(name)) + name.encode() for name, allowance in RUNS)
 
 
 def kinds(found):

@@ -61,8 +61,8 @@ fn case(cases: &[u8], start: usize) -> usize {
     )
 }
 
-// Each case of a file.
-fn each(cases: &[u8], count: u64) {
+// Each case of a file. Gives back where the names of the folders start, behind the last case.
+fn each(cases: &[u8], count: u64) -> usize {
     let mut at = 0;
     let mut number = 0;
     while number < count {
@@ -70,6 +70,7 @@ fn each(cases: &[u8], count: u64) {
         at = case(cases, at);
         number += 1;
     }
+    at
 }
 
 // The report of one card of the first case's book, in fewer slots than it needs.
@@ -86,29 +87,35 @@ fn folder(name: &[u8]) {
     lean_folder::list_boats(name);
 }
 
+// The folder at `start`: the length of its name in 2 bytes, and the name. Gives back where the next one starts.
+fn folder_at(cases: &[u8], start: usize) -> usize {
+    let at = start % 1000000;
+    let from = at + 2;
+    let end = from + u16_at(cases, at) as usize;
+    folder(between(cases, from, end));
+    end
+}
+
+// leanlist in one folder after another.
+fn folders(cases: &[u8], start: usize, count: u64) {
+    let mut at = start;
+    let mut number = 0;
+    while number < count {
+        at = folder_at(cases, at);
+        number += 1;
+    }
+}
+
+// All of it; the cases and the names of the folders are read into this buffer.
+fn run(buffer: &mut [u8]) {
+    let n = file_io::read_file(b"cases.dat", buffer);
+    let cases = file_io::first_bytes(buffer, n);
+    let names = each(cases, 160);
+    too_few_slots(cases);
+    folders(cases, names, 20);
+}
+
 fn main() {
     let mut cases = [0u8; 240000];
-    let n = file_io::read_file(b"cases.dat", &mut cases);
-    each(&cases[..n], 160);
-    too_few_slots(&cases[..n]);
-    folder(b"");
-    folder(b"none");
-    folder(b"one");
-    folder(b"eleven");
-    folder(b"twelve");
-    folder(b"sixty_four");
-    folder(b"sixty_five");
-    folder(b"damaged_behind");
-    folder(b"no_sheet");
-    folder(b"no_card");
-    folder(b"editions");
-    folder(b"counted_from_0");
-    folder(b"sheet_first");
-    folder(b"card_order");
-    folder(b"book_refused");
-    folder(b"book_before_58");
-    folder(b"no_book");
-    folder(b"long_card");
-    folder(b"longest_card");
-    folder(b"long_sheet");
+    run(&mut cases);
 }

@@ -109,8 +109,8 @@ fn case(cases: &[u8], start: usize) -> usize {
     end
 }
 
-// Each case of a file.
-fn each(cases: &[u8], count: u64) {
+// Each case of a file. Gives back where the runs of mixqueue start, behind the last case.
+fn each(cases: &[u8], count: u64) -> usize {
     let mut at = 0;
     let mut number = 0;
     while number < count {
@@ -118,71 +118,39 @@ fn each(cases: &[u8], count: u64) {
         at = case(cases, at);
         number += 1;
     }
+    at
 }
 
-// mixqueue in a folder.
-fn folder(name: &[u8], allowance: u32) {
+// The run of mixqueue at `start`: the allowance in 4 bytes, the length of the folder's name in 2, and the name. Gives back where the next run
+// starts.
+fn folder(cases: &[u8], start: usize) -> usize {
+    let at = start % 1000000;
+    let allowance = u32_at(cases, at);
+    let from = at + 6;
+    let end = from + u16_at(cases, at + 4) as usize;
+    let name = between(cases, from, end);
     test_printing::title(name);
     test_printing::line(b"allowance", allowance as u64);
     queue_folder::list_queue(name, allowance);
+    end
 }
 
-// mixqueue in the current folder, of three sheets.
-fn three_sheets() {
-    folder(b"", 3);
-    folder(b"", 6);
-    folder(b"", 7);
-    folder(b"", 5760);
-    folder(b"", 2);
-    folder(b"", 5761);
+// mixqueue in one folder after another.
+fn folders(cases: &[u8], start: usize, count: u64) {
+    let mut at = start;
+    let mut number = 0;
+    while number < count {
+        at = folder(cases, at);
+        number += 1;
+    }
 }
 
-// mixqueue in folders of no sheet, of one, of sixteen and of seventeen.
-fn other_counts() {
-    folder(b"none", 1);
-    folder(b"none", 0);
-    folder(b"one", 1);
-    folder(b"one", 2);
-    folder(b"one", 0);
-    folder(b"sixteen", 16);
-    folder(b"sixteen", 15);
-    folder(b"sixteen", 70);
-    folder(b"sixteen", 5760);
-    folder(b"seventeen", 17);
-    folder(b"seventeen", 0);
-}
-
-// mixqueue in folders with a number left out, with sheets of both editions, and with a refused sheet.
-fn other_sheets() {
-    folder(b"no_third", 9);
-    folder(b"counted_from_0", 9);
-    folder(b"editions", 4);
-    folder(b"editions", 41);
-    folder(b"editions", 60);
-    folder(b"second_refused", 3);
-    folder(b"second_refused", 2);
-    folder(b"empty", 9);
-    folder(b"seventeenth_empty", 17);
-}
-
-// mixqueue in folders with a refused book, with files as long as they may be or longer, and on the highest number.
-fn borders() {
-    folder(b"book_refused", 2);
-    folder(b"book_before_44", 1);
-    folder(b"no_book", 1);
-    folder(b"longest", 7);
-    folder(b"too_long", 7);
-    folder(b"one", 4294967295);
-}
-
-// All of it; the cases are read into this buffer.
+// All of it; the cases and the runs are read into this buffer.
 fn run(buffer: &mut [u8]) {
     let n = file_io::read_file(b"cases.dat", buffer);
-    each(file_io::first_bytes(buffer, n), 240);
-    three_sheets();
-    other_counts();
-    other_sheets();
-    borders();
+    let cases = file_io::first_bytes(buffer, n);
+    let runs = each(cases, 240);
+    folders(cases, runs, 32);
 }
 
 fn main() {
