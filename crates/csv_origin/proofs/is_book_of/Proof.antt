@@ -1,9 +1,9 @@
 -- `csv_origin::is_book_of` meets its contract: a law of `Books` for each return.
 use borrow.Author.Needs.{needs}
 use mathlib.Core.Path.{_≡_, sym}
-use Prim.Native.Nat.{_≤_}
+use Prim.Native.Nat.{ℕ, _≤_}
 use native.Mathlib.Omega.{arith}
-use lib.ListN.{length}
+use lib.ListN.{length, length-replicate}
 use lib.Seq.{length-take-le}
 use Rattle.csv_origin.proofs.Books.{book-short, no-book, book-compared}
 use Rattle.csv_origin.proofs.is_book_of.Statement.{statement}
@@ -17,7 +17,7 @@ short : (c : tie.Else1) → c .before .before .before .csv-book .result .len ≤
 short c = let at-book = c .before .before .before in book-short _ _ (c .if1 .left) _ (at-book .csv-book .ensures .1 .1)
 
 returns : tie.Need-returns
-returns c = let at-book = c .before .before .before in no-book _ _ (at-book .csv-book .ensures .0) (search needs) (c .if1 .taken) _
+returns c = let at-book = c .before .before .before in no-book _ _ (at-book .csv-book .ensures .0) (length-replicate {A = ℕ} 40000 0) (c .if1 .taken) _
 
 array-share-prefix-output : tie.Need-array-share-prefix-output
 array-share-prefix-output c = omega (arith, short c, long (c .before .before .before))
@@ -32,13 +32,13 @@ returns-2 c =
     let at-left = c .before .before in
     let at-book = at-left .before .before .before in
     let e = at-book .csv-book .ensures in
-    book-compared _ _ _ (e .0) (search needs) (at-left .if1 .left) (e .1 .0) (e .1 .1) _ (c .is-same .ensures)
+    book-compared _ _ _ (e .0) (length-replicate {A = ℕ} 40000 0) (at-left .if1 .left) (e .1 .0) (e .1 .1) _ (c .is-same .ensures)
 
 pub is-book-of-spec : {M : Type 1} → statement M
 is-book-of-spec =
     tie.close
     (tie.spec
-    (λ c. search needs)
+    (λ c. sym (length-replicate {A = ℕ} 40000 0))
     (λ c κs. search needs)
     returns
     array-share-prefix-output

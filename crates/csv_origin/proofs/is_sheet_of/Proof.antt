@@ -1,9 +1,9 @@
 -- `csv_origin::is_sheet_of` meets its contract: a law of `Sheets` for each return.
 use borrow.Author.Needs.{needs}
 use mathlib.Core.Path.{_≡_, sym}
-use Prim.Native.Nat.{_≤_}
+use Prim.Native.Nat.{ℕ, _≤_}
 use native.Mathlib.Omega.{arith}
-use lib.ListN.{length}
+use lib.ListN.{length, length-replicate}
 use lib.Seq.{length-take-le}
 use Rattle.csv_origin.proofs.Sheets.{sheet-short, front-decides, no-sheet, sheet-compared}
 use Rattle.csv_origin.proofs.is_sheet_of.Statement.{statement}
@@ -19,13 +19,13 @@ short c = let at-sheet = c .before .before .before .before .before in sheet-shor
 returns : tie.Need-returns
 returns c =
     let at-sheet = c .before .before .before .before in
-    front-decides _ _ _ (at-sheet .csv-sheet .ensures .0) (search needs) (c .before .if1 .taken) _ (c .is-front-of .ensures)
+    front-decides _ _ _ (at-sheet .csv-sheet .ensures .0) (length-replicate {A = ℕ} 40000 0) (c .before .if1 .taken) _ (c .is-front-of .ensures)
 
 returns-2 : tie.Need-returns-2
 returns-2 c =
     let at-left = c .before .before in
     let at-sheet = at-left .before .before .before in
-    no-sheet _ _ _ (at-sheet .csv-sheet .ensures .0) (search needs) (at-left .if1 .left) (c .if2 .taken) _
+    no-sheet _ _ _ (at-sheet .csv-sheet .ensures .0) (length-replicate {A = ℕ} 40000 0) (at-left .if1 .left) (c .if2 .taken) _
 
 array-share-prefix-output : tie.Need-array-share-prefix-output
 array-share-prefix-output c = omega (arith, short c, long (c .before .before .before .before .before))
@@ -41,13 +41,13 @@ returns-3 c =
     let at-left = c .before .before in
     let at-sheet = at-left .before .before .before .before .before in
     let e = at-sheet .csv-sheet .ensures in
-    sheet-compared _ _ _ _ (e .0) (search needs) (at-left .if2 .left) (e .1 .0) (e .1 .1) _ (c .is-edition-of .ensures)
+    sheet-compared _ _ _ _ (e .0) (length-replicate {A = ℕ} 40000 0) (at-left .if2 .left) (e .1 .0) (e .1 .1) _ (c .is-edition-of .ensures)
 
 pub is-sheet-of-spec : {M : Type 1} → statement M
 is-sheet-of-spec =
     tie.close
     (tie.spec
-    (λ c. search needs)
+    (λ c. sym (length-replicate {A = ℕ} 40000 0))
     (λ c κs. search needs)
     (λ c κs. search needs)
     returns
