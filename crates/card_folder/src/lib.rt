@@ -13,24 +13,56 @@ fn file(path: &[u8], output: &[u8; card_listing::MOST_CARD], len: usize) -> bool
     file_io::replace_or_tell(path, file_io::first_bytes(output, len))
 }
 
-// Searches fleet.wbk and sheet.wsh in a folder, files the card there as card.wcd and prints the listing. The current folder has no name.
-// Where the files are refused or the card cannot be written, an older card.wcd stays as it was, and standard error says so, with what is known of
-// a refusal.
-pub fn file_card(folder: &[u8]) {
-    let mut book = [0u8; 40001];
-    let mut sheet = [0u8; 40001];
-    let n = file_io::read_in(folder, b"fleet.wbk", &mut book);
-    let m = file_io::read_in(folder, b"sheet.wsh", &mut sheet);
-    old_files::tell_old(folder, &book[..n], &sheet[..m]);
+// Files the card of the search of these files in a folder as card.wcd, and prints the listing.
+fn file_found(folder: &[u8], book: &[u8], sheet: &[u8]) {
     let mut output = [0u8; card_listing::MOST_CARD];
-    let filing = card_listing::filed_text(&book[..n], &sheet[..m], &mut output);
-    refusal_output::tell_detail(&book[..n], &sheet[..m], filing.refusal);
+    let filing = card_listing::filed_text(book, sheet, &mut output);
+    refusal_output::tell_detail(book, sheet, filing.refusal);
     let path = paths::path_in(folder, b"card.wcd");
     let bytes = path.bytes;
     let name = file_io::first_bytes(&bytes, path.len);
     if file(name, &output, filing.len) {
         file_io::print(filing.text);
     }
+}
+
+// The same of fleet.wbk and sheet.wsh there, which are read into these buffers.
+fn file_read(folder: &[u8], book: &mut [u8], sheet: &mut [u8]) {
+    let n = file_io::read_in(folder, b"fleet.wbk", book);
+    let m = file_io::read_in(folder, b"sheet.wsh", sheet);
+    let fleet = file_io::first_bytes(book, n);
+    let asked = file_io::first_bytes(sheet, m);
+    old_files::tell_old(folder, fleet, asked);
+    file_found(folder, fleet, asked);
+}
+
+// Searches fleet.wbk and sheet.wsh in a folder, files the card there as card.wcd and prints the listing. The current folder has no name.
+// Where the files are refused or the card cannot be written, an older card.wcd stays as it was, and standard error says so, with what is known of
+// a refusal.
+pub fn file_card(folder: &[u8]) {
+    let mut book = [0u8; 40001];
+    let mut sheet = [0u8; 40001];
+    file_read(folder, &mut book, &mut sheet);
+}
+
+// Checks a card against these files, and prints the listing of its answer.
+fn check_found(folder: &[u8], book: &[u8], sheet: &[u8], card: &[u8]) {
+    old_files::tell_old(folder, book, sheet);
+    let listed = card_listing::card_text(book, sheet, card);
+    let refusal = listed.refusal;
+    refusal_output::tell_detail(book, sheet, refusal);
+    refusal_output::tell_card(b"card.wcd", book, sheet, card, refusal);
+    file_io::print(listed.text);
+}
+
+// The same of card.wcd, fleet.wbk and sheet.wsh in a folder, which are read into these buffers.
+fn check_read(folder: &[u8], book: &mut [u8], sheet: &mut [u8], filed: &mut [u8]) {
+    let n = file_io::read_in(folder, b"fleet.wbk", book);
+    let m = file_io::read_in(folder, b"sheet.wsh", sheet);
+    let k = file_io::read_in(folder, b"card.wcd", filed);
+    let fleet = file_io::first_bytes(book, n);
+    let asked = file_io::first_bytes(sheet, m);
+    check_found(folder, fleet, asked, file_io::first_bytes(filed, k));
 }
 
 // Checks card.wcd against fleet.wbk and sheet.wsh in a folder, and prints the listing of the card's answer; standard error says what is
@@ -41,16 +73,5 @@ pub fn check_card(folder: &[u8]) {
     let mut book = [0u8; 40001];
     let mut sheet = [0u8; 40001];
     let mut filed = [0u8; 40001];
-    let n = file_io::read_in(folder, b"fleet.wbk", &mut book);
-    let m = file_io::read_in(folder, b"sheet.wsh", &mut sheet);
-    let k = file_io::read_in(folder, b"card.wcd", &mut filed);
-    let fleet = file_io::first_bytes(&book, n);
-    let asked = file_io::first_bytes(&sheet, m);
-    let card = file_io::first_bytes(&filed, k);
-    old_files::tell_old(folder, fleet, asked);
-    let listed = card_listing::card_text(fleet, asked, card);
-    let refusal = listed.refusal;
-    refusal_output::tell_detail(fleet, asked, refusal);
-    refusal_output::tell_card(b"card.wcd", fleet, asked, card, refusal);
-    file_io::print(listed.text);
+    check_read(folder, &mut book, &mut sheet, &mut filed);
 }

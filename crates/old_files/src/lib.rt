@@ -31,13 +31,30 @@ fn tell_sheet(fleet: &[u8], csv: &[u8], sheet: &[u8]) {
     );
 }
 
+// Says it of a book in a folder, where fleet.csv is there, which is read into this buffer.
+fn tell_book_in(folder: &[u8], book: &[u8], csv: &mut [u8]) {
+    let content = file_io::found_in(folder, b"fleet.csv", csv);
+    if content.there {
+        tell_book(file_io::first_bytes(csv, content.len), book);
+    }
+}
+
 // Says it of a book that was read in a folder, where fleet.csv is there.
 pub fn tell_old_book(folder: &[u8], book: &[u8]) {
     let mut csv = [0u8; 200001];
-    let content = file_io::found_in(folder, b"fleet.csv", &mut csv);
-    let n = content.len;
-    if content.there {
-        tell_book(&csv[..n], book);
+    tell_book_in(folder, book, &mut csv);
+}
+
+// Says both of a book and a sheet in a folder, where the CSVs are there, which are read into these buffers.
+fn tell_both_in(folder: &[u8], book: &[u8], sheet: &[u8], fleet: &mut [u8], csv: &mut [u8]) {
+    let first = file_io::found_in(folder, b"fleet.csv", fleet);
+    let second = file_io::found_in(folder, b"sheet.csv", csv);
+    let read = file_io::first_bytes(fleet, first.len);
+    if first.there {
+        tell_book(read, book);
+    }
+    if second.there {
+        tell_sheet(read, file_io::first_bytes(csv, second.len), sheet);
     }
 }
 
@@ -45,14 +62,5 @@ pub fn tell_old_book(folder: &[u8], book: &[u8]) {
 pub fn tell_old(folder: &[u8], book: &[u8], sheet: &[u8]) {
     let mut fleet = [0u8; 200001];
     let mut csv = [0u8; 39001];
-    let first = file_io::found_in(folder, b"fleet.csv", &mut fleet);
-    let second = file_io::found_in(folder, b"sheet.csv", &mut csv);
-    let n = first.len;
-    let m = second.len;
-    if first.there {
-        tell_book(&fleet[..n], book);
-    }
-    if second.there {
-        tell_sheet(&fleet[..n], &csv[..m], sheet);
-    }
+    tell_both_in(folder, book, sheet, &mut fleet, &mut csv);
 }

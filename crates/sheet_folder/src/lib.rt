@@ -39,6 +39,23 @@ fn tell_old_book(folder: &[u8], fleet: &[u8]) {
     old_files::tell_book(fleet, &book[..n]);
 }
 
+// The same of fleet.csv and sheet.csv there, which are read into these buffers.
+fn file_read(folder: &[u8], fleet: &mut [u8], csv: &mut [u8]) {
+    let first = file_io::content_in(folder, b"fleet.csv", fleet);
+    let second = file_io::content_in(folder, b"sheet.csv", csv);
+    let read = file_io::first_bytes(fleet, first.len);
+    if !first.there {
+        file_io::tell_kept(folder, b"sheet.wsh");
+        return;
+    }
+    tell_old_book(folder, read);
+    if !second.there {
+        file_io::tell_kept(folder, b"sheet.wsh");
+        return;
+    }
+    file_made(folder, read, file_io::first_bytes(csv, second.len));
+}
+
 // Makes the sheet of fleet.csv and sheet.csv in a folder, files it there as sheet.wsh and prints its lines. The current folder has no
 // name. Where a CSV is missing or has a fault, or the sheet cannot be written, an older sheet.wsh stays as it was, and standard error says
 // what is wrong. After a fault of a CSV it also says that sheet.wsh is as it was. It says too where a fleet.wbk was not made from fleet.csv.
@@ -46,18 +63,5 @@ fn tell_old_book(folder: &[u8], fleet: &[u8]) {
 pub fn file_sheet(folder: &[u8]) {
     let mut fleet = [0u8; 200001];
     let mut csv = [0u8; 39001];
-    let first = file_io::content_in(folder, b"fleet.csv", &mut fleet);
-    let second = file_io::content_in(folder, b"sheet.csv", &mut csv);
-    let n = first.len;
-    let m = second.len;
-    if !first.there {
-        file_io::tell_kept(folder, b"sheet.wsh");
-        return;
-    }
-    tell_old_book(folder, &fleet[..n]);
-    if !second.there {
-        file_io::tell_kept(folder, b"sheet.wsh");
-        return;
-    }
-    file_made(folder, &fleet[..n], &csv[..m]);
+    file_read(folder, &mut fleet, &mut csv);
 }

@@ -42,11 +42,20 @@ fn each(cases: &[u8], count: u64) {
     }
 }
 
-// A CSV of 200,000 bytes and one of 200,001, and a buffer that is too short.
+// The longest CSV, and all of these bytes, one more.
+fn long_csvs(bytes: &[u8]) {
+    made_of(file_io::first_bytes(bytes, 200000));
+    made_of(bytes);
+}
+
+// CSVs of 200,000 and of 200,001 bytes.
 fn limits() {
     let zeros = [0u8; 200001];
-    made_of(&zeros[..200000]);
-    made_of(&zeros);
+    long_csvs(&zeros);
+}
+
+// A buffer that is too short.
+fn short_buffer() {
     let mut output = [1u8; 39999];
     let made = csv_book::csv_book(b"a,b\nc,1\n", &mut output);
     file_io::print(csv_book_text::fleet_fault(b"", made));
@@ -63,13 +72,19 @@ fn folder(name: &[u8]) {
     test_printing::line(b"sum", test_buffers::checksum(&book[..n]));
 }
 
-fn main() {
-    let mut cases = [0u8; 380000];
-    let n = file_io::read_file(b"cases.dat", &mut cases);
-    each(&cases[..n], 500);
+// All of it; the cases are read into this buffer.
+fn run(buffer: &mut [u8]) {
+    let n = file_io::read_file(b"cases.dat", buffer);
+    each(file_io::first_bytes(buffer, n), 500);
     limits();
+    short_buffer();
     folder(b"");
     folder(b"larger");
     folder(b"faulty");
     folder(b"none");
+}
+
+fn main() {
+    let mut cases = [0u8; 380000];
+    run(&mut cases);
 }

@@ -42,14 +42,24 @@ fn each(cases: &[u8], count: u64) {
     }
 }
 
-// A sheet's CSV of 39,000 bytes and one of 39,001, a fleet's of 200,000 and one of 200,001, and a buffer that is too short.
+// The longest CSV of a sheet and one byte more of these, the longest of a fleet, and all of these bytes, one more.
+fn long_csvs(bytes: &[u8]) {
+    let fleet = b"a,b\nc,1\n";
+    made_of(fleet, file_io::first_bytes(bytes, 39000));
+    made_of(fleet, file_io::first_bytes(bytes, 39001));
+    made_of(file_io::first_bytes(bytes, 200000), b"");
+    made_of(bytes, b"");
+}
+
+// CSVs of 39,000 and 39,001 bytes for a sheet, and of 200,000 and 200,001 for a fleet.
 fn limits() {
     let zeros = [0u8; 200001];
+    long_csvs(&zeros);
+}
+
+// A buffer that is too short.
+fn short_buffer() {
     let fleet = b"a,b\nc,1\n";
-    made_of(fleet, &zeros[..39000]);
-    made_of(fleet, &zeros[..39001]);
-    made_of(&zeros[..200000], b"");
-    made_of(&zeros, b"");
     let mut output = [1u8; 39999];
     let csv = b",b\nd,1\nsteps,1\ntolerance,1\n";
     let made = csv_sheet::csv_sheet(fleet, csv, &mut output);
@@ -76,11 +86,8 @@ fn worked(name: &[u8]) {
     card_folder::check_card(name);
 }
 
-fn main() {
-    let mut cases = [0u8; 185000];
-    let n = file_io::read_file(b"cases.dat", &mut cases);
-    each(&cases[..n], 600);
-    limits();
+// mixsheet in one folder after another, and the way to a card.
+fn folders() {
     folder(b"");
     folder(b"factors");
     folder(b"open");
@@ -92,4 +99,18 @@ fn main() {
     worked(b"");
     worked(b"factors");
     worked(b"open");
+}
+
+// All of it; the cases are read into this buffer.
+fn run(buffer: &mut [u8]) {
+    let n = file_io::read_file(b"cases.dat", buffer);
+    each(file_io::first_bytes(buffer, n), 600);
+    limits();
+    short_buffer();
+    folders();
+}
+
+fn main() {
+    let mut cases = [0u8; 185000];
+    run(&mut cases);
 }

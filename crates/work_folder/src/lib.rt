@@ -24,6 +24,30 @@ fn tell_working(refusal: u32) {
     }
 }
 
+// Works the search of these files over by at most so many moves, files the card of the result in a folder as worked.wcd and prints its listing.
+fn file_found(folder: &[u8], book: &[u8], sheet: &[u8], moves: u32) {
+    let mut output = [0u8; card_listing::MOST_CARD];
+    let filing = worked_listing::worked_text(book, sheet, moves, &mut output);
+    refusal_output::tell_detail(book, sheet, filing.refusal);
+    tell_working(filing.refusal);
+    let path = paths::path_in(folder, b"worked.wcd");
+    let bytes = path.bytes;
+    let name = file_io::first_bytes(&bytes, path.len);
+    if file(name, &output, filing.len) {
+        file_io::print(filing.text);
+    }
+}
+
+// The same of fleet.wbk and sheet.wsh there, which are read into these buffers.
+fn file_read(folder: &[u8], moves: u32, book: &mut [u8], sheet: &mut [u8]) {
+    let n = file_io::read_in(folder, b"fleet.wbk", book);
+    let m = file_io::read_in(folder, b"sheet.wsh", sheet);
+    let fleet = file_io::first_bytes(book, n);
+    let asked = file_io::first_bytes(sheet, m);
+    old_files::tell_old(folder, fleet, asked);
+    file_found(folder, fleet, asked, moves);
+}
+
 // Searches fleet.wbk and sheet.wsh in a folder, works the search over by at most so many moves where it ends Spent, files the card of the
 // result there as worked.wcd and prints its listing. The current folder has no name. Where the call is refused or the card cannot be written,
 // an older worked.wcd stays as it was, and standard error says so, with what is known of the refusal. It says too
@@ -32,17 +56,5 @@ fn tell_working(refusal: u32) {
 pub fn file_worked(folder: &[u8], moves: u32) {
     let mut book = [0u8; 40001];
     let mut sheet = [0u8; 40001];
-    let n = file_io::read_in(folder, b"fleet.wbk", &mut book);
-    let m = file_io::read_in(folder, b"sheet.wsh", &mut sheet);
-    old_files::tell_old(folder, &book[..n], &sheet[..m]);
-    let mut output = [0u8; card_listing::MOST_CARD];
-    let filing = worked_listing::worked_text(&book[..n], &sheet[..m], moves, &mut output);
-    refusal_output::tell_detail(&book[..n], &sheet[..m], filing.refusal);
-    tell_working(filing.refusal);
-    let path = paths::path_in(folder, b"worked.wcd");
-    let bytes = path.bytes;
-    let name = file_io::first_bytes(&bytes, path.len);
-    if file(name, &output, filing.len) {
-        file_io::print(filing.text);
-    }
+    file_read(folder, moves, &mut book, &mut sheet);
 }
