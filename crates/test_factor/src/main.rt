@@ -2,11 +2,8 @@
 // all three, the better of two chosen, a sheet searched and checked with drawn tables of shares and released sets, and a sheet damaged. Small
 // books, some of 64 columns, one of full size, some of 360 steps, and some of up to 40 boats. Before them, tables and sets written by hand.
 // The expected output is made by tests/expected/test_factor.py.
-mod factored;
 mod lent;
 mod marked;
-mod sets;
-mod tables;
 
 use method::Answer;
 use method::Searched;
@@ -14,6 +11,9 @@ use test_buffers::between;
 use test_buffers::less;
 use test_samples::Part;
 use test_samples::Plan;
+use test_terms::factored;
+use test_terms::sets;
+use test_terms::tables;
 
 // The whole part of E / W², less one, as it is or one more.
 fn beside(a: Answer, kind: u64) -> u64 {

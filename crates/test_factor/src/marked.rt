@@ -1,10 +1,10 @@
 // Runs with tables of shares and released sets that tests/test_exact.py works out by hand, and each refusal of a table and of a set beside its
 // neighbours, on boats (0,0), (4,0) and (0,4).
-use crate::tables::first;
 use method::Released;
 use test_buffers::between;
 use test_buffers::less;
 use test_buffers::put_number;
+use test_terms::tables::first;
 
 // Puts the book into a buffer of zeros.
 fn put_book(buffer: &mut [u8]) -> usize {
@@ -70,7 +70,7 @@ fn refused() {
 fn long(name: &[u8], kind: u64, count: usize) {
     let mut table = [0u16; 361];
     let mut seed = 1;
-    crate::tables::put_shares(&mut table, &mut seed, kind, count, 361);
+    test_terms::tables::put_shares(&mut table, &mut seed, kind, count, 361);
     case(name, &table, count, 1, 9, 1);
 }
 

@@ -1,10 +1,10 @@
--- `test_factor::sets::put_others` meets its contract.
+-- `test_terms::sets::put_others` meets its contract.
 use borrow.Author.Needs.{needs}
 use mathlib.Core.Path.{_≡_}
 use Prim.Native.Nat.{_-_}
 use lib.ListN.{length}
-use Rattle.test_factor.proofs.sets.put_others.Statement.{statement}
-use Rattle.test_factor.proofs.sets.put_others.Tie as tie
+use Rattle.test_terms.proofs.sets.put_others.Statement.{statement}
+use Rattle.test_terms.proofs.sets.put_others.Tie as tie
 
 abbrev Inv-loop : tie.InvT-loop
 Inv-loop book₀ seed₀ plan rows set boats i₀ book seed i = length book ≡ length book₀

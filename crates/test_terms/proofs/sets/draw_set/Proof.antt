@@ -1,8 +1,8 @@
--- `test_factor::sets::draw_set` meets its contract.
+-- `test_terms::sets::draw_set` meets its contract.
 use borrow.Author.Needs.{needs}
 use Prim.Native.Nat.{_-_, _≤_}
-use Rattle.test_factor.proofs.sets.draw_set.Statement.{statement}
-use Rattle.test_factor.proofs.sets.draw_set.Tie as tie
+use Rattle.test_terms.proofs.sets.draw_set.Statement.{statement}
+use Rattle.test_terms.proofs.sets.draw_set.Tie as tie
 
 abbrev Inv-loop : tie.InvT-loop
 Inv-loop seed₀ boats bits₀ kind chosen k₀ seed bits k = k ≤ 32

@@ -1,10 +1,10 @@
--- `test_factor::tables::put_shares` meets its contract.
+-- `test_terms::tables::put_shares` meets its contract.
 use borrow.Author.Needs.{needs}
 use mathlib.Core.Path.{_≡_}
 use Prim.Native.Nat.{_-_}
 use lib.ListN.{length}
-use Rattle.test_factor.proofs.tables.put_shares.Statement.{statement}
-use Rattle.test_factor.proofs.tables.put_shares.Tie as tie
+use Rattle.test_terms.proofs.tables.put_shares.Statement.{statement}
+use Rattle.test_terms.proofs.tables.put_shares.Tie as tie
 
 abbrev Inv-loop : tie.InvT-loop
 Inv-loop table₀ seed₀ kind count place most₀ total₀ i₀ table seed most total i = length table ≡ length table₀
