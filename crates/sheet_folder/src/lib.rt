@@ -39,7 +39,7 @@ fn tell_old_book(folder: &[u8], fleet: &[u8]) {
     old_files::tell_book(fleet, &book[..n]);
 }
 
-// The same of fleet.csv and sheet.csv there, which are read into these buffers.
+// Files the sheet of fleet.csv and sheet.csv of a folder there, and says where fleet.wbk is not of that fleet.csv. The CSVs are read into these buffers.
 fn file_read(folder: &[u8], fleet: &mut [u8], csv: &mut [u8]) {
     let first = file_io::content_in(folder, b"fleet.csv", fleet);
     let second = file_io::content_in(folder, b"sheet.csv", csv);
