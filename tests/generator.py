@@ -1,4 +1,4 @@
-"""Drawn fleet books and sheets for the tests, draw for draw as crates/test_samples makes them."""
+"""Drawn fleet books and sheets for the tests, draw for draw as crates/test_samples and crates/test_terms make them."""
 
 SCALES = [1, 2, 10, 200, 2000]
 SPECIAL = [0, 1, 2, 3, 5, 8, 10, 64, 65, 256, 360, 361]

@@ -134,7 +134,7 @@ def reach(file, words):
 def entries():
     """The functions whose comment starts with ENTRY, each with its file and its signature and contract; the crates go by subject, as in the table of
     docs/architecture.md, which check_crates.py holds to crates.txt."""
-    rows = read("docs/architecture.md").split("| crate | holds | uses |\n", 1)[1]
+    rows = read("docs/architecture.md").split("| crate | holds | uses |\n", 1)[1].split("\n\n", 1)[0]
     for crate in [name for row in re.findall(r"^\| (`[^|]*) \|", rows, re.M) for name in re.findall(r"`(\w+)`", row)]:
         path = "crates/%s/src/lib.rt" % crate
         text = read(path) if os.path.isfile(os.path.join(ROOT, path)) else ""
