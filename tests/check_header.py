@@ -25,7 +25,7 @@ def read(path):
 
 
 HEADER = read("include/dofitrano.h")
-EXPORTS = "".join(read("crates/%s/src/lib.rt" % part) for part in ("exported_search", "exported_cards", "exported_files"))
+EXPORTS = "".join(read("crates/%s/src/lib.rt" % part) for part in ("exported_search", "exported_queue", "exported_cards", "exported_files"))
 DEFINED = {name: int(value) for name, value in re.findall(r"#define (DOFITRANO_\w+) (\d+)", HEADER)}
 STRUCTS = {}  # a type of the code -> the struct of C that stands for it
 faults = []

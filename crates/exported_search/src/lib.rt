@@ -1,6 +1,6 @@
-// Functions for programs in other languages: the search, its listing and the queue. Each is a thin exported function over an entry of another crate.
+// Functions for programs in other languages: the search and its listing. Each is a thin exported function over an entry of another crate.
 //
-// Entries, which ask nothing of their caller: dofitrano_search, dofitrano_search_with, dofitrano_listing, dofitrano_run_queue.
+// Entries, which ask nothing of their caller: dofitrano_search, dofitrano_search_with, dofitrano_listing.
 // A slice passes as a pointer and a length; include/dofitrano.h declares the functions for C and says what a caller in another
 // language must see to. The first clause of a contract gives the reply, the second every slot or byte that was lent, the third
 // what the entry behind it promises of both.
@@ -16,11 +16,8 @@ ghost use Rattle.search_listing.specs.Searches.{search-outcome, search-shares, 
 ghost use Rattle.exported_types.specs.Replies.{reply-of};
 ghost use Rattle.exported_search.specs.Buffers.{bytes-after, bytes-put};
 ghost use Rattle.text.specs.Texts.{text-limit};
-ghost use Rattle.sheet_queue.specs.Queue.{lengths, queue-refusal, records-after, queue-slots-after};
-ghost use Rattle.sheet_queue.specs.Promise.{Queue-right};
 use exported_types::Reply;
 use method::Released;
-use sheet_queue::SheetRecord;
 
 // ENTRY. The search for other languages: the reply of `search` for these files and this share list, and its slots afterwards.
 #[no_mangle]
@@ -68,19 +65,4 @@ pub extern "C" fn dofitrano_listing(book: &[u8], sheet: &[u8], output: &mut [u8]
     let bytes = text.bytes;
     buffers::put_bytes(output, 0, &bytes[..count]);
     count
-}
-
-// ENTRY. A queue of sheets on one allowance for other languages, as `run_queue` runs it: the number that refuses it or 0, the records and
-// the slots.
-#[no_mangle]
-pub extern "C" fn dofitrano_run_queue(
-    queue: &mut [SheetRecord],
-    book: &[u8],
-    sheets: &[u8],
-    allowance: u32,
-    shares: &mut [u16],
-) -> u32
-    ensures { λ r. ⌜ (r ≡ queue-refusal (now (book .entry)) (lengths (now (queue .entry))) (now (sheets .entry)) allowance (length (now (shares .entry)))) × (now (queue .exit) ≡ records-after r (now (book .entry)) (now (sheets .entry)) allowance (now (queue .entry))) × (now (shares .exit) ≡ queue-slots-after r (now (book .entry)) (now (sheets .entry)) allowance (now (queue .entry)) (now (shares .entry))) × Queue-right (now (book .entry)) (now (sheets .entry)) allowance (now (queue .entry)) (now (shares .entry)) r (now (queue .exit)) (now (shares .exit)) ⌝ }
-{
-    run_queue::run_queue(queue, book, sheets, allowance, shares)
 }

@@ -110,7 +110,7 @@ pub struct Listed {
 }
 
 // ENTRY. The queue of sheets of these lengths, which stand back to back in one buffer, on one allowance of steps: a line a sheet, or the
-// number that refuses it, as `run_queue` runs and refuses it. The last clause says of what is listed all that `run_queue` promises of it.
+// number that refuses it, as `dofitrano_run_queue` runs and refuses it. The last clause says of what is listed all that this entry promises.
 pub fn queue_text(book: &[u8], lengths: &[u32], sheets: &[u8], allowance: u32) -> Listed
     ensures { λ r. ⌜ r .refusal ≡ listing-refusal (now (book .entry)) (now (lengths .entry)) (now (sheets .entry)) allowance ⌝ }
     ensures { λ r. ⌜ r .accepted ≡ listing-accepted (now (book .entry)) (now (lengths .entry)) (now (sheets .entry)) allowance ⌝ }

@@ -8,7 +8,7 @@ use Rattle.sheet_queue.specs.declared.SheetRecord.{SheetRecord}
 use Rattle.sheet_queue.specs.Queue.{blank}
 use Rattle.queue_rounds.specs.declared.Plan.{Plan}
 use Rattle.queue_rounds.specs.declared.Outcome.{Outcome}
-use Rattle.run_queue.specs.declared.Lengths.{Lengths}
+use Rattle.exported_queue.specs.declared.Lengths.{Lengths}
 
 unfoldable pub no-lengths : Lengths
 no-lengths = record { at = replicate 16 0 }

@@ -1,8 +1,8 @@
--- `run_queue::with_length` meets its contract.
+-- `exported_queue::with_length` meets its contract.
 use borrow.Author.Needs.{needs}
 use borrow.Author.Tests.{lt-ltb, le-ltb}
-use Rattle.run_queue.proofs.with_length.Statement.{statement}
-use Rattle.run_queue.proofs.with_length.Tie as tie
+use Rattle.exported_queue.proofs.with_length.Statement.{statement}
+use Rattle.exported_queue.proofs.with_length.Tie as tie
 
 mul-lengths : tie.Need-mul-lengths
 mul-lengths c = search needs

@@ -1,4 +1,4 @@
--- `run_queue::run_queue` meets its contract: a walk of its MIR, by hand. The records are lent to `lengths_of` for a lifetime of the call and come back; the share list is given to
+-- `exported_queue::dofitrano_run_queue` meets its contract: a walk of its MIR, by hand. The records are lent to `lengths_of` for a lifetime of the call and come back; the share list is given to
 -- `run_lengths`, and the records to `store`. All that the proof knows of the three is that they meet their contracts; `Done` says what that is together. Assumes nothing.
 use mathlib.Core.Path.{_≡_, refl, sym, _∙_, ap, subst}
 use Prim.Native.Nat.{ℕ, zero, suc, _≤_, _<_, _^_}
@@ -49,29 +49,29 @@ use Rattle.queue_rounds.specs.declared.Outcome.{Outcome}
 use Rattle.queue_rounds.specs.Work.{Ran}
 use Rattle.queue_rounds.proofs.Outcome as O
 use Rattle.queue_rounds.proofs.Outcome.Laws as O′
-use Rattle.run_queue.specs.declared.Lengths.{Lengths}
-use Rattle.run_queue.specs.Lists.{lengths-to, plan-of, stored}
-use Rattle.run_queue.proofs.Lengths as S
-use Rattle.run_queue.proofs.Lengths.Laws as S′
-use Rattle.run_queue.proofs.Lent.{LentShared, lends-shared, shared-back}
-use Rattle.run_queue.proofs.Done.{count-within, queue-done}
-use Rattle.run_queue.proofs.lengths_of as lens
-use Rattle.run_queue.proofs.lengths_of.Symbol as lens-def
-use Rattle.run_queue.proofs.lengths_of.Symbol.{name as #run-queue·lengths-of}
-use Rattle.run_queue.proofs.lengths_of.Met as lens-thm
-use Rattle.run_queue.proofs.run_lengths as runs
-use Rattle.run_queue.proofs.run_lengths.Symbol as runs-def
-use Rattle.run_queue.proofs.run_lengths.Symbol.{name as #run-queue·run-lengths}
-use Rattle.run_queue.proofs.run_lengths.Met as runs-thm
-use Rattle.run_queue.proofs.store as store
-use Rattle.run_queue.proofs.store.Symbol as store-def
-use Rattle.run_queue.proofs.store.Symbol.{name as #run-queue·store}
-use Rattle.run_queue.proofs.store.Met as store-thm
-use Rattle.run_queue.proofs.run_queue.Key.{name as #run-queue·run-queue}
-use Rattle.run_queue.proofs.run_queue as f
-use Rattle.run_queue.proofs.run_queue.Statement as stated
-use Rattle.run_queue.proofs.run_queue.Code as code
-use Rattle.run_queue.proofs.run_queue.Code.Mir as M′
+use Rattle.exported_queue.specs.declared.Lengths.{Lengths}
+use Rattle.exported_queue.specs.Lists.{lengths-to, plan-of, stored}
+use Rattle.exported_queue.proofs.Lengths as S
+use Rattle.exported_queue.proofs.Lengths.Laws as S′
+use Rattle.exported_queue.proofs.Lent.{LentShared, lends-shared, shared-back}
+use Rattle.exported_queue.proofs.Done.{count-within, queue-done}
+use Rattle.exported_queue.proofs.lengths_of as lens
+use Rattle.exported_queue.proofs.lengths_of.Symbol as lens-def
+use Rattle.exported_queue.proofs.lengths_of.Symbol.{name as #exported-queue·lengths-of}
+use Rattle.exported_queue.proofs.lengths_of.Met as lens-thm
+use Rattle.exported_queue.proofs.run_lengths as runs
+use Rattle.exported_queue.proofs.run_lengths.Symbol as runs-def
+use Rattle.exported_queue.proofs.run_lengths.Symbol.{name as #exported-queue·run-lengths}
+use Rattle.exported_queue.proofs.run_lengths.Met as runs-thm
+use Rattle.exported_queue.proofs.store as store
+use Rattle.exported_queue.proofs.store.Symbol as store-def
+use Rattle.exported_queue.proofs.store.Symbol.{name as #exported-queue·store}
+use Rattle.exported_queue.proofs.store.Met as store-thm
+use Rattle.exported_queue.proofs.dofitrano_run_queue.Key.{name as #exported-queue·dofitrano-run-queue}
+use Rattle.exported_queue.proofs.dofitrano_run_queue as f
+use Rattle.exported_queue.proofs.dofitrano_run_queue.Statement as stated
+use Rattle.exported_queue.proofs.dofitrano_run_queue.Code as code
+use Rattle.exported_queue.proofs.dofitrano_run_queue.Code.Mir as M′
 
 abbrev tyOf : Local → Ty
 tyOf (local t k) = t
@@ -210,7 +210,7 @@ module _ {M : Type 1} (𝓤 : URA M) (H : Heap 𝓤) (A : Atoms 𝓤) (W : Given
       move ! (2 ∷ 0 ∷ []) $ fjoin ! $ owned ! u32 (Is u32) (uint-makes 𝓤 H A W w32) c _ (refl, c-fits) $ fjoin ! $ move ! (3 ∷ 0 ∷ []) $ fjoin ! $ move ! (2 ∷ 0 ∷ []) $ fjoin ! $ move ! (1 ∷ 0 ∷ []) $ fjoin ! $ frame ! $
       owned ! u32 (Is u32) (uint-makes 𝓤 H A W w32) (r .refusal) _ (refl, r-fits) $ done !
 
-  module _ (C : Calls 𝓤 H) (Λ : Loops 𝓤 H) (fm : FmC 𝓤 H (W .laws) C) (known-lens : Triple 𝓤 (C #run-queue·lengths-of) (Lens 𝓤 H A mem run)) (known-runs : Triple 𝓤 (C #run-queue·run-lengths) (Runs 𝓤 H A mem run)) (known-store : Triple 𝓤 (C #run-queue·store) (Store 𝓤 H A mem run)) where
+  module _ (C : Calls 𝓤 H) (Λ : Loops 𝓤 H) (fm : FmC 𝓤 H (W .laws) C) (known-lens : Triple 𝓤 (C #exported-queue·lengths-of) (Lens 𝓤 H A mem run)) (known-runs : Triple 𝓤 (C #exported-queue·run-lengths) (Runs 𝓤 H A mem run)) (known-store : Triple 𝓤 (C #exported-queue·store) (Store 𝓤 H A mem run)) where
     good-of : (r : Lengths) (w : Val) → r ≡ ls → Is S.the-row r (w ∷ []) → Good ls
     good-of r w e is = subst (λ (v : Lengths). Good v) e (subst (λ (vs : List Val). Is S.the-row r vs) (LL.tells S.the-type S′.the-laws r (w ∷ []) is) is)
 
@@ -285,7 +285,7 @@ module _ {M : Type 1} (𝓤 : URA M) (H : Heap 𝓤) (A : Atoms 𝓤) (W : Given
         keep ! (0 ∷ 3 ∷ 1 ∷ 4 ∷ 7 ∷ 6 ∷ []) $ by ! (exits r′ (zs .0) (ws .1 .1 .1 .1 .1 .0) (LL.owed O.the-type O′.the-laws r′ _ (goodO-of r′ w′ is′) .0 .1) (queue-done ys ran e′) long long₃)))))))))))))))))))))))))))))))))))
 
 module _ {M : Type 1} (𝓤 : URA M) (H : Heap 𝓤) (A : Atoms 𝓤) (W : Given 𝓤 H A) (mem : Memory → SProp 𝓤) (run : Routine → Fun 𝓤) where
-  run-queue-walks : (C : Calls 𝓤 H) (Λ : Loops 𝓤 H) → FmC 𝓤 H (W .laws) C → Triple 𝓤 (C #run-queue·lengths-of) (Lens 𝓤 H A mem run) → Triple 𝓤 (C #run-queue·run-lengths) (Runs 𝓤 H A mem run) → Triple 𝓤 (C #run-queue·store) (Store 𝓤 H A mem run)
+  run-queue-walks : (C : Calls 𝓤 H) (Λ : Loops 𝓤 H) → FmC 𝓤 H (W .laws) C → Triple 𝓤 (C #exported-queue·lengths-of) (Lens 𝓤 H A mem run) → Triple 𝓤 (C #exported-queue·run-lengths) (Runs 𝓤 H A mem run) → Triple 𝓤 (C #exported-queue·store) (Store 𝓤 H A mem run)
       → Walks 𝓤 H A f.ended stayed (WpFn 𝓤 H C Λ code.function) (f.clauses 𝓤 H A mem run)
   run-queue-walks C Λ fm known-lens known-runs known-store = walked 𝓤 H A f.ended stayed (f.clauses 𝓤 H A mem run) (WpFn 𝓤 H C Λ code.function)
       (λ κs. (slice-vals, (slice-vals, (slice-vals, (uint-vals w32, (slice-vals, tt)))))) (λ κs. (mut-slice-tells (named 0) (κs .0) T.the-row, (shr-slice-tells (named 1) (κs .1 .0) u8, (shr-slice-tells (named 2) (κs .1 .1 .0) u8, (uint-tells w32, (mut-slice-tells (named 3) (κs .1 .1 .1 .0) u16, tt))))))
@@ -295,18 +295,18 @@ module _ {M : Type 1} (𝓤 : URA M) (H : Heap 𝓤) (A : Atoms 𝓤) (W : Given
       (are .1 .1 .1 .0 .1) (are .0 .0 .1) (are .1 .0 .0 .1) (are .1 .1 .0 .0 .1) (are .1 .1 .1 .1 .0 .0 .1) C Λ fm known-lens known-runs known-store))
 
 run-queue-meets : {M : Type 1} (𝓤 : URA M) (H : Heap 𝓤) (A : Atoms 𝓤) → Given 𝓤 H A → (mem : Memory → SProp 𝓤) (run : Routine → Fun 𝓤) (𝓣 : Tables 𝓤 H)
-    → Triple 𝓤 (𝓣 .C #run-queue·lengths-of) (Lens 𝓤 H A mem run) → Triple 𝓤 (𝓣 .C #run-queue·run-lengths) (Runs 𝓤 H A mem run) → Triple 𝓤 (𝓣 .C #run-queue·store) (Store 𝓤 H A mem run)
+    → Triple 𝓤 (𝓣 .C #exported-queue·lengths-of) (Lens 𝓤 H A mem run) → Triple 𝓤 (𝓣 .C #exported-queue·run-lengths) (Runs 𝓤 H A mem run) → Triple 𝓤 (𝓣 .C #exported-queue·store) (Store 𝓤 H A mem run)
     → Meets 𝓤 H A f.signature (WpFn 𝓤 H (𝓣 .C) (𝓣 .Λ) code.function) (f.spec 𝓤 H A mem run)
 run-queue-meets 𝓤 H A W mem run 𝓣 known-lens known-runs known-store =
     walk-meets 𝓤 H A f.ended stayed W (goes-gave-slice 𝓤 H A W 4 0 tt (plain (λ _. T.the-row)), (goes-none-slice 𝓤 H A W 4 (1 ∷ []) tt (plain (λ _. u8)) yes, (goes-none-slice 𝓤 H A W 4 (2 ∷ []) tt (plain (λ _. u8)) yes, (goes-none 𝓤 H A W 4 (λ _. u32) yes (λ κs x f. refl), (goes-gave-slice 𝓤 H A W 4 3 tt (plain (λ _. u16)), tt))))) (f.clauses 𝓤 H A mem run)
     (WpFn 𝓤 H (𝓣 .C) (𝓣 .Λ) code.function) (WpFn-mono 𝓤 H (W .laws) 𝓣 code.function) (run-queue-walks 𝓤 H A W mem run (𝓣 .C) (𝓣 .Λ) (fmOf 𝓤 H (W .laws) 𝓣) known-lens known-runs known-store)
 
-pub run-queue-spec : {M : Type 1} → stated.statement M
+pub dofitrano-run-queue-spec : {M : Type 1} → stated.statement M
 unfolding code.routine tablesOf
-run-queue-spec 𝓤 H 𝓜 𝓖 𝓡 =
+dofitrano-run-queue-spec 𝓤 H 𝓜 𝓖 𝓡 =
     entered 𝓤 H (tripleOf 𝓤 H (𝓖 .A) f.signature (f.spec 𝓤 H (𝓖 .A) (𝓜 .mem) (𝓡 .run)))
-    (tables 𝓤 H 𝓜 𝓡 code.env .C) (tables 𝓤 H 𝓜 𝓡 code.env .Λ) #run-queue·run-queue code.function (code.unfolded 𝓤 H 𝓜 𝓡)
+    (tables 𝓤 H 𝓜 𝓡 code.env .C) (tables 𝓤 H 𝓜 𝓡 code.env .Λ) #exported-queue·dofitrano-run-queue code.function (code.unfolded 𝓤 H 𝓜 𝓡)
     (run-queue-meets 𝓤 H (𝓖 .A) (givenOf 𝓤 H 𝓜 𝓖) (𝓜 .mem) (𝓡 .run) (tablesOf 𝓤 H 𝓜 (tables 𝓤 H 𝓜 𝓡 code.env))
-    (cited 𝓤 H (Lens 𝓤 H (𝓖 .A) (𝓜 .mem) (𝓡 .run)) 𝓜 𝓡 code.env #run-queue·lengths-of lens-def.routine code.calls-run-queue·lengths-of (lens-thm.met 𝓤 H 𝓜 𝓖 𝓡))
-    (cited 𝓤 H (Runs 𝓤 H (𝓖 .A) (𝓜 .mem) (𝓡 .run)) 𝓜 𝓡 code.env #run-queue·run-lengths runs-def.routine code.calls-run-queue·run-lengths (runs-thm.met 𝓤 H 𝓜 𝓖 𝓡))
-    (cited 𝓤 H (Store 𝓤 H (𝓖 .A) (𝓜 .mem) (𝓡 .run)) 𝓜 𝓡 code.env #run-queue·store store-def.routine code.calls-run-queue·store (store-thm.met 𝓤 H 𝓜 𝓖 𝓡)))
+    (cited 𝓤 H (Lens 𝓤 H (𝓖 .A) (𝓜 .mem) (𝓡 .run)) 𝓜 𝓡 code.env #exported-queue·lengths-of lens-def.routine code.calls-exported-queue·lengths-of (lens-thm.met 𝓤 H 𝓜 𝓖 𝓡))
+    (cited 𝓤 H (Runs 𝓤 H (𝓖 .A) (𝓜 .mem) (𝓡 .run)) 𝓜 𝓡 code.env #exported-queue·run-lengths runs-def.routine code.calls-exported-queue·run-lengths (runs-thm.met 𝓤 H 𝓜 𝓖 𝓡))
+    (cited 𝓤 H (Store 𝓤 H (𝓖 .A) (𝓜 .mem) (𝓡 .run)) 𝓜 𝓡 code.env #exported-queue·store store-def.routine code.calls-exported-queue·store (store-thm.met 𝓤 H 𝓜 𝓖 𝓡)))

@@ -1,4 +1,4 @@
--- `run_queue::store` meets its contract: a walk of its MIR, by hand, with a loop that calls a covered function at each turn.
+-- `exported_queue::store` meets its contract: a walk of its MIR, by hand, with a loop that calls a covered function at each turn.
 -- Assumes nothing.
 use mathlib.Core.Path.{_≡_, refl, sym, _∙_, ap, subst}
 use Prim.Native.Nat.{ℕ, zero, suc, _+_, _*_, _≤_, _<_, _^_}
@@ -58,12 +58,12 @@ use Rattle.queue_rounds.proofs.record_at as made
 use Rattle.queue_rounds.proofs.record_at.Symbol as made-def
 use Rattle.queue_rounds.proofs.record_at.Symbol.{name as #queue-rounds·record-at}
 use Rattle.queue_rounds.proofs.record_at.Met as made-thm
-use Rattle.run_queue.specs.Lists.{stored}
-use Rattle.run_queue.proofs.store.Key.{name as #run-queue·store}
-use Rattle.run_queue.proofs.store as f
-use Rattle.run_queue.proofs.store.Statement as stated
-use Rattle.run_queue.proofs.store.Code as code
-use Rattle.run_queue.proofs.store.Code.Mir as M′
+use Rattle.exported_queue.specs.Lists.{stored}
+use Rattle.exported_queue.proofs.store.Key.{name as #exported-queue·store}
+use Rattle.exported_queue.proofs.store as f
+use Rattle.exported_queue.proofs.store.Statement as stated
+use Rattle.exported_queue.proofs.store.Code as code
+use Rattle.exported_queue.proofs.store.Code.Mir as M′
 
 abbrev tyOf : Local → Ty
 tyOf (local t k) = t
@@ -287,6 +287,6 @@ pub store-spec : {M : Type 1} → stated.statement M
 unfolding code.routine tablesOf
 store-spec 𝓤 H 𝓜 𝓖 𝓡 =
     entered 𝓤 H (tripleOf 𝓤 H (𝓖 .A) f.signature (f.spec 𝓤 H (𝓖 .A) (𝓜 .mem) (𝓡 .run)))
-    (tables 𝓤 H 𝓜 𝓡 code.env .C) (tables 𝓤 H 𝓜 𝓡 code.env .Λ) #run-queue·store code.function (code.unfolded 𝓤 H 𝓜 𝓡)
+    (tables 𝓤 H 𝓜 𝓡 code.env .C) (tables 𝓤 H 𝓜 𝓡 code.env .Λ) #exported-queue·store code.function (code.unfolded 𝓤 H 𝓜 𝓡)
     (store-meets 𝓤 H (𝓖 .A) (givenOf 𝓤 H 𝓜 𝓖) (𝓜 .mem) (𝓡 .run) (tablesOf 𝓤 H 𝓜 (tables 𝓤 H 𝓜 𝓡 code.env))
     (cited 𝓤 H (Made 𝓤 H (𝓖 .A) (𝓜 .mem) (𝓡 .run)) 𝓜 𝓡 code.env #queue-rounds·record-at made-def.routine code.calls-queue-rounds·record-at (made-thm.met 𝓤 H 𝓜 𝓖 𝓡)))

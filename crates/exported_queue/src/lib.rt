@@ -1,13 +1,15 @@
-// The queue of sheets as a lent list of records: thin functions over the list, which call others on plain numbers.
+// The queue of sheets as a lent list of records, for programs in other languages: thin functions over the list, which call others on plain
+// numbers.
 //
-// Entry, which asks nothing of its caller: run_queue.
+// Entry, which asks nothing of its caller: dofitrano_run_queue. A slice passes as a pointer and a length; include/dofitrano.h declares the
+// function for C and says what a caller in another language must see to.
 ghost use mathlib.Core.Path.{_≡_};
 ghost use Prim.Native.Nat.{_≤_, _<_};
 ghost use lib.ListN.{length};
 ghost use Rattle.sheet_queue.specs.Queue.{lengths, queue-refusal, records-after, queue-slots-after};
 ghost use Rattle.sheet_queue.specs.Promise.{Queue-right};
 ghost use Rattle.queue_rounds.specs.Work.{Ran};
-ghost use Rattle.run_queue.specs.Lists.{no-lengths, with-length, lengths-to, plan-of, stored};
+ghost use Rattle.exported_queue.specs.Lists.{no-lengths, with-length, lengths-to, plan-of, stored};
 use queue_rounds::Outcome;
 use queue_rounds::Plan;
 use sheet_queue::SheetRecord;
@@ -82,7 +84,8 @@ fn store(queue: &mut [SheetRecord], outcome: Outcome, count: usize)
 // other (11 to 17, 46), and fewer than 256 slots a sheet (21), and leaves every record and slot as it was; else gives 0, writes each record
 // but its length, and fills the first of each sheet's 256 slots with its shares, one a boat. The clause gives the number, the records and
 // the slots, and says what holds of them (Queue-right).
-pub fn run_queue(
+#[no_mangle]
+pub extern "C" fn dofitrano_run_queue(
     queue: &mut [SheetRecord],
     book: &[u8],
     sheets: &[u8],

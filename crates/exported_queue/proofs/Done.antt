@@ -21,8 +21,8 @@ use Rattle.queue_rounds.specs.declared.Outcome.{Outcome}
 use Rattle.queue_rounds.specs.Plans.{plan-lengths}
 use Rattle.queue_rounds.specs.Work.{count-after, plan-records, plan-slots, Ran}
 use Rattle.queue_rounds.proofs.Turns.{same-or-other}
-use Rattle.run_queue.specs.declared.Lengths.{Lengths}
-use Rattle.run_queue.specs.Lists.{no-lengths, with-length, lengths-to, plan-of, stored}
+use Rattle.exported_queue.specs.declared.Lengths.{Lengths}
+use Rattle.exported_queue.specs.Lists.{no-lengths, with-length, lengths-to, plan-of, stored}
 
 -- ---- The lengths
 

@@ -1,4 +1,4 @@
--- `run_queue::lengths_of` meets its contract: a walk of its MIR, by hand, with a loop that calls a covered function at each turn.
+-- `exported_queue::lengths_of` meets its contract: a walk of its MIR, by hand, with a loop that calls a covered function at each turn.
 -- Assumes nothing.
 use mathlib.Core.Path.{_≡_, refl, sym, _∙_, ap, subst}
 use Prim.Native.Nat.{ℕ, zero, suc, _+_, _*_, _<_, _^_}
@@ -48,25 +48,25 @@ use denote.Triple.Walked.{says, Stays, stay-none-slice, walkOf, goes-none-slice,
 use denote.Exit.{yes}
 use Rattle.sheet_queue.specs.declared.SheetRecord.{SheetRecord}
 use Rattle.sheet_queue.specs.Queue.{blank}
-use Rattle.run_queue.specs.Lists.{no-lengths, with-length, lengths-to}
-use Rattle.run_queue.specs.declared.Lengths.{Lengths}
-use Rattle.run_queue.proofs.Lengths as S
-use Rattle.run_queue.proofs.Lengths.Laws as S′
+use Rattle.exported_queue.specs.Lists.{no-lengths, with-length, lengths-to}
+use Rattle.exported_queue.specs.declared.Lengths.{Lengths}
+use Rattle.exported_queue.proofs.Lengths as S
+use Rattle.exported_queue.proofs.Lengths.Laws as S′
 use Rattle.sheet_queue.proofs.SheetRecord as T
 use Rattle.sheet_queue.proofs.SheetRecord.Laws as T′
-use Rattle.run_queue.proofs.no_lengths as none
-use Rattle.run_queue.proofs.no_lengths.Symbol as none-def
-use Rattle.run_queue.proofs.no_lengths.Symbol.{name as #run-queue·no-lengths}
-use Rattle.run_queue.proofs.no_lengths.Met as none-thm
-use Rattle.run_queue.proofs.with_length as with′
-use Rattle.run_queue.proofs.with_length.Symbol as with-def
-use Rattle.run_queue.proofs.with_length.Symbol.{name as #run-queue·with-length}
-use Rattle.run_queue.proofs.with_length.Met as with-thm
-use Rattle.run_queue.proofs.lengths_of.Key.{name as #run-queue·lengths-of}
-use Rattle.run_queue.proofs.lengths_of as f
-use Rattle.run_queue.proofs.lengths_of.Statement as stated
-use Rattle.run_queue.proofs.lengths_of.Code as code
-use Rattle.run_queue.proofs.lengths_of.Code.Mir as M′
+use Rattle.exported_queue.proofs.no_lengths as none
+use Rattle.exported_queue.proofs.no_lengths.Symbol as none-def
+use Rattle.exported_queue.proofs.no_lengths.Symbol.{name as #exported-queue·no-lengths}
+use Rattle.exported_queue.proofs.no_lengths.Met as none-thm
+use Rattle.exported_queue.proofs.with_length as with′
+use Rattle.exported_queue.proofs.with_length.Symbol as with-def
+use Rattle.exported_queue.proofs.with_length.Symbol.{name as #exported-queue·with-length}
+use Rattle.exported_queue.proofs.with_length.Met as with-thm
+use Rattle.exported_queue.proofs.lengths_of.Key.{name as #exported-queue·lengths-of}
+use Rattle.exported_queue.proofs.lengths_of as f
+use Rattle.exported_queue.proofs.lengths_of.Statement as stated
+use Rattle.exported_queue.proofs.lengths_of.Code as code
+use Rattle.exported_queue.proofs.lengths_of.Code.Mir as M′
 
 abbrev tyOf : Local → Ty
 tyOf (local t k) = t
@@ -167,7 +167,7 @@ module _ {M : Type 1} (𝓤 : URA M) (H : Heap 𝓤) (A : Atoms 𝓤) (W : Given
   goes-with : (i : ℕ) → ent 𝓤 (sep 𝓤 (sem 𝓤 H A ftrue) (sem 𝓤 H A (Handed i))) (With 𝓤 H A mem run .pre (to i))
   goes-with i = qed W (‵ ftrue ∷ ‵ (Handed i) ∷ []) ∵ join ! $ frame ! $ done !
 
-  module _ (𝓣 : Tables 𝓤 H) (known : Triple 𝓤 (𝓣 .C #run-queue·with-length) (With 𝓤 H A mem run)) (room : Room T.the-row n) (l₀ l₁ l₂ l₃ l₄ l₅ l₆ l₇ l₈ : ℕ) where
+  module _ (𝓣 : Tables 𝓤 H) (known : Triple 𝓤 (𝓣 .C #exported-queue·with-length) (With 𝓤 H A mem run)) (room : Room T.the-row n) (l₀ l₁ l₂ l₃ l₄ l₅ l₆ l₇ l₈ : ℕ) where
     abbrev C : Calls 𝓤 H
     C = 𝓣 .C
 
@@ -295,7 +295,7 @@ module _ {M : Type 1} (𝓤 : URA M) (H : Heap 𝓤) (A : Atoms 𝓤) (W : Given
     Start = ‵ (flft κ q) ∷ ‵ Own ∷ ‵ (froom τ₂ l₂ 0) ∷ ‵ (froom (tyInt w64) l₃ 0)
         ∷ ‵ (froom τ₄ l₄ 0) ∷ ‵ (froom (tyInt w64) l₅ 0) ∷ ‵ (froom tyBool l₆ 0) ∷ ‵ (froom tyPtr l₇ 0) ∷ ‵ (froom τ₄ l₈ 0) ∷ Frame
 
-    begins : Triple 𝓤 (𝓣 .C #run-queue·no-lengths) (None 𝓤 H A mem run) → ent 𝓤 (⋆ 𝓤 H A Start) (Wp 𝓤 H C Λ En M′.t-1 (atReturn 𝓤 H En Post))
+    begins : Triple 𝓤 (𝓣 .C #exported-queue·no-lengths) (None 𝓤 H A mem run) → ent 𝓤 (⋆ 𝓤 H A Start) (Wp 𝓤 H C Λ En M′.t-1 (atReturn 𝓤 H En Post))
     begins known-none =
         qed W Start ∵ exec ! C Λ En M′.t-1 (atRet En Post) $
         nothing ! $ nothing ! $ use2 W (raw (None 𝓤 H A mem run .pre to-none)) goes-none′ $
@@ -308,7 +308,7 @@ module _ {M : Type 1} (𝓤 : URA M) (H : Heap 𝓤) (A : Atoms 𝓤) (W : Given
         assigns ! (of-opd ! (lit ! tt)) (from ! (stop !)) (init ! 3 refl (tt, record { fits = lit< tt })) $
         by ! (loops (subst (λ (a : Lengths). Good a) (e ∙ none-is ys) (subst (λ (vs : List Val). Is S.the-row r vs) (LL.tells S.the-type S′.the-laws r (v ∷ []) is) is)))))))
 
-  walk : (𝓣 : Tables 𝓤 H) → Triple 𝓤 (𝓣 .C #run-queue·no-lengths) (None 𝓤 H A mem run) → Triple 𝓤 (𝓣 .C #run-queue·with-length) (With 𝓤 H A mem run) → Room T.the-row n → ent 𝓤 (onEntry 𝓤 H A f.signature (κ, tt) (q, tt) x at)
+  walk : (𝓣 : Tables 𝓤 H) → Triple 𝓤 (𝓣 .C #exported-queue·no-lengths) (None 𝓤 H A mem run) → Triple 𝓤 (𝓣 .C #exported-queue·with-length) (With 𝓤 H A mem run) → Room T.the-row n → ent 𝓤 (onEntry 𝓤 H A f.signature (κ, tt) (q, tt) x at)
       (WpFn 𝓤 H (𝓣 .C) (𝓣 .Λ) code.function (sliceVal (b, o) n ∷ []) Post)
   walk 𝓣 known-none known room =
       qed W ((‵ (flft κ q) ⊛ ‵ ftrue) ∷ ‵ (owns (ShrSlice (named 0) κ T.the-row ∷ []) x at) ∷ []) ∵ enter ! (𝓣 .C) (𝓣 .Λ) code.function (sliceVal (b, o) n ∷ []) _ $
@@ -318,7 +318,7 @@ module _ {M : Type 1} (𝓤 : URA M) (H : Heap 𝓤) (A : Atoms 𝓤) (W : Given
       keep ! (0 ∷ 2 ∷ 16 ∷ 14 ∷ 12 ∷ 10 ∷ 8 ∷ 6 ∷ 4 ∷ 18 ∷ 20 ∷ 21 ∷ 19 ∷ 17 ∷ 15 ∷ 13 ∷ 11 ∷ 9 ∷ 7 ∷ 5 ∷ []) $
       by ! (begins 𝓣 known room l₀ l₁ l₂ l₃ l₄ l₅ l₆ l₇ l₈ known-none))))))))))
 
-module _ {M : Type 1} (𝓤 : URA M) (H : Heap 𝓤) (A : Atoms 𝓤) (W : Given 𝓤 H A) (mem : Memory → SProp 𝓤) (run : Routine → Fun 𝓤) (𝓣 : Tables 𝓤 H) (known-none : Triple 𝓤 (𝓣 .C #run-queue·no-lengths) (None 𝓤 H A mem run)) (known : Triple 𝓤 (𝓣 .C #run-queue·with-length) (With 𝓤 H A mem run)) where
+module _ {M : Type 1} (𝓤 : URA M) (H : Heap 𝓤) (A : Atoms 𝓤) (W : Given 𝓤 H A) (mem : Memory → SProp 𝓤) (run : Routine → Fun 𝓤) (𝓣 : Tables 𝓤 H) (known-none : Triple 𝓤 (𝓣 .C #exported-queue·no-lengths) (None 𝓤 H A mem run)) (known : Triple 𝓤 (𝓣 .C #exported-queue·with-length) (With 𝓤 H A mem run)) where
   lengths-of-walks : Walks 𝓤 H A f.ended stayed (WpFn 𝓤 H (𝓣 .C) (𝓣 .Λ) code.function) (f.clauses 𝓤 H A mem run)
   lengths-of-walks = walked 𝓤 H A f.ended stayed (f.clauses 𝓤 H A mem run) (WpFn 𝓤 H (𝓣 .C) (𝓣 .Λ) code.function)
       (λ κs. (slice-vals, tt)) (λ κs. (shr-slice-tells (named 0) (κs .0) T.the-row, tt))
@@ -334,7 +334,7 @@ pub lengths-of-spec : {M : Type 1} → stated.statement M
 unfolding code.routine tablesOf
 lengths-of-spec 𝓤 H 𝓜 𝓖 𝓡 =
     entered 𝓤 H (tripleOf 𝓤 H (𝓖 .A) f.signature (f.spec 𝓤 H (𝓖 .A) (𝓜 .mem) (𝓡 .run)))
-    (tables 𝓤 H 𝓜 𝓡 code.env .C) (tables 𝓤 H 𝓜 𝓡 code.env .Λ) #run-queue·lengths-of code.function (code.unfolded 𝓤 H 𝓜 𝓡)
+    (tables 𝓤 H 𝓜 𝓡 code.env .C) (tables 𝓤 H 𝓜 𝓡 code.env .Λ) #exported-queue·lengths-of code.function (code.unfolded 𝓤 H 𝓜 𝓡)
     (lengths-of-meets 𝓤 H (𝓖 .A) (givenOf 𝓤 H 𝓜 𝓖) (𝓜 .mem) (𝓡 .run) (tablesOf 𝓤 H 𝓜 (tables 𝓤 H 𝓜 𝓡 code.env))
-    (cited 𝓤 H (None 𝓤 H (𝓖 .A) (𝓜 .mem) (𝓡 .run)) 𝓜 𝓡 code.env #run-queue·no-lengths none-def.routine code.calls-run-queue·no-lengths (none-thm.met 𝓤 H 𝓜 𝓖 𝓡))
-    (cited 𝓤 H (With 𝓤 H (𝓖 .A) (𝓜 .mem) (𝓡 .run)) 𝓜 𝓡 code.env #run-queue·with-length with-def.routine code.calls-run-queue·with-length (with-thm.met 𝓤 H 𝓜 𝓖 𝓡)))
+    (cited 𝓤 H (None 𝓤 H (𝓖 .A) (𝓜 .mem) (𝓡 .run)) 𝓜 𝓡 code.env #exported-queue·no-lengths none-def.routine code.calls-exported-queue·no-lengths (none-thm.met 𝓤 H 𝓜 𝓖 𝓡))
+    (cited 𝓤 H (With 𝓤 H (𝓖 .A) (𝓜 .mem) (𝓡 .run)) 𝓜 𝓡 code.env #exported-queue·with-length with-def.routine code.calls-exported-queue·with-length (with-thm.met 𝓤 H 𝓜 𝓖 𝓡)))
