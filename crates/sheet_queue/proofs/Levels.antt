@@ -72,6 +72,19 @@ pub record Raised (left r : ℕ) (ts : List ℕ) : Type 0 where
   pub raised : round left ts (level r 0 ts) ≡ level r first ts
   pub all-or-gone : (first ≡ length ts) ⊎ (sum (level r first ts) ≡ left + sum (level r 0 ts))
 
+-- a turn at the level r is one step up to the next level; it takes no more than is left
+turn-up : (left t r : ℕ) → (min t r + turn (suc left) t (min t r) ≡ min t (suc r)) × (turn (suc left) t (min t r) ≤ suc left)
+turn-up left t r = rw turn-is (sum-up, within)
+  where
+    sum-up : min t r + min 1 (min (suc left) (t - min t r)) ≡ min t (suc r)
+    sum-up = omega arith
+
+    within : min 1 (min (suc left) (t - min t r)) ≤ suc left
+    within = omega arith
+
+gone-up : (left s low high rest more : ℕ) → low + s ≡ high → s ≤ left → more ≡ (left - s) + rest → high + more ≡ left + (low + rest)
+gone-up left s low high rest more h l e = omega arith
+
 raises : (left r : ℕ) (ts : List ℕ) → Raised left r ts
 unfolding sum round level
 raises left r [] = record { first = 0; raised = refl; all-or-gone = inl refl }
@@ -80,11 +93,11 @@ raises zero r (t ∷ ts) =
 raises (suc left) r (t ∷ ts) =
     let s = turn (suc left) t (min t r) in
     let more = raises (suc left - s) r ts in
-    let here : min t r + s ≡ min t (suc r) = omega (arith, turn-is (suc left) t (min t r)) in
+    let up = turn-up left t r in
     record {
       first = suc (more .first);
-      raised = rw here (ap (λ (l : List ℕ). min t (suc r) ∷ l) (more .raised));
-      all-or-gone = ⊎-map (λ e. ap suc e) (λ e. omega (arith, e, here, turn-is (suc left) t (min t r))) (more .all-or-gone);
+      raised = rw (up .0) (ap (λ (l : List ℕ). min t (suc r) ∷ l) (more .raised));
+      all-or-gone = ⊎-map (λ e. ap suc e) (λ e. gone-up (suc left) s (min t r) (min t (suc r)) (sum (level r 0 ts)) (sum (level r (more .first) ts)) (up .0) (up .1) e) (more .all-or-gone);
     }
 
 -- where the rounds have come to: everyone at a level, or the allowance gone

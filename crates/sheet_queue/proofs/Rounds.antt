@@ -28,6 +28,12 @@ turn-is left t k = by (ltb 0 left) (ltb k t) refl refl
     by false true e f = omega (arith, ltb-false 0 left e)
     by false false e f = omega (arith, ltb-false 0 left e)
 
+turn-within : (left t k : ℕ) → turn left t k ≤ left
+turn-within left t k = rw turn-is (below left (t - k))
+  where
+    below : (m n : ℕ) → min 1 (min m n) ≤ m
+    below m n = omega arith
+
 pub sum-none : (n : ℕ) → sum (replicate n 0) ≡ 0
 unfolding sum
 sum-none zero = refl
@@ -38,7 +44,7 @@ pub round-sum : (left : ℕ) (ts ks : List ℕ) → sum (round left ts ks) ≤ l
 unfolding sum round
 round-sum left [] ks = omega arith
 round-sum left (t ∷ ts) [] = omega arith
-round-sum left (t ∷ ts) (k ∷ ks) = omega (arith, turn-is left t k, round-sum (left - turn left t k) ts ks)
+round-sum left (t ∷ ts) (k ∷ ks) = omega (arith, turn-within left t k, round-sum (left - turn left t k) ts ks)
 
 pub round-length : (left : ℕ) (ts ks : List ℕ) → length ks ≡ length ts → length (round left ts ks) ≡ length ts
 unfolding round
