@@ -1,6 +1,8 @@
 -- `sheet_turn::derived_start` meets its contract: what holds on the files of the plain twin holds on the bytes that are derived.
-use borrow.Author.Needs.{needs}
-use mathlib.Core.Path.{sym}
+use mathlib.Core.Path.{refl, sym}
+use Prim.Native.Nat.{ℕ}
+use native.Mathlib.Nat.{le-refl, le-of-eq}
+use lib.ListN.{length-replicate}
 use lib.Seq.{length-take-le}
 use Rattle.factored_run.proofs.Factored.{whole, book-derivable, sheet-derivable, book-inside, sheet-inside, derived-passed}
 use Rattle.sheet_turn.proofs.Derived.{holds-there, holds-back, shares-there, shares-back, scores-there, scores-back}
@@ -15,14 +17,14 @@ put-book-requires c κs =
     let at-factors-of = c .before in
     let start = at-factors-of .before .before .before in
     let d = book-derivable _ _ (start .pre .0) (at-factors-of .factors-of .ensures) in
-    (d .0, (d .1 .0, (d .1 .1, search needs)))
+    (d .0, (d .1 .0, (d .1 .1, le-of-eq (sym (length-replicate {A = ℕ} 32780 0)))))
 
 put-sheet-requires : tie.Need-put-sheet-requires
 put-sheet-requires c κs =
     let at-factors-of = c .before .before .before .before in
     let start = at-factors-of .before .before .before in
     let d = sheet-derivable _ _ (start .pre .0) (at-factors-of .factors-of .ensures) in
-    (d .0, (d .1 .0, (d .1 .1, search needs)))
+    (d .0, (d .1 .0, (d .1 .1, le-refl 144)))
 
 array-share-prefix-own-book : tie.Need-array-share-prefix-own-book
 array-share-prefix-own-book c =
@@ -75,9 +77,9 @@ derived-start-spec =
     tie.close
     (tie.spec
     factors-of-requires
-    (λ c. search needs)
+    (λ c. sym (length-replicate {A = ℕ} 32780 0))
     put-book-requires
-    (λ c. search needs)
+    (λ c. refl)
     put-sheet-requires
     array-share-prefix-own-book
     slice-aggregate-plain-start
