@@ -3,6 +3,7 @@ use mathlib.Core.Path.{_≡_, refl, sym, ap, ap₂, _∙_}
 use mathlib.Core.Bool.{Bool, true, false, _&&_, _||_, not, cond}
 use mathlib.Core.List.{List, [], _∷_, _++_, append-assoc, append-nil}
 use Prim.Native.Nat.{ℕ, zero, suc, _+_, _*_, _-_, _≤_, _<_}
+use native.Mathlib.Nat.{add-zero}
 use native.Mathlib.Omega.{arith}
 use borrow.Author.Tests.{eqb-true, ne-eqb, lt-ltb, le-ltb, ltb-true, ltb-false}
 use lib.Dec.{eqb, ltb}
@@ -50,6 +51,15 @@ values-again (suc n) bs h k =
     let e : 2 * suc n ≡ 2 + 2 * n = omega arith in
     let more = values-again n (drop 2 bs) (drop-bytes 2 bs h) (rw length-drop (omega arith)) in
     rw (bits-of-value (number 0 2 bs) below, append-assoc, e, ← drop-drop (2 * n) 2 bs, more) (field 0 2 bs h (omega arith))
+
+-- a body of 2 bytes a column at `off`, then k bytes of factors and 16 of the trailer, in a file of n bytes: where the parts start and end
+record Parts (n off c k : ℕ) : Type 0 where
+  factors-at : n - 16 - k ≡ off + 2 * c
+  factors-long : n - 16 - (n - 16 - k) ≡ k
+  trailer-at : off + 2 * c + k ≡ n - 16
+
+parts : (n off c k : ℕ) → n ≡ off + (2 * c + k) + 16 → Parts n off c k
+parts n off c k e = record { factors-at = omega arith; factors-long = omega arith; trailer-at = omega arith }
 
 -- ---- an accepted sheet
 refused-none : (n x : ℕ) → cond (not (eqb n 0)) n x ≡ 0 → n ≡ 0
@@ -129,26 +139,33 @@ module _ (a z : ℕ) (s : List ℕ) (e : sheet-refusal-in a z s ≡ 0) where
         ∙ ap (λ l. take (target-offset s) s ++ l)
         (ap (take (2 * sheet-columns s)) (sym target-again) ∙ take-at (values-bytes (sheet s .target)) (drop end s) (2 * sheet-columns s) target-long)
 
+    factors-long : (t : Bool) → sheet-lettered WSH2 s ≡ t → factor-bytes s ≡ cond t (sheet-columns s) 0
+    unfolding factor-bytes
+    factors-long t l = rw l
+
+    parts-of : (k : ℕ) → factor-bytes s ≡ k → Parts (length s) (target-offset s) (sheet-columns s) k
+    parts-of k b = parts (length s) (target-offset s) (sheet-columns s) k (length-is ∙ ap (λ x. target-offset s + (2 * sheet-columns s + x) + 16) b)
+
+    back-long : (k n m : ℕ) → factor-bytes s ≡ k → n ≡ 2 * sheet-columns s → m ≡ k → n + m ≡ sheet-back s
+    back-long k n m b e f = ap₂ _+_ e (f ∙ sym b)
+
     body-again : (t : Bool) → sheet-lettered WSH2 s ≡ t → edition-bytes t (sheet s) ≡ drop (target-offset s) s
-    unfolding edition-bytes factored-bytes factored-body sheet-bytes factor-bytes trailer
+    unfolding edition-bytes factored-bytes factored-body sheet-bytes trailer
     body-again true l =
         let c = sheet-columns s in
-        let b : factor-bytes s ≡ c = rw l in
-        let p : length s - 16 - c ≡ end = omega (arith, length-is) in
-        let q : length s - 16 - (length s - 16 - c) ≡ c = omega (arith, length-is) in
-        let m : end + c ≡ length s - 16 = omega (arith, length-is) in
-        let f : sheet s .factors ≡ take c (drop end s) = sym (rw (q, p) at (factors-at s (fits .fits .whole) l c (length s - 16) (length s - 16 - c) refl refl refl)) in
-        let k : length (values-bytes (sheet s .target) ++ sheet s .factors) ≡ sheet-back s = length-append (values-bytes (sheet s .target)) (sheet s .factors) ∙ omega (arith, target-long, fits .fits .factor-count) in
-        let foot : trailer 16 s ≡ drop c (drop end s) = ap (λ n. drop n s) (sym m) ∙ sym (drop-drop c end s) in
+        let b = factors-long true l in
+        let at = parts-of c b in
+        let f : sheet s .factors ≡ take c (drop end s) = sym (rw (at .factors-long, at .factors-at) at (factors-at s (fits .fits .whole) l c (length s - 16) (length s - 16 - c) refl refl refl)) in
+        let k : length (values-bytes (sheet s .target) ++ sheet s .factors) ≡ sheet-back s = length-append (values-bytes (sheet s .target)) (sheet s .factors) ∙ back-long c _ _ b target-long (fits .fits .factor-count) in
+        let foot : trailer 16 s ≡ drop c (drop end s) = ap (λ n. drop n s) (sym (at .trailer-at)) ∙ sym (drop-drop c end s) in
         ap (λ x. (values-bytes (sheet s .target) ++ sheet s .factors) ++ x) (foot-again WSH2 l _ _ k (fits .fits .target-length))
         ∙ append-assoc (values-bytes (sheet s .target)) (sheet s .factors) (trailer 16 s)
         ∙ ap (λ x. values-bytes (sheet s .target) ++ x) (ap₂ _++_ f foot ∙ take-append-drop c (drop end s))
         ∙ target-again
     body-again false l =
-        let b : factor-bytes s ≡ 0 = rw l in
-        let m : length s - 16 ≡ end = omega (arith, length-is) in
-        ap (λ x. values-bytes (sheet s .target) ++ x) (foot-again WSH1 (first-by false l) _ _ (omega (arith, target-long)) (fits .fits .target-length))
-        ∙ ap (λ n. values-bytes (sheet s .target) ++ drop n s) m
+        let b = factors-long false l in
+        ap (λ x. values-bytes (sheet s .target) ++ x) (foot-again WSH1 (first-by false l) _ _ (target-long ∙ sym (add-zero (2 * sheet-columns s)) ∙ back-long 0 _ 0 b refl refl) (fits .fits .target-length))
+        ∙ ap (λ n. values-bytes (sheet s .target) ++ drop n s) (sym (parts-of 0 b .trailer-at) ∙ add-zero end)
         ∙ target-again
 
     pub written-again : sheet-front s ++ edition-bytes (sheet-lettered WSH2 s) (sheet s) ≡ s
