@@ -1,3 +1,2 @@
--- The laws behind the proofs of this crate: what the writer and the card check need.
-pub mod Filing
+-- The laws behind the proofs of this crate: what the card check needs.
 pub mod Checking

@@ -88,6 +88,6 @@ pub fn filed_text(book: &[u8], sheet: &[u8], output: &mut [u8; MOST_CARD]) -> Fi
     ensures { λ _. ⌜ now (output .exit) ≡ slots-after (files-refusal (now (book .entry)) (now (sheet .entry))) (run-card (now (book .entry)) (now (sheet .entry))) (now (output .entry)) ⌝ }
     ensures { λ _. ⌜ Filing-right (now (book .entry)) (now (sheet .entry)) (search-filing (now (book .entry)) (now (sheet .entry))) (now (output .exit)) ⌝ }
 {
-    let written = card::write_card(book, sheet, output);
+    let written = written_card::write_card(book, sheet, output);
     filing_of(book, sheet, written, output)
 }

@@ -49,7 +49,7 @@ pub extern "C" fn dofitrano_write_card(book: &[u8], sheet: &[u8], output: &mut [
     ensures { λ _. ⌜ now (output .exit) ≡ slots-after (write-refusal (now (book .entry)) (now (sheet .entry)) (length (now (output .entry)))) (run-card (now (book .entry)) (now (sheet .entry))) (now (output .entry)) ⌝ }
     ensures { λ _. ⌜ Filing-right (now (book .entry)) (now (sheet .entry)) (filing (write-refusal (now (book .entry)) (now (sheet .entry)) (length (now (output .entry)))) (run-answer (problem (now (book .entry)) (now (sheet .entry)))) (length (run-card (now (book .entry)) (now (sheet .entry))))) (now (output .exit)) ⌝ }
 {
-    let written = card::write_card(book, sheet, &mut *output);
+    let written = written_card::write_card(book, sheet, &mut *output);
     exported_types::card_reply_of(written)
 }
 
@@ -88,7 +88,7 @@ pub extern "C" fn dofitrano_write_card_with(
     ensures { λ _. ⌜ Filing-right-with (call-terms released lent (now (table .entry))) (now (book .entry)) (now (sheet .entry)) (filing (write-refusal-with (call-terms released lent (now (table .entry))) (now (book .entry)) (now (sheet .entry)) (length (now (output .entry)))) (run-answer (call-problem (call-terms released lent (now (table .entry))) (now (book .entry)) (now (sheet .entry)))) (length (run-card-with (call-terms released lent (now (table .entry))) (now (book .entry)) (now (sheet .entry))))) (now (output .exit)) ⌝ }
     ensures { λ _. ⌜ (released .limited ≡ false → lent ≡ false → call-terms released lent (now (table .entry)) ≡ plain-terms) ⌝ }
 {
-    let written = card::write_card_with(book, sheet, released, lent, table, &mut *output);
+    let written = written_card::write_card_with(book, sheet, released, lent, table, &mut *output);
     exported_types::card_reply_of(written)
 }
 

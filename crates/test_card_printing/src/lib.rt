@@ -31,5 +31,5 @@ pub fn written(book: &[u8], sheet: &[u8], buffer: &mut [u8], room: usize) -> usi
         return 0;
     }
     let start = 0;
-    print_written(card::write_card(book, sheet, &mut buffer[start..room]))
+    print_written(written_card::write_card(book, sheet, &mut buffer[start..room]))
 }

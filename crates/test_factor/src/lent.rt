@@ -45,7 +45,7 @@ fn found(
     let mut slots = [7u16; 256];
     test_printing::outcome(search::search_with(book, sheet, set, lent, table, &mut slots));
     test_printing::slots(&slots, boats % 65536 + 1);
-    let n = test_card_printing::print_written(card::write_card_with(
+    let n = test_card_printing::print_written(written_card::write_card_with(
         book,
         sheet,
         set,
@@ -77,7 +77,7 @@ fn checked(book: &[u8], sheet: &[u8], table: &[u16], cut: &[u16], other: &[u16],
 
 // The card of a search without a set: its length.
 fn put_whole(book: &[u8], sheet: &[u8], lent: bool, table: &[u16], output: &mut [u8]) -> usize {
-    match card::write_card_with(book, sheet, none(), lent, table, output) {
+    match written_card::write_card_with(book, sheet, none(), lent, table, output) {
         Written::Refused(_) => 0,
         Written::Filed(_, len) => len,
     }

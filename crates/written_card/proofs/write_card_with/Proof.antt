@@ -1,15 +1,15 @@
--- `card::write_card_with` meets its contract.
+-- `written_card::write_card_with` meets its contract.
 use denote.Ref.{now}
 use mathlib.Core.Path.{sym, _∙_}
 use Rattle.method.specs.Calls.{call-terms}
 use Rattle.method.proofs.Accepted.{files-ok}
 use Rattle.iteration.proofs.States.{book-fits, sheet-fits}
-use Rattle.card.proofs.Filing.{refused-by-call, refused-short, pairs-fit, filed}
+use Rattle.written_card.proofs.Filing.{refused-by-call, refused-short, pairs-fit, filed}
 use borrow.Author.Needs.{needs}
-use Rattle.card.proofs.write_card_with.Statement.{statement}
-use Rattle.card.proofs.write_card_with.Tie as tie
-use Rattle.card.proofs.write_card_with.Reads as reads
-use Rattle.card.proofs.write_card_with.Lts as lts
+use Rattle.written_card.proofs.write_card_with.Statement.{statement}
+use Rattle.written_card.proofs.write_card_with.Tie as tie
+use Rattle.written_card.proofs.write_card_with.Reads as reads
+use Rattle.written_card.proofs.write_card_with.Lts as lts
 use Rattle.card_output.proofs.holding.Reads as holding-reads
 use Rattle.card_output.proofs.put_pairs.Reads as put-pairs-reads
 use Rattle.card_output.proofs.put_trailer.Reads as put-trailer-reads
