@@ -70,7 +70,7 @@ fn column_fault(fleet: &[u8], csv: &[u8], made: Made) -> Text
     csv_sheet_words::column_line(fault, &name[..n])
 }
 
-// ENTRY. The line that names the fault of a sheet's CSV, as csv_sheet gave it back. A fault of the fleet's CSV has none here: fault_text has it.
+// ENTRY. The line that names the fault of a sheet's CSV, as csv_sheet gave it back. A fault of the fleet's CSV has none here: fleet_fault of csv_book_text has it.
 pub fn sheet_fault(fleet: &[u8], csv: &[u8], made: Made) -> Text
     ensures { λ r. ⌜ Holds (sheet-fault (now (fleet .entry)) (now (csv .entry)) made) r ⌝ }
 {

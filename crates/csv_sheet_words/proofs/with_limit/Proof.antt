@@ -1,23 +1,24 @@
 -- `csv_sheet_words::with_limit` meets its contract.
 use borrow.Author.Needs.{needs}
+use native.Mathlib.Omega.{arith}
 use Rattle.csv_sheet_words.proofs.Wording.{said, limit-4, limit-10, limit-13, limit-22, limit-23, limit-none}
 use Rattle.csv_sheet_words.proofs.with_limit.Statement.{statement}
 use Rattle.csv_sheet_words.proofs.with_limit.Tie as tie
 
 returns : tie.Need-returns
-returns c = search (needs, said, limit-4)
+returns c = said (c .with-bytes .ensures) (omega arith) (limit-4 _ (c .before .before .if1 .taken))
 
 returns-2 : tie.Need-returns-2
-returns-2 c = search (needs, said, limit-10)
+returns-2 c = said (c .with-bytes2 .ensures) (omega arith) (limit-10 _ (c .before .before .if2 .taken))
 
 returns-3 : tie.Need-returns-3
-returns-3 c = search (needs, said, limit-13)
+returns-3 c = said (c .with-bytes3 .ensures) (omega arith) (limit-13 _ (c .before .before .if3 .taken))
 
 returns-4 : tie.Need-returns-4
-returns-4 c = search (needs, said, limit-22)
+returns-4 c = said (c .with-bytes4 .ensures) (omega arith) (limit-22 _ (c .before .before .if4 .taken))
 
 returns-5 : tie.Need-returns-5
-returns-5 c = search (needs, said, limit-23)
+returns-5 c = said (c .with-bytes5 .ensures) (omega arith) (limit-23 _ (c .before .before .if5 .taken))
 
 returns-6 : tie.Need-returns-6
 returns-6 c =

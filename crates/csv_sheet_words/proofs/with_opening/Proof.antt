@@ -1,17 +1,18 @@
 -- `csv_sheet_words::with_opening` meets its contract.
 use borrow.Author.Needs.{needs}
+use native.Mathlib.Omega.{arith}
 use Rattle.csv_sheet_words.proofs.Wording.{said, opening-18, opening-21, opening-other}
 use Rattle.csv_sheet_words.proofs.with_opening.Statement.{statement}
 use Rattle.csv_sheet_words.proofs.with_opening.Tie as tie
 
 returns : tie.Need-returns
-returns c = search (needs, said, opening-18)
+returns c = said (c .with-bytes .ensures) (omega arith) (opening-18 _ (c .before .before .if1 .taken))
 
 returns-2 : tie.Need-returns-2
-returns-2 c = search (needs, said, opening-21)
+returns-2 c = said (c .with-bytes2 .ensures) (omega arith) (opening-21 _ (c .before .before .if2 .taken))
 
 returns-3 : tie.Need-returns-3
-returns-3 c = search (needs, said, opening-other)
+returns-3 c = said (c .with-bytes3 .ensures) (omega arith) (opening-other _ (c .before .before .before .if1 .left) (c .before .before .if2 .left))
 
 pub with-opening-spec : {M : Type 1} → statement M
 with-opening-spec =
