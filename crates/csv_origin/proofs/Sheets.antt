@@ -19,7 +19,8 @@ use Rattle.csv_fleet_reader.specs.Fleet.{last-table}
 use Rattle.csv_sheet_rows.specs.Rows.{sheet-names, rows-fault}
 use Rattle.csv_column_match.specs.Match.{mismatch}
 use Rattle.csv_sheet.specs.declared.Made.{Made}
-use Rattle.csv_sheet.specs.Sheets.{places, sheet-at, csv-sheet, nothing-made, total-fault, made-by, made-at, made-of-columns, made-of-rows, made-for-fleet, sheet-made, output-at, output-by}
+use Rattle.csv_sheet_parts.specs.Parts.{sheet-at}
+use Rattle.csv_sheet.specs.Sheets.{places, csv-sheet, nothing-made, total-fault, made-by, made-at, made-of-columns, made-of-rows, made-for-fleet, sheet-made, output-at, output-by}
 use Rattle.csv_sheet.specs.Promise.{Sheet-accepted, Sheet-right-by, Sheet-right}
 use Rattle.editions.specs.declared.Rewritten.{Rewritten}
 use Rattle.editions.specs.declared.Rewritten.the-variants.{Refused, Wrote}

@@ -41,10 +41,11 @@ use Rattle.csv_sheet_rows.proofs.Soundness.{sound}
 use Rattle.csv_column_match.specs.declared.Mismatch.{Mismatch}
 use Rattle.csv_column_match.specs.Match.{mismatch}
 use Rattle.csv_sheet.specs.declared.Made.{Made}
-use Rattle.csv_sheet.specs.Sheets.{cell-at, row-for, value-at, target-of, factor-at, places, has-factors, factors-of, steps-of, tolerance-for, tolerance-of, asked-at, asked, sheet-at, nothing-made, total-fault, made-by, made-of-columns, made-of-rows, made-for-fleet, sheet-made, output-at, output-by}
-use Rattle.csv_sheet.specs.Ready.{Ready}
+use Rattle.csv_sheet_parts.specs.Parts.{cell-at, row-for, value-at, target-of, factor-at, has-factors, factors-of, steps-of, tolerance-for, tolerance-of, asked-at, sheet-at}
+use Rattle.csv_sheet.specs.Sheets.{places, asked, nothing-made, total-fault, made-by, made-of-columns, made-of-rows, made-for-fleet, sheet-made, output-at, output-by}
+use Rattle.csv_sheet_parts.specs.Ready.{Ready}
 use Rattle.csv_sheet.specs.Promise.{Figures-said, Sheet-accepted, Sheet-right-by, Sheet-right}
-use Rattle.csv_sheet.proofs.Bounds.{target-long, factors-long, target-in, steps-some, steps-few, factors-plain}
+use Rattle.csv_sheet_parts.proofs.Bounds.{target-long, factors-long, target-in, steps-some, steps-few, factors-plain}
 use Rattle.csv_sheet.proofs.Making.{places-long, ready, matched}
 
 -- an element of a list that is there, with any defaults

@@ -1,6 +1,3 @@
 -- The laws of this crate.
-pub mod Bounds
-pub mod Putting
-pub mod Editions
 pub mod Making
 pub mod Accepting

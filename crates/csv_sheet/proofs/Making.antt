@@ -20,9 +20,10 @@ use Rattle.csv_column_match.specs.Matched.{Matched, Without-mismatch-matched}
 use Rattle.csv_column_match.proofs.Positions.{positions-long, position-at}
 use Rattle.csv_column_match.proofs.Matching.{without-mismatch-matched}
 use Rattle.csv_sheet.specs.declared.Made.{Made}
-use Rattle.csv_sheet.specs.Sheets.{places, factors-of, steps-of, tolerance-for, sheet-at, nothing-made, total-fault, made-by, made-at, made-of-columns, output-at, output-by}
-use Rattle.csv_sheet.specs.Ready.{Ready}
-use Rattle.csv_sheet.proofs.Bounds.{factors-long}
+use Rattle.csv_sheet_parts.specs.Parts.{factors-of, steps-of, tolerance-for, sheet-at}
+use Rattle.csv_sheet.specs.Sheets.{places, nothing-made, total-fault, made-by, made-at, made-of-columns, output-at, output-by}
+use Rattle.csv_sheet_parts.specs.Ready.{Ready}
+use Rattle.csv_sheet_parts.proofs.Bounds.{factors-long}
 
 -- ---- once the columns match
 module _ (ps csv out : List ℕ) where

@@ -17,7 +17,8 @@ use Rattle.csv_sheet_rows.specs.Kinds.{kind-at}
 use Rattle.csv_sheet_rows.specs.Rows.{sheet-names}
 use Rattle.csv_sheet_rows.specs.Sound.{Said-or-open}
 use Rattle.csv_column_match.specs.Matched.{Matched}
-use Rattle.csv_sheet.specs.Sheets.{row-for, places, tolerance-by, asked}
+use Rattle.csv_sheet_parts.specs.Parts.{row-for, tolerance-by}
+use Rattle.csv_sheet.specs.Sheets.{places, asked}
 use Rattle.csv_sheet.specs.declared.Made.{Made}
 
 -- what a sheet asks for is what the figures in the fields say, of which `text` gives field f of row r: each value and factor those of the field of its

@@ -7,7 +7,7 @@ use lib.ListN.{length, take}
 use lib.Seq.{length-take-le}
 use Rattle.frank_wolfe.specs.Vectors.{sum}
 use Rattle.files.proofs.Refusal.{between-true}
-use Rattle.csv_sheet.specs.Sheets.{factors-of}
+use Rattle.csv_sheet_parts.specs.Parts.{factors-of}
 use Rattle.csv_sheet.proofs.Making.{factors-taken, factors-out, tolerance-out, sheet-out}
 use Rattle.csv_sheet.proofs.make_at.Statement.{statement}
 use Rattle.csv_sheet.proofs.make_at.Tie as tie

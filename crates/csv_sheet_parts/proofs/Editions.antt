@@ -14,9 +14,9 @@ use Rattle.sheet_output.specs.Output.{values-bytes, sheet-trailer, sheet-bytes,
 use Rattle.sheet_output.proofs.Values.{length-values-bytes}
 use Rattle.sheet_output.proofs.Back.{sheet-trailer-length}
 use Rattle.buffers.proofs.Writing.{front-taken}
-use Rattle.csv_sheet.specs.Sheets.{row-for, target-of, has-factors, factors-of, steps-of, tolerance-of, sheet-of, asked-at, sheet-at}
-use Rattle.csv_sheet.specs.Ready.{Ready}
-use Rattle.csv_sheet.proofs.Bounds.{target-long}
+use Rattle.csv_sheet_parts.specs.Parts.{row-for, target-of, has-factors, factors-of, steps-of, tolerance-of, sheet-of, asked-at, sheet-at}
+use Rattle.csv_sheet_parts.specs.Ready.{Ready}
+use Rattle.csv_sheet_parts.proofs.Bounds.{target-long}
 
 module _ (ps csv factors : List ℕ) (steps tolerance : ℕ) where
   abbrev bytes : List ℕ

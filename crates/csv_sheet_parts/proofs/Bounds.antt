@@ -17,8 +17,8 @@ use Rattle.csv_sheet_rows.specs.Kinds.{kind-at}
 use Rattle.csv_sheet_rows.specs.Rows.{last-row, rows-fault}
 use Rattle.csv_sheet_rows.specs.Sound.{Sound}
 use Rattle.csv_sheet_rows.proofs.Soundness.{sound}
-use Rattle.csv_sheet.specs.Sheets.{cell-at, row-for, value-at, target-of, has-factors, factor-at, factors-of, steps-of, tolerance-by, tolerance-for}
-use Rattle.csv_sheet.specs.Ready.{Ready}
+use Rattle.csv_sheet_parts.specs.Parts.{cell-at, row-for, value-at, target-of, has-factors, factor-at, factors-of, steps-of, tolerance-by, tolerance-for}
+use Rattle.csv_sheet_parts.specs.Ready.{Ready}
 
 -- ---- how many there are
 pub rows-few : (csv : List ℕ) → rows-fault csv .fault ≡ 0 → {l : ℕ} → l ≡ last-row csv → l ≤ 15

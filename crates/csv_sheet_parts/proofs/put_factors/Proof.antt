@@ -1,4 +1,4 @@
--- `csv_sheet::put_factors` meets its contract. The loop keeps `Factors-put`: the factors of the first i columns are written, a byte each.
+-- `csv_sheet_parts::put_factors` meets its contract. The loop keeps `Factors-put`: the factors of the first i columns are written, a byte each.
 -- A turn reads the factor of column i and writes it.
 -- It ends: the columns that are left fall by one.
 use borrow.Author.Needs.{needs}
@@ -6,11 +6,11 @@ use Prim.Native.Nat.{_-_, _≤_}
 use native.Mathlib.Omega.{arith}
 use lib.ListN.{length}
 use Rattle.csv_slots.proofs.Holding.{zeros-room, zeros-empty}
-use Rattle.csv_sheet.specs.Sheets.{row-for}
-use Rattle.csv_sheet.proofs.Bounds.{factor-small, place-few}
-use Rattle.csv_sheet.proofs.Putting.{Factors-put, factors-start, factors-more, factors-end}
-use Rattle.csv_sheet.proofs.put_factors.Statement.{statement}
-use Rattle.csv_sheet.proofs.put_factors.Tie as tie
+use Rattle.csv_sheet_parts.specs.Parts.{row-for}
+use Rattle.csv_sheet_parts.proofs.Bounds.{factor-small, place-few}
+use Rattle.csv_sheet_parts.proofs.Putting.{Factors-put, factors-start, factors-more, factors-end}
+use Rattle.csv_sheet_parts.proofs.put_factors.Statement.{statement}
+use Rattle.csv_sheet_parts.proofs.put_factors.Tie as tie
 
 abbrev Inv-loop : tie.InvT-loop
 Inv-loop csv places output₀ row sizes cells i₀ output i = Factors-put places csv output₀ row i output

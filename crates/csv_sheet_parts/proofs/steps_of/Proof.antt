@@ -1,8 +1,8 @@
--- `csv_sheet::steps_of` meets its contract.
+-- `csv_sheet_parts::steps_of` meets its contract.
 use borrow.Author.Needs.{needs}
-use Rattle.csv_sheet.specs.Sheets.{steps-of}
-use Rattle.csv_sheet.proofs.steps_of.Statement.{statement}
-use Rattle.csv_sheet.proofs.steps_of.Tie as tie
+use Rattle.csv_sheet_parts.specs.Parts.{steps-of}
+use Rattle.csv_sheet_parts.proofs.steps_of.Statement.{statement}
+use Rattle.csv_sheet_parts.proofs.steps_of.Tie as tie
 
 returns : tie.Need-returns
 unfolding steps-of

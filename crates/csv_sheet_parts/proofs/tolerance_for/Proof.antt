@@ -1,11 +1,11 @@
--- `csv_sheet::tolerance_for` meets its contract: a law for each return.
+-- `csv_sheet_parts::tolerance_for` meets its contract: a law for each return.
 use borrow.Author.Needs.{needs}
 use Prim.Native.Nat.{_≤_}
 use native.Mathlib.Nat.{mul-le-mul}
 use native.Mathlib.Omega.{arith}
-use Rattle.csv_sheet.proofs.Bounds.{plain-tolerance, each-tolerance, each-small}
-use Rattle.csv_sheet.proofs.tolerance_for.Statement.{statement}
-use Rattle.csv_sheet.proofs.tolerance_for.Tie as tie
+use Rattle.csv_sheet_parts.proofs.Bounds.{plain-tolerance, each-tolerance, each-small}
+use Rattle.csv_sheet_parts.proofs.tolerance_for.Statement.{statement}
+use Rattle.csv_sheet_parts.proofs.tolerance_for.Tie as tie
 
 small : (c : tie.Then1) → c .before .before .before .cell-at .result .magnitude ≤ 32000
 small c =

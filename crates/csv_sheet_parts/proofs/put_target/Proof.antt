@@ -1,4 +1,4 @@
--- `csv_sheet::put_target` meets its contract. The loop keeps `Values-put`: the values of the first i columns are written, two bytes each.
+-- `csv_sheet_parts::put_target` meets its contract. The loop keeps `Values-put`: the values of the first i columns are written, two bytes each.
 -- A turn reads the cell of column i and writes its value.
 -- It ends: the columns that are left fall by one.
 use borrow.Author.Needs.{needs}
@@ -9,10 +9,10 @@ use lib.ListN.{length, getD}
 use Rattle.csv.specs.Cells.{read}
 use Rattle.csv_cells.specs.Cells.{cell-text}
 use Rattle.csv_slots.proofs.Holding.{zeros-room, zeros-empty, slot-fits, slot-short, field-held}
-use Rattle.csv_sheet.proofs.Bounds.{value-small, place-few}
-use Rattle.csv_sheet.proofs.Putting.{Values-put, values-start, values-room, values-more, values-end}
-use Rattle.csv_sheet.proofs.put_target.Statement.{statement}
-use Rattle.csv_sheet.proofs.put_target.Tie as tie
+use Rattle.csv_sheet_parts.proofs.Bounds.{value-small, place-few}
+use Rattle.csv_sheet_parts.proofs.Putting.{Values-put, values-start, values-room, values-more, values-end}
+use Rattle.csv_sheet_parts.proofs.put_target.Statement.{statement}
+use Rattle.csv_sheet_parts.proofs.put_target.Tie as tie
 
 abbrev Inv-loop : tie.InvT-loop
 Inv-loop csv places output₀ row sizes cells i₀ output i = Values-put places csv output₀ row i output

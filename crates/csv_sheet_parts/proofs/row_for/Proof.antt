@@ -1,9 +1,9 @@
--- `csv_sheet::row_for` meets its contract.
+-- `csv_sheet_parts::row_for` meets its contract.
 use borrow.Author.Needs.{needs}
 use mathlib.Core.Path.{_∙_}
-use Rattle.csv_sheet.proofs.Bounds.{rows-few}
-use Rattle.csv_sheet.proofs.row_for.Statement.{statement}
-use Rattle.csv_sheet.proofs.row_for.Tie as tie
+use Rattle.csv_sheet_parts.proofs.Bounds.{rows-few}
+use Rattle.csv_sheet_parts.proofs.row_for.Statement.{statement}
+use Rattle.csv_sheet_parts.proofs.row_for.Tie as tie
 
 row-of-requires : tie.Need-row-of-requires
 row-of-requires c κs = (search needs, rows-few _ (search needs) (c .last-row .ensures))

@@ -15,7 +15,7 @@ use Rattle.buffers.proofs.Placing.{placed-set}
 use Rattle.sheet_output.specs.Output.{bits, values-bytes}
 use Rattle.sheet_output.proofs.Values.{length-values-bytes}
 use Rattle.buffers.proofs.Writing.{Writing, writing-start, writing-more, writing-end}
-use Rattle.csv_sheet.specs.Sheets.{cell-at, row-for, value-at, target-of, factor-at, factors-of}
+use Rattle.csv_sheet_parts.specs.Parts.{cell-at, row-for, value-at, target-of, factor-at, factors-of}
 
 -- ---- values, 2 bytes each
 pub record Values-put (ps csv out : List ℕ) (row i : ℕ) (now : List ℕ) : Type 0 where

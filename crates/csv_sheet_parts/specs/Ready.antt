@@ -1,4 +1,4 @@
--- What the helpers of the entry are given: a CSV whose rows have no fault, and where each of the fleet's columns stands in it.
+-- What the functions that put a sheet are given: a CSV whose rows have no fault, and where each of the fleet's columns stands in it.
 use mathlib.Core.Path.{_≡_}
 use mathlib.Core.List.{List}
 use Prim.Native.Nat.{ℕ, _≤_, _<_}

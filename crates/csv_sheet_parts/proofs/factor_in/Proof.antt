@@ -1,13 +1,13 @@
--- `csv_sheet::factor_in` meets its contract: a law for each return.
+-- `csv_sheet_parts::factor_in` meets its contract: a law for each return.
 use borrow.Author.Needs.{needs}
 use native.Mathlib.Omega.{arith}
 use mathlib.Core.Path.{ap, _∙_}
 use lib.ListN.{length}
 use Rattle.csv.specs.Cells.{read}
 use Rattle.csv_slots.proofs.Holding.{slot-fits, slot-short, field-held}
-use Rattle.csv_sheet.proofs.Bounds.{no-row, in-row}
-use Rattle.csv_sheet.proofs.factor_in.Statement.{statement}
-use Rattle.csv_sheet.proofs.factor_in.Tie as tie
+use Rattle.csv_sheet_parts.proofs.Bounds.{no-row, in-row}
+use Rattle.csv_sheet_parts.proofs.factor_in.Statement.{statement}
+use Rattle.csv_sheet_parts.proofs.factor_in.Tie as tie
 
 returns : tie.Need-returns
 returns c = λ csv held. no-row _ csv _ (c .if1 .taken)

@@ -1,13 +1,13 @@
--- `csv_sheet::put_file` meets its contract: the sheet is the first part of its buffer, and stands behind the CSV.
+-- `csv_sheet_parts::put_file` meets its contract: the sheet is the first part of its buffer, and stands behind the CSV.
 use borrow.Author.Needs.{needs}
 use mathlib.Core.Path.{_≡_, sym, ap, _∙_}
 use native.Mathlib.Omega.{arith}
 use lib.ListN.{length}
 use lib.Seq.{length-take-le}
-use Rattle.csv_sheet.proofs.Bounds.{factors-long}
-use Rattle.csv_sheet.proofs.Editions.{sheet-room, file-put}
-use Rattle.csv_sheet.proofs.put_file.Statement.{statement}
-use Rattle.csv_sheet.proofs.put_file.Tie as tie
+use Rattle.csv_sheet_parts.proofs.Bounds.{factors-long}
+use Rattle.csv_sheet_parts.proofs.Editions.{sheet-room, file-put}
+use Rattle.csv_sheet_parts.proofs.put_file.Statement.{statement}
+use Rattle.csv_sheet_parts.proofs.put_file.Tie as tie
 
 put-sheet-requires : tie.Need-put-sheet-requires
 put-sheet-requires c κs =

@@ -1,8 +1,8 @@
--- `csv_sheet::put_sheet` meets its contract: a law for each edition.
+-- `csv_sheet_parts::put_sheet` meets its contract: a law for each edition.
 use borrow.Author.Needs.{needs}
-use Rattle.csv_sheet.proofs.Editions.{plain-put, factored-put}
-use Rattle.csv_sheet.proofs.put_sheet.Statement.{statement}
-use Rattle.csv_sheet.proofs.put_sheet.Tie as tie
+use Rattle.csv_sheet_parts.proofs.Editions.{plain-put, factored-put}
+use Rattle.csv_sheet_parts.proofs.put_sheet.Statement.{statement}
+use Rattle.csv_sheet_parts.proofs.put_sheet.Tie as tie
 
 returns : tie.Need-returns
 returns c =
