@@ -20,6 +20,7 @@ TIERS = ("must-fail", "edits")
 
 # What the checker asks for so that code is safe and callees may be called; and what it says of the rest.
 SAFETY = re.compile(r"-requires(-\d+)?$|^(add|sub|mul|div|rem|neg|cast|shl|shr|array|slice|shared-slice|same-length)-?|-less$")
+MISSING = re.compile(r"is not in scope|can be named from here")
 ERROR = re.compile(r"^\S+: error: `([^`]+)`: (.*)$|it is not proved that what the function ensures holds when it returns \(`([^`]+)`\)", re.M)
 
 
@@ -119,15 +120,16 @@ def refused(log):
 
 
 def reasons(folder):
-    """Lists the edits whose logs have no error at a fact, or one about safety before it; gives the number of those that have none."""
+    """Lists the edits whose logs have no error at a fact, or one about safety or a missing name before it; gives the number of those that have none."""
     without = 0
     logs = sorted(glob.glob(os.path.join(folder, "*", "*", ".log")))
     for log in logs:
-        named = [name or returns for name, said, returns in ERROR.findall(read(log)) if "was not admitted" not in said]
-        facts = [name for name in named if not SAFETY.search(name)]
+        errors = [(name or returns, said) for name, said, returns in ERROR.findall(read(log)) if "was not admitted" not in said]
+        named = [name for name, _ in errors]
+        facts = [name for name, said in errors if not SAFETY.search(name) and not MISSING.search(said)]
         if not facts:
             without += 1
-        if not facts or SAFETY.search(named[0]):
+        if not facts or named[0] != facts[0]:
             print("edits: %s fails first at %s; facts: %s" % ("/".join(log.split(os.sep)[-3:-1]), named[0] if named else "nothing", ", ".join(facts[:3]) or "none"))
     print("edits: %d logs, %d without a fact" % (len(logs), without))
     return without
