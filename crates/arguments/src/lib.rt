@@ -1,12 +1,14 @@
 // What a program is asked for: the folder to work in, which is its last argument, or else the current folder, which has no name; and a number
 // before it. What the arguments are the system decides; no contract can say it.
+#![tactic(auto)]
+
 ghost use Rattle.std.specs.Prelude.{◌≡◌, ◌≤◌, length};
 ghost use Rattle.arguments.specs.Numbers.{no_number, is_figure, number_in};
 
 use libc::STDERR_FILENO;
 
 // Whether the arguments ask for a folder, and how many bytes its name has.
-#[derive(Drop)]
+#[derive(Clone, Copy)]
 pub struct Asked {
     pub known: bool,
     pub len: usize,
@@ -53,7 +55,7 @@ pub fn folder(program: &[u8], name: &mut [u8]) -> Asked
 // ---- A number, and a folder
 
 // Whether a text is a number, and which, 0 where it is none.
-#[derive(Drop)]
+#[derive(Clone, Copy)]
 pub struct Number {
     pub known: bool,
     pub value: u32,
@@ -106,7 +108,7 @@ fn number_in(text: &[u8]) -> Number
 }
 
 // Whether the arguments ask for a number and a folder, the number, and how many bytes the folder's name has.
-#[derive(Drop)]
+#[derive(Clone, Copy)]
 pub struct Task {
     pub known: bool,
     pub number: u32,

@@ -2,6 +2,8 @@
 //
 // Entries, which ask nothing of their caller: choose, better_card.
 // Helpers for other crates: part_of, whose callers prove what it requires; judge_both asks nothing.
+#![tactic(auto)]
+
 ghost use Rattle.std.specs.Prelude.{◌≡◌, ◌+◌, ◌≤◌, length};
 ghost use Rattle.files.specs.Sheet.{files_refusal};
 ghost use Rattle.method.specs.Answers.{outcome};
@@ -68,7 +70,7 @@ fn behind_front(card: &[u8], number: u32) -> Choice
 }
 
 // A choice, and which card its refusal is of: 1 for the first, also where the files are refused, 2 for the second.
-#[derive(Drop)]
+#[derive(Clone, Copy)]
 pub struct Ruling {
     pub choice: Choice,
     pub wrong: u32,

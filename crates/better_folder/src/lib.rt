@@ -1,6 +1,8 @@
 // The work of mixbetter, in a folder that the caller names. What the system reads and writes no contract can say; test_program holds
 // what is printed and filed to the reference.
 // Of each file one byte more is read than it may have, so that a longer file is refused and not cut.
+#![tactic(auto)]
+
 ghost use Rattle.std.specs.Prelude.{◌≡◌};
 ghost use Rattle.card_format.specs.Checks.{check_refusal};
 ghost use Rattle.better_card_promise.specs.Choices.{numbered};

@@ -1,6 +1,8 @@
 // The listing of the better of two cards.
 //
 // Entry, which asks nothing of its caller: better_text.
+#![tactic(auto)]
+
 ghost use Rattle.std.specs.Prelude.{◌≡◌, ◌+◌, ◌≤◌, length};
 ghost use Rattle.files.specs.Sheet.{files_refusal};
 ghost use Rattle.text.specs.Texts.{Holds};
@@ -25,7 +27,7 @@ fn part_text(book: &[u8], sheet: &[u8], part: &[u8], refusal: u32) -> Text
 
 // What two cards leave to be filed and to be said: the choice, which card its refusal is of, 1 for the first, also where the files are
 // refused, 2 for the second, and the listing of the card that was chosen.
-#[derive(Drop)]
+#[derive(Clone, Copy)]
 pub struct Chosen {
     pub choice: Choice,
     pub wrong: u32,

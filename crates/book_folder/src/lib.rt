@@ -1,6 +1,7 @@
 // The work of mixbook, in a folder that the caller names. What the system reads and writes no contract can say; test_book holds what is
 // printed and filed to the reference.
 
+#![tactic(auto)]
 // Files the book of a CSV in a folder as fleet.wbk, and prints its boats, columns and front text. The book is made in this buffer.
 fn file_made(folder: &[u8], csv: &[u8], output: &mut [u8]) {
     let made = csv_book::csv_book(csv, output);

@@ -1,6 +1,8 @@
 // A fleet book's trailer put into a buffer, right after the rows.
 //
 // A helper for other crates, whose callers prove that there is room: put_book_trailer.
+#![tactic(auto)]
+
 ghost use Rattle.std.specs.Prelude.{◌≡◌, ◌+◌, ◌≤◌, length};
 ghost use Rattle.buffers.specs.Placed.{placed};
 ghost use Rattle.book_output.specs.Output.{book_trailer};

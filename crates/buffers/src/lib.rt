@@ -1,6 +1,8 @@
 // Bytes put into a buffer that the caller lends: a number's, lowest first, or those of a list.
 //
 // Helpers for other crates, whose callers prove that there is room: put, put_bytes.
+#![tactic(auto)]
+
 ghost use Rattle.std.specs.Prelude.{◌≡◌, ◌+◌, ◌≤◌, length};
 ghost use Rattle.files.specs.Bytes.{number_bytes};
 ghost use Rattle.buffers.specs.Placed.{placed};

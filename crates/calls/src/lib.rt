@@ -1,6 +1,8 @@
 // What refuses a call of the search, the card writer or the card check ahead of its share list, buffer or card: its terms and its files.
 //
 // Helper for other crates: call_refusal. It asks nothing of its caller.
+#![tactic(auto)]
+
 ghost use Rattle.std.specs.Prelude.{◌≡◌, true};
 ghost use Rattle.method.specs.ReleasedBoats.{usable};
 ghost use Rattle.method.specs.Calls.{call_terms, released_refusal, call_refusal};

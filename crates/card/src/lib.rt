@@ -2,6 +2,8 @@
 //
 // Entries, which ask nothing of their caller: check_card_with, check_card.
 // Helpers for other crates, whose callers prove what they require: judge_card_with, judge_card.
+#![tactic(auto)]
+
 ghost use Rattle.std.specs.Prelude.{◌≡◌, false, ◌++◌, ◌≤◌, length, take, drop};
 ghost use Rattle.files.specs.Book.{boats};
 ghost use Rattle.files.specs.Sheet.{files_refusal};

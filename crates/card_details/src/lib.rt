@@ -3,6 +3,8 @@
 //
 // The entry, which asks nothing of its caller: card_detail. Helper for other crates, whose callers prove what it requires:
 // known_card_detail.
+#![tactic(auto)]
+
 ghost use Rattle.std.specs.Prelude.{◌≡◌, ◌+◌, ◌*◌, ◌≤◌, ◌<◌, length, take};
 ghost use Rattle.frank_wolfe.specs.Vectors.{sum};
 ghost use Rattle.files.specs.Book.{boats};

@@ -3,6 +3,7 @@
 // Of each file one byte more is read than it may have, so that a longer file is refused and not cut.
 // Of both standard error says where a CSV in the folder is not what the book or the sheet was made from.
 
+#![tactic(auto)]
 // Files the card of a search, which has no bytes where the search is refused; what is in the way goes to standard error.
 // Whether there is a listing to print.
 fn file(path: &[u8], output: &[u8; card_listing::MOST_CARD], len: usize) -> bool {

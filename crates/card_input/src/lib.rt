@@ -1,6 +1,8 @@
 // A card's form tested: refusals 31 to 36.
 //
 // Helpers for other crates, whose callers prove what they require: test_of, steps_used, pair_count, form_refusal.
+#![tactic(auto)]
+
 ghost use Rattle.std.specs.Prelude.{◌||◌, ◌≡◌, ◌*◌, ◌-◌, ◌≤◌, ◌<◌, length};
 ghost use Rattle.method.specs.declared.Test.TheVariants.{Former, Sharper};
 ghost use Rattle.card_format.specs.Format.{card_fields, lettered, card_test, pair_count};

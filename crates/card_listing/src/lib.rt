@@ -2,6 +2,8 @@
 //
 // Entries, which ask nothing of their caller: card_text, filed_text.
 // Helper for other crates, whose callers prove what it requires: judged_text.
+#![tactic(auto)]
+
 ghost use Rattle.std.specs.Prelude.{◌≡◌, ◌≤◌, length, take};
 ghost use Rattle.files.specs.Book.{boats};
 ghost use Rattle.files.specs.Sheet.{files_refusal};
@@ -48,7 +50,7 @@ pub fn judged_text(book: &[u8], sheet: &[u8], filed: &[u8]) -> Text
 
 // What a search leaves to be filed and to be said: the number that refuses the files, or 0; how many bytes its card has, 0 where they are
 // refused; and the listing.
-#[derive(Drop)]
+#[derive(Clone, Copy)]
 pub struct Filing {
     pub refusal: u32,
     pub len: usize,

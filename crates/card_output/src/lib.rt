@@ -1,4 +1,6 @@
 // A card's bytes put into a buffer.
+#![tactic(auto)]
+
 ghost use Rattle.std.specs.Prelude.{◌≡◌, [], ◌∷◌, ◌++◌, ◌+◌, ◌≤◌, length, take};
 ghost use Rattle.files.specs.Bytes.{number_bytes};
 ghost use Rattle.method.specs.declared.Test.TheVariants.{Sharper};

@@ -1,6 +1,8 @@
 // A card's pairs of boat and share tested and read, and the total of shares.
 //
 // Helpers for other crates: pairs_in_order, shares_of and total, whose callers prove what they require; wide asks nothing.
+#![tactic(auto)]
+
 ghost use Rattle.std.specs.Prelude.{◌≡◌, true, ◌&&◌, ◌+◌, ◌*◌, ◌≤◌, ◌<◌, ltb, leb, length, take, drop, replicate};
 ghost use Rattle.frank_wolfe.specs.Vectors.{sum};
 ghost use Rattle.card_format.specs.Format.{shares_into};

@@ -1,6 +1,8 @@
 // Whether what a card says is true of the shares in its body: refusals 37 to 39.
 //
 // Helper for other crates, whose callers prove what it requires: judged.
+#![tactic(auto)]
+
 ghost use Rattle.std.specs.Prelude.{◌≡◌, ◌≤◌, length, take};
 ghost use Rattle.files.specs.Book.{boats};
 ghost use Rattle.files.specs.Sheet.{files_refusal};

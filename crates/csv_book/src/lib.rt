@@ -1,6 +1,8 @@
 // The fleet book of a CSV: from the bytes of a spreadsheet to the file that a search reads.
 //
 // Entry, which asks nothing of its caller: csv_book.
+#![tactic(auto)]
+
 ghost use Rattle.std.specs.Prelude.{◌≡◌, length, take};
 ghost use Rattle.csv_book.specs.Books.{nothing_made, book_made, output_by};
 ghost use Rattle.csv_book.specs.Promise.{BookRight};
@@ -15,7 +17,7 @@ pub const ROOM: u32 = 11;
 // What was made: a book of `len` bytes with so many boats and columns, and this of the CSV in front of it. Where there is a fault, no byte
 // is written, the fault's place is a line and a field of the CSV, or 0 and 0 where no line was read, and the boats and columns are
 // those that were read before it.
-#[derive(Drop)]
+#[derive(Clone, Copy)]
 pub struct Made {
     pub fault: u32,
     pub line: usize,

@@ -1,6 +1,8 @@
 // The lines about a fleet's CSV: that of its fault, with file, line, boat, column and what is wrong there, or those of its book.
 //
 // Entries, which ask nothing of their caller: fleet_fault, book_lines.
+#![tactic(auto)]
+
 ghost use Rattle.std.specs.Prelude.{◌≡◌, ◌≤◌, length};
 ghost use Rattle.buffers.specs.Placed.{placed};
 ghost use Rattle.text.specs.Texts.{Holds};

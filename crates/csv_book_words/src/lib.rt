@@ -2,6 +2,8 @@
 //
 // Helpers for other crates: wants_boat, wants_column, wants_value; line_of, whose callers prove that the names are short; with_place, with_plain,
 // with_unnamed, with_many, with_front, whose callers prove that there is room.
+#![tactic(auto)]
+
 ghost use Rattle.std.specs.Prelude.{◌≡◌, ◌+◌, ◌≤◌, length};
 ghost use Rattle.text.specs.Texts.{text_limit, Holds, Adds};
 ghost use Rattle.csv_book_words.specs.Words.{place, other_words, plain_words, few_words, unnamed_words, many_words, words, wants_boat, wants_column, wants_value, fault_line, front_line};

@@ -2,6 +2,8 @@
 //
 // Helpers for other crates that ask nothing of their caller: read_byte, ending, Cell::empty, progress, separator, mark_size.
 // Cell::with_byte has a requirement, which its callers prove.
+#![tactic(auto)]
+
 ghost use Rattle.std.specs.Prelude.{◌≡◌, ◌<◌};
 ghost use Rattle.csv_bytes.specs.Tokens.{start_step, plain_step, quoted_step, closing_step, return_step, step, ending, as_comma, better, known_after, best_after, chosen, separator, mark_size};
 ghost use Rattle.csv_bytes.specs.Cells.{no_bytes, class_of, after_space, after_sign, after_figure, shape_after, more, magnitude_after, with_byte, is_negative, is_number, progress};
@@ -21,7 +23,7 @@ pub const STRAY: u32 = 260;
 pub const OPEN: u32 = 261;
 
 // Where a byte stands: at the start of a field, inside a plain one, inside quotes, after a quote inside quotes, after a carriage return.
-#[derive(Drop)]
+#[derive(Clone, Copy)]
 pub enum Mode {
     Start,
     Plain,
@@ -31,7 +33,7 @@ pub enum Mode {
 }
 
 // What a byte says: itself as part of a field, or a token above the bytes; and the mode of the next byte.
-#[derive(Drop)]
+#[derive(Clone, Copy)]
 pub struct Step {
     pub token: u32,
     pub mode: Mode,
@@ -168,7 +170,7 @@ pub fn ending(mode: Mode) -> u32
 }
 
 // What a byte can be in a number.
-#[derive(Drop)]
+#[derive(Clone, Copy)]
 pub enum Class {
     Space,
     Sign,
@@ -177,7 +179,7 @@ pub enum Class {
 }
 
 // What the bytes of a field say of a number so far: nothing but spaces, a sign, figures, spaces after figures, or no number.
-#[derive(Drop)]
+#[derive(Clone, Copy)]
 pub enum Shape {
     Blank,
     Signed,
@@ -187,7 +189,7 @@ pub enum Shape {
 }
 
 // The bytes of a field so far: how many, and the number that they say.
-#[derive(Drop)]
+#[derive(Clone, Copy)]
 pub struct Cell {
     pub size: u32,
     pub shape: Shape,

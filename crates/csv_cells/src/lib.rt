@@ -2,6 +2,8 @@
 //
 // Place::start asks nothing of its caller. Helpers for other crates, whose callers prove what they require: Place::moved,
 // put_cell, scan, last_place, line_of, width.
+#![tactic(auto)]
+
 ghost use Rattle.std.specs.Prelude.{◌≡◌, ◌≤◌, ◌<◌, length};
 ghost use Rattle.buffers.specs.Placed.{placed};
 ghost use Rattle.csv_cells.specs.Cells.{start, faulty, with_text, next_field, row_after, next_line, ended, consumed, moved, last_place, is_in, is_past, cell_text, line_at, line_of, width_at, width};
@@ -15,7 +17,7 @@ pub const MANY: u32 = 4;
 
 // Where a token stands: its line, counted from 1, the rows before its line, the fields before its field, the bytes of the field before it, and
 // the first fault or 0.
-#[derive(Drop)]
+#[derive(Clone, Copy)]
 pub struct Place {
     pub line: usize,
     pub row: usize,
@@ -237,7 +239,7 @@ fn width_at(row: usize, n: usize, place: Place, token: u32, fault: u32) -> usize
 }
 
 // What a pass over a whole CSV finds: the last place, and the line and the width of a row.
-#[derive(Drop)]
+#[derive(Clone, Copy)]
 pub struct Scanned {
     pub place: Place,
     pub line: usize,

@@ -2,6 +2,8 @@
 //
 // Helpers for other crates, whose callers prove what they require: find_mismatch, put_positions. Each reads the names of both CSVs once, into
 // slots; what the other functions say of slots holds of every CSV whose names are in them.
+#![tactic(auto)]
+
 ghost use Rattle.std.specs.Prelude.{List, ◌≡◌, ℕ, ◌≤◌, ◌<◌, length};
 ghost use Rattle.buffers.specs.Placed.{placed};
 ghost use Rattle.csv_cells.specs.Cells.{cell_text};
@@ -19,7 +21,7 @@ pub const UNKNOWN: u32 = 20;
 pub const FLEET_TWICE: u32 = 21;
 
 // What is wrong, or 0, and the column of the fleet, or with UNKNOWN of the sheet, that is meant.
-#[derive(Drop)]
+#[derive(Clone, Copy)]
 pub struct Mismatch {
     pub fault: u32,
     pub column: usize,

@@ -1,1 +1,2 @@
 // Short texts with the tokens of their fields, as theorems about the definitions. There is no code.
+#![tactic(auto)]

@@ -1,6 +1,8 @@
 // One field of a fleet's CSV, as bytes: a boat's or a column's name, or what stands in place of a value.
 //
 // Helpers for other crates, whose callers prove what they require: put_field, put_byte.
+#![tactic(auto)]
+
 ghost use Rattle.std.specs.Prelude.{◌≡◌, true, ◌+◌, ◌≤◌, ◌<◌, length};
 ghost use Rattle.csv_fleet_tokens.specs.Table.{after};
 ghost use Rattle.buffers.specs.Placed.{placed};

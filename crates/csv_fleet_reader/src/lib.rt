@@ -1,6 +1,8 @@
 // A fleet read from a whole CSV: its values are put into a buffer while it is read.
 //
 // Helpers for other crates, whose callers prove what they require: read_fleet, value_bits, next_number.
+#![tactic(auto)]
+
 ghost use Rattle.std.specs.Prelude.{◌≡◌, ◌+◌, ◌*◌, ◌≤◌, ◌<◌, length};
 ghost use Rattle.buffers.specs.Placed.{placed};
 ghost use Rattle.sheet_output.specs.Output.{bits, values_bytes};
@@ -12,7 +14,7 @@ use csv_bytes::Mode;
 use csv_fleet_tokens::Table;
 
 // What was read of a whole CSV: the table after it, the line of the first fault, and how many values were put.
-#[derive(Drop)]
+#[derive(Clone, Copy)]
 pub struct Fleet {
     pub table: Table,
     pub line: usize,

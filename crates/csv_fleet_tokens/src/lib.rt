@@ -1,6 +1,8 @@
 // A fleet given as CSV: a line of column names, a line of units or none, a line a boat. Its values, or the first fault with its place.
 //
 // Helpers for other crates that ask nothing of their caller: Table::start, read_fleet. Table::after has a requirement, which its callers prove.
+#![tactic(auto)]
+
 ghost use Rattle.std.specs.Prelude.{◌≡◌, ◌+◌, ◌<◌};
 ghost use Rattle.csv_fleet_tokens.specs.Table.{start, faulty, with_text, number_fault, name_fault, field_fault, limit, units_after, field_ended, end_fault, columns_after, boats_after, word_after, whole_line_ended, line_ended, finished, consumed, after};
 
@@ -28,7 +30,7 @@ pub const BOATLESS: u32 = 9;
 
 // What was read so far: how many fields this line has before this one, the columns and boats, whether this line has units, this field's
 // bytes, how many of them begin the word `unit` where it may stand, and the first fault or 0.
-#[derive(Drop)]
+#[derive(Clone, Copy)]
 pub struct Table {
     pub field: usize,
     pub columns: usize,

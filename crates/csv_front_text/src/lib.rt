@@ -1,6 +1,8 @@
 // A file with front text that is made of a CSV: the CSV itself, or the CSV without its values, or nothing.
 //
 // Helper for other crates, whose callers prove what it requires: put_with_front.
+#![tactic(auto)]
+
 ghost use Rattle.std.specs.Prelude.{◌≡◌, ◌+◌, ◌-◌, ◌≤◌, length, take};
 ghost use Rattle.buffers.specs.Placed.{placed};
 ghost use Rattle.csv_front_text.specs.Front.{is_kept, kept_byte, names_text, front_of, front_text, with_front, written_of};
@@ -11,7 +13,7 @@ use csv_bytes::Mode;
 use csv_fleet_tokens::Table;
 
 // What of a CSV is the front text: all of it, the names and units, nothing.
-#[derive(Drop)]
+#[derive(Clone, Copy)]
 pub enum Front {
     Whole,
     Names,
@@ -19,7 +21,7 @@ pub enum Front {
 }
 
 // What was put into a buffer: which front text, and how many bytes with the file.
-#[derive(Drop)]
+#[derive(Clone, Copy)]
 pub struct Written {
     pub front: Front,
     pub len: usize,

@@ -1,6 +1,8 @@
 // Whether a fleet book or a sheet is what the CSVs beside it make.
 //
 // Entries, which ask nothing of their caller: is_book_of, is_sheet_of.
+#![tactic(auto)]
+
 ghost use Rattle.std.specs.Prelude.{◌≡◌};
 ghost use Rattle.csv_origin.specs.Origin.{book_of, edition_of, front_of, sheet_of};
 

@@ -1,6 +1,8 @@
 // The sheet of two CSVs: from the bytes of a spreadsheet to the file that a search reads.
 //
 // Entry, which asks nothing of its caller: csv_sheet.
+#![tactic(auto)]
+
 ghost use Rattle.std.specs.Prelude.{◌≡◌, ◌≤◌, length, take};
 ghost use Rattle.files.specs.Limits.{file_limit};
 ghost use Rattle.csv_fleet_reader.specs.Fleet.{last_table};
@@ -25,7 +27,7 @@ pub const LARGE_TOLERANCE: u32 = 23;
 
 // What was made: a sheet of `len` bytes for so many columns, with the total of its factors, its steps and its tolerance. Where there is a
 // fault, no byte is written, and the fault's place is a line, its row and a field of the sheet's CSV, or a column as the field, or all are 0.
-#[derive(Drop)]
+#[derive(Clone, Copy)]
 pub struct Made {
     pub fault: u32,
     pub line: usize,

@@ -1,6 +1,8 @@
 // The parts of a sheet read from its CSV, factors, steps and tolerance, and the CSV with the sheet behind it put into a buffer.
 //
 // Helpers for other crates, whose callers prove that the CSV has no fault: put_factors, steps_of, tolerance_for, put_file.
+#![tactic(auto)]
+
 ghost use Rattle.std.specs.Prelude.{List, ◌≡◌, ℕ, ◌*◌, ◌≤◌, length};
 ghost use Rattle.files.specs.Limits.{file_limit};
 ghost use Rattle.buffers.specs.Placed.{placed};

@@ -1,6 +1,8 @@
 // The rows of a sheet's CSV: what each is by its first field, and the first fault with its place.
 //
 // Helpers for other crates, whose callers prove what they require: kind_of, kind_at, row_of, read, cell_at, columns, last_row, rows_fault.
+#![tactic(auto)]
+
 ghost use Rattle.std.specs.Prelude.{List, ◌≡◌, ℕ, ◌≤◌, length};
 ghost use Rattle.csv_bytes.specs.Cells.{read};
 ghost use Rattle.csv_cells.specs.Cells.{cell_text};
@@ -54,7 +56,7 @@ pub const NO_TOLERANCE: u32 = 17;
 pub const MANY_VALUES: u32 = 24;
 
 // The first fault, or 0, with its line, row and field, all 0 where it has no place.
-#[derive(Drop)]
+#[derive(Clone, Copy)]
 pub struct Finding {
     pub fault: u32,
     pub line: usize,

@@ -1,6 +1,8 @@
 // The lines about a sheet's CSV: that of its fault, with file, line, row, column and what is wrong there, or those of its sheet.
 //
 // Entries, which ask nothing of their caller: sheet_fault, sheet_lines.
+#![tactic(auto)]
+
 ghost use Rattle.std.specs.Prelude.{◌≡◌, ◌≤◌, length};
 ghost use Rattle.buffers.specs.Placed.{placed};
 ghost use Rattle.text.specs.Texts.{Holds};

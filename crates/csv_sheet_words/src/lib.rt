@@ -1,6 +1,8 @@
 // The words of the lines about a sheet's CSV: what is wrong with it and where, once the names are found.
 //
 // Helpers for other crates: wants_row, wants_column; row_line, column_line, whose callers prove that the names are short.
+#![tactic(auto)]
+
 ghost use Rattle.std.specs.Prelude.{◌≡◌, ◌+◌, ◌≤◌, length};
 ghost use Rattle.text.specs.Texts.{text_limit, Holds, Adds};
 ghost use Rattle.csv_sheet_words.specs.Words.{range_words, beyond_words, again_words, nameless_words, missing_words, limit_words, words, of_value, wants_row, wants_column, row_line, opening, closing, column_line};

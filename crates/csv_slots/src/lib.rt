@@ -1,6 +1,8 @@
 // The fields of some rows of a CSV, read in one pass and kept side by side: 200 bytes for each field, and how many of them it has.
 //
 // Helpers for other crates, whose callers prove what they require: put_rows, cell, width_in.
+#![tactic(auto)]
+
 ghost use Rattle.std.specs.Prelude.{List, ◌≡◌, ℕ, ◌+◌, ◌*◌, ◌≤◌, ◌<◌, length, get_or};
 ghost use Rattle.csv_cells.specs.Cells.{moved, width};
 ghost use Rattle.csv_slots.specs.Slots.{slot, Room, Empty, Kept, Held};

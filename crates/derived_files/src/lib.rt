@@ -1,6 +1,8 @@
 // A fleet book and a sheet with each column as often as its factor says, put into a buffer: a search with these factors is a plain search on them.
 //
 // Helpers for other crates, whose callers prove what they require: put_book, put_sheet.
+#![tactic(auto)]
+
 ghost use Rattle.std.specs.Prelude.{◌≡◌, ◌+◌, ◌*◌, ◌≤◌, ◌<◌, length, replicate};
 ghost use Rattle.frank_wolfe.specs.Vectors.{sum};
 ghost use Rattle.files.specs.Book.{columns, book_refusal};

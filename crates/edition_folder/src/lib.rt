@@ -1,5 +1,7 @@
 // The work of mixedition, in a folder that the caller names. What the system reads and writes no contract can say; test_rewriting holds
 // what is printed and filed to the reference.
+#![tactic(auto)]
+
 ghost use Rattle.std.specs.Prelude.{◌≡◌};
 ghost use Rattle.editions.specs.Rewriting.{rewriting_number};
 

@@ -2,6 +2,8 @@
 //
 // Entries, which ask nothing of their caller: edition_line, edition_detail. Helper for other crates, whose callers prove what it requires:
 // known_detail.
+#![tactic(auto)]
+
 ghost use Rattle.std.specs.Prelude.{◌≡◌, false, ◌≤◌, ◌<◌, length};
 ghost use Rattle.files.specs.Sheet as Sheets;
 ghost use Rattle.files.specs.Sheet.{sheet_refusal_in};

@@ -1,4 +1,6 @@
 // Two byte strings compared.
+#![tactic(auto)]
+
 ghost use Rattle.std.specs.Prelude.{◌≡◌};
 ghost use Rattle.files.specs.Bytes.{same};
 

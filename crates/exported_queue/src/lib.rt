@@ -3,6 +3,8 @@
 //
 // Entry, which asks nothing of its caller: dofitrano_run_queue. A slice passes as a pointer and a length; include/dofitrano.h declares the
 // function for C and says what a caller in another language must see to.
+#![tactic(auto)]
+
 ghost use Rattle.std.specs.Prelude.{◌≡◌, ◌≤◌, ◌<◌, length};
 ghost use Rattle.sheet_queue.specs.Queue.{lengths, queue_refusal, records-after, queue_slots_after};
 ghost use Rattle.sheet_queue.specs.Promise.{QueueRight};
@@ -13,7 +15,7 @@ use queue_rounds::{Outcome, Plan};
 use sheet_queue::SheetRecord;
 
 // The lengths of the first 16 sheets of a queue.
-#[derive(Drop)]
+#[derive(Clone, Copy)]
 pub struct Lengths {
     pub at: [u32; 16],
 }

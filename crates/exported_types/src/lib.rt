@@ -1,6 +1,8 @@
 // What the entries give back as plain numbers, for programs in other languages.
 //
 // Helpers, which ask nothing of their caller: reply_of, card_reply_of, edition_reply_of.
+#![tactic(auto)]
+
 ghost use Rattle.std.specs.Prelude.{◌≡◌};
 ghost use Rattle.exported_types.specs.Replies.{floor_of, shortfall_of, reply_of, card_reply_of, edition_reply_of};
 
@@ -11,7 +13,7 @@ use method::{Searched, Verdict};
 // The answer of a call as plain numbers. A refused call has its number in `refusal` and 0 in every other field;
 // an answered one has 0 in `refusal`.
 #[repr(C)]
-#[derive(Drop)]
+#[derive(Clone, Copy)]
 pub struct Reply {
     // the number that refuses the call
     pub refusal: u32,
@@ -86,7 +88,7 @@ pub fn reply_of(found: Searched) -> Reply
 
 // The reply of the card writer. A refused call has 0 in `bytes`: nothing was written.
 #[repr(C)]
-#[derive(Drop)]
+#[derive(Clone, Copy)]
 pub struct CardReply {
     // the run's answer, or the number that refuses the call
     pub reply: Reply,
@@ -112,7 +114,7 @@ pub fn card_reply_of(written: Written) -> CardReply
 
 // The reply of a sheet's conversion. A refused call has 0 in `edition` and `bytes`: nothing was written.
 #[repr(C)]
-#[derive(Drop)]
+#[derive(Clone, Copy)]
 pub struct EditionReply {
     // the number that refuses the call, 0 where a sheet was written
     pub refusal: u32,

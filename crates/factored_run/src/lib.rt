@@ -2,6 +2,8 @@
 // a book and a sheet in which each column stands as often as its factor says are made in local memory.
 //
 // Helpers for other crates, whose callers prove what they require: run, answer_of.
+#![tactic(auto)]
+
 ghost use Rattle.std.specs.Prelude.{◌≡◌, true, ◌++◌, ◌≤◌, length, take, drop};
 ghost use Rattle.frank_wolfe.specs.Vectors.{sum};
 ghost use Rattle.files.specs.Book.{boats};

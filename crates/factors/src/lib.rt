@@ -1,6 +1,8 @@
 // The factors of a sheet: how often each column counts in a squared distance.
 //
 // Helpers for other crates, whose callers prove what they require: factors_of, total, factor_total, is_plain.
+#![tactic(auto)]
+
 ghost use Rattle.std.specs.Prelude.{◌≡◌, true, ◌≤◌, length};
 ghost use Rattle.frank_wolfe.specs.Vectors.{sum};
 ghost use Rattle.files.specs.Sheet.{WSH2, sheet_lettered, SheetWhole};

@@ -1,5 +1,7 @@
 // What the programs share: files read and replaced whole, listings printed, faults told on standard error.
 // Each function is safe and ends; what the system reads and writes no contract can say.
+#![tactic(auto)]
+
 ghost use Rattle.std.specs.Prelude.{◌≡◌, ◌≤◌, take};
 ghost use Rattle.io.specs.Counts.{IsPrefixLen};
 ghost use Rattle.text.specs.Texts.{text_limit};
@@ -31,7 +33,7 @@ fn at_end(fd: i32) -> bool {
 }
 
 // What was read of a file: whether it was there to be read, and how many of its bytes are in the buffer.
-#[derive(Drop)]
+#[derive(Clone, Copy)]
 pub struct Content {
     pub there: bool,
     pub len: usize,

@@ -1,6 +1,8 @@
 // Tests of the parts of a file: a count or a length between two bounds, a body of values.
 //
 // Helpers for other crates, whose callers prove what they require: is_between, body_refusal.
+#![tactic(auto)]
+
 ghost use Rattle.std.specs.Prelude.{◌≡◌, ◌+◌, ◌*◌, ◌≤◌, ◌<◌, length, drop};
 ghost use Rattle.files.specs.Bytes.{value, values, in_range, all_in_range, between, body_refusal};
 

@@ -2,6 +2,8 @@
 //
 // Helpers for other crates, whose callers prove what they require: u16_at, u32_at, u64_at and value_at read at an offset, ends_with
 // at the end; boats, columns and book_body a fleet book, sheet_columns, steps, tolerance, sheet_back and sheet_body a sheet.
+#![tactic(auto)]
+
 ghost use Rattle.std.specs.Prelude.{◌≡◌, ◌+◌, ◌-◌, ◌*◌, ◌≤◌, ◌<◌, length, drop};
 ghost use Rattle.files.specs.Bytes.{number, value, same};
 ghost use Rattle.files.specs.Book.{boats, columns, BookWhole, rows_offset};

@@ -141,18 +141,18 @@ module _ (S : Space) (Vertex : S.Vec → Type 0) (u : S.Vec) where
   run_mixture (step run sc l p) = more (run_mixture run) l.vertex p
 
   -- E / W² - Q / N² ≤ 2 D² t / W
-  table : {t n : ℕ} {d : ℤ} {y r z ρ : S.Vec} {a : ℕ → ℕ} → 1 ≤ a 0 → ((k : ℕ) → a k * a k ≤ 2 * total a (suc k)) →
+  table : {a : ℕ → ℕ} {t n : ℕ} {d : ℤ} {y r z ρ : S.Vec} → 1 ≤ a 0 → ((k : ℕ) → a k * a k ≤ 2 * total a (suc k)) →
       Diameter S Vertex d → Run S Vertex u a t y → Residual S y (pos (total a t)) u r → Compared S Vertex u n z ρ →
       (S.inner r r *ℤ pos (n * n))
       ≤ℤ (S.inner ρ ρ *ℤ pos (total a t * total a t) +ℤ pos 2 *ℤ d *ℤ pos t *ℤ pos (total a t) *ℤ pos (n * n))
   unfolding total
   table {n = n} {d = d} {r = r} {ρ = ρ} h1 ha D (start h) R Z =
       derive (S.inner r r ∷ pos n ∷ S.inner ρ ρ ∷ d ∷ []) (x₀ ⊗ (x₁ ⊗ x₁) ≼ x₂ ⊗ O ⊕ two ⊗ x₃ ⊗ O ⊗ O ⊗ (x₁ ⊗ x₁)) (equation (⊖ (x₁ ⊗ x₁)) x₀ O (nothing h R)) tt
-  table {n = n} {d = d} {r = r} {ρ = ρ} {a = a} h1 ha D (step (start h) (at_start hv H) l p) R Z =
+  table {a = a} {n = n} {d = d} {r = r} {ρ = ρ} h1 ha D (step (start h) (at_start hv H) l p) R Z =
       rw (zero-add (a 0))
       (scalar.table_first (pos (a 0)) (pos n) d (S.inner ρ ρ) (S.inner r r) (diameter_nonneg S Vertex D hv) (≤→≤ℤ (rw (zero-add (a 0)) at (ha 0)))
       (first_step D hv H l h p (rw (zero-add (a 0)) at R) Z))
-  table {n = n} {d = d} {r = r} {ρ = ρ} {a = a} h1 ha D (step {t = suc t} {g = g} run (at_iterate R₀) l p) R Z =
+  table {a = a} {n = n} {d = d} {r = r} {ρ = ρ} h1 ha D (step {t = suc t} {g = g} run (at_iterate R₀) l p) R Z =
       rw (← add-one (suc t))
       (scalar.table_step (pos (total a (suc t))) (pos (a (suc t))) (pos n) d (S.inner g g) (S.inner ρ ρ) (pos (suc t)) (S.inner r r)
       (<→<ℤ (total_positive a t h1)) (nonneg (a (suc t))) (diameter_nonneg S Vertex D l.vertex) (≤→≤ℤ (ha (suc t)))

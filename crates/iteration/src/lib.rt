@@ -1,6 +1,8 @@
 // The iteration of the mixture search: the state of a run, its steps, and the answer of a state.
 //
 // All functions are helpers for other crates, whose callers prove what they require.
+#![tactic(auto)]
+
 ghost use Rattle.std.specs.Prelude.{◌≡◌, ◌++◌, ◌-◌, ◌≤◌, ◌<◌, length, take, drop, replicate, pos};
 ghost use Rattle.files.specs.Book.{boats, columns};
 ghost use Rattle.files.specs.Sheet.{files_refusal};
@@ -19,7 +21,7 @@ use method::{Answer, Test};
 use scoring::Least;
 
 // Where the rows of a fleet book and the target of a sheet stand in their bytes: the offset of the first row, and of the target.
-#[derive(Drop)]
+#[derive(Clone, Copy)]
 pub struct Layout {
     pub boats: usize,
     pub columns: usize,
@@ -87,7 +89,7 @@ fn distance_after(e: u64, k: u32, score: i64, target_score: i64, own: i32, targe
 
 // A run after some steps: W, E and the score <r, u> of the target under the residual r = y - W u, and the boat that the next
 // step picks, with its score. The shares and the scores of the boats are kept beside it.
-#[derive(Drop)]
+#[derive(Clone, Copy)]
 pub struct State {
     pub steps: u32,
     pub weight: u32,

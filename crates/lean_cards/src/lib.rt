@@ -1,6 +1,8 @@
 // The cards of a report, checked one by one into 256 slots a card.
 //
 // Entries, which ask nothing of their caller: lean_start, lean_card.
+#![tactic(auto)]
+
 ghost use Rattle.std.specs.Prelude.{◌≡◌, ◌++◌, ◌*◌, ◌-◌, ◌≤◌, length, take};
 ghost use Rattle.files.specs.Book.{boats};
 ghost use Rattle.method.specs.Answers.{slots_after};

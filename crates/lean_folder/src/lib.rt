@@ -1,5 +1,7 @@
 // The work of leanlist, in a folder that the caller names. What the system reads no contract can say; what is made of it is the report of the
 // book and of the pairs that were read, one after the other. test_lean holds what is printed to the reference.
+#![tactic(auto)]
+
 ghost use Rattle.std.specs.Prelude.{◌*◌, ◌≤◌, length};
 ghost use Rattle.leaning.specs.Report.{most_cards};
 ghost use Rattle.leaning.specs.Slots.{card_slots};

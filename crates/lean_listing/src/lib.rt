@@ -1,6 +1,8 @@
 // The lines that say which boats cards rest on, of the shares in 256 slots a card.
 //
 // Entry, which asks nothing of its caller: lean_text.
+#![tactic(auto)]
+
 ghost use Rattle.std.specs.Prelude.{◌≡◌, cond, ℕ, ◌+◌, ◌*◌, ◌≤◌, ◌<◌, eqb, length, drop};
 ghost use Rattle.frank_wolfe.specs.Vectors.{sum};
 ghost use Rattle.files.specs.Book.{boats};

@@ -2,6 +2,7 @@
 // in specs/Report.antt, how cards that are checked one by one stand in a list of slots in specs/Slots.antt, what is promised in
 // specs/Promise.antt.
 
+#![tactic(auto)]
 // The most cards of a report.
 pub const MOST_CARDS: usize = 64;
 

@@ -1,6 +1,8 @@
 // The listing of an answer as text: lines of words and decimal numbers, given back by value with their length.
 //
 // Helpers for other crates, whose callers prove what they require: with_boat, refused_listing, outcome_listing.
+#![tactic(auto)]
+
 ghost use Rattle.std.specs.Prelude.{◌≡◌, ◌+◌, ◌≤◌, ◌<◌, take};
 ghost use Rattle.files.specs.Sheet.{files_refusal};
 ghost use Rattle.method.specs.Answers.{refusal_number};
@@ -80,7 +82,7 @@ fn answer_listing(book: &[u8], sheet: &[u8], a: Answer, shares: [u16; 256]) -> T
 }
 
 // A listing, and the number that refuses where it is a refusal's, else 0.
-#[derive(Drop)]
+#[derive(Clone, Copy)]
 pub struct Listed {
     pub refusal: u32,
     pub text: Text,

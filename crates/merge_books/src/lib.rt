@@ -1,6 +1,8 @@
 // One fleet book from two, put into a buffer.
 //
 // Entry, which asks nothing of its caller: merge_books. Helper for other crates, whose callers prove what it requires: merge_known.
+#![tactic(auto)]
+
 ghost use Rattle.std.specs.Prelude.{◌≡◌, ◌+◌, ◌*◌, ◌≤◌, length, take};
 ghost use Rattle.files.specs.Bytes.{values};
 ghost use Rattle.files.specs.Book.{columns, rows_from, book_refusal};

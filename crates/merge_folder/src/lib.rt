@@ -1,6 +1,7 @@
 // The work of mixmerge, in a folder that the caller names. What the system reads and writes no contract can say; test_merge holds what is
 // printed and filed to the reference.
 
+#![tactic(auto)]
 // Says on standard error what is wrong with a file of a folder.
 fn tell_of(folder: &[u8], name: &[u8], fault: &[u8]) {
     let path = paths::path_in(folder, name);

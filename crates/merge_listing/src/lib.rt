@@ -1,6 +1,8 @@
 // The line that says what two fleet books gave: boats and columns of the merged book, or the number that refuses.
 //
 // Entry, which asks nothing of its caller: merge_text.
+#![tactic(auto)]
+
 ghost use Rattle.std.specs.Prelude.{◌≡◌, length};
 ghost use Rattle.files.specs.Book.{book_refusal};
 ghost use Rattle.method.specs.Answers.{slots_after};
@@ -13,7 +15,7 @@ use merged_book::Merged;
 use text::Text;
 
 // What two books leave to be filed and to be said, and the number that refuses the first of them, 0 where none does.
-#[derive(Drop)]
+#[derive(Clone, Copy)]
 pub struct Listed {
     pub merged: Merged,
     pub first: u32,

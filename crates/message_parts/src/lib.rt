@@ -1,6 +1,8 @@
 // What lines about files share: a name as one line shows it, and a name behind a comma.
 //
 // Helpers for other crates, whose callers prove that there is room: with_shown, with_part.
+#![tactic(auto)]
+
 ghost use Rattle.std.specs.Prelude.{◌≡◌, map, ◌+◌, ◌≤◌, length};
 ghost use Rattle.text.specs.Texts.{text_limit, Adds};
 ghost use Rattle.message_parts.specs.Parts.{shown, part};

@@ -1,9 +1,10 @@
 // The Frank-Wolfe method in whole numbers: the answer of a run as a type.
 // It has no function: specs/ defines the method, the published iteration over fractions and what is promised of a run; proofs/ proves the promises of the definitions.
 
+#![tactic(auto)]
 // What a run says of the target: within the tolerance; beyond it, with the floor E - 2 G; or neither after the
 // last step, with the shortfall E - tolerance × W².
-#[derive(Drop)]
+#[derive(Clone, Copy)]
 pub enum Verdict {
     Within,
     Beyond(i64),
@@ -11,14 +12,14 @@ pub enum Verdict {
 }
 
 // What says Beyond. Former: E - 2 G is above tolerance × W². Sharper: E is above G, and (E - G)² above tolerance × W² × E.
-#[derive(Drop)]
+#[derive(Clone, Copy)]
 pub enum Test {
     Former,
     Sharper,
 }
 
 // The answer of a run: steps used, W, E, G and the verdict.
-#[derive(Drop)]
+#[derive(Clone, Copy)]
 pub struct Answer {
     pub steps: u32,
     pub weight: u32,
@@ -28,7 +29,7 @@ pub struct Answer {
 }
 
 // What a search or a card check gives back: the number that refuses its input, or the answer.
-#[derive(Drop)]
+#[derive(Clone, Copy)]
 pub enum Searched {
     Refused(u32),
     Answered(Answer),
@@ -37,7 +38,7 @@ pub enum Searched {
 // The boats that a call may use, by the numbers of the book. Where `limited`, those that the bits of `boats` name: bit b of byte k,
 // b = 0 the lowest, is for boat 8 k + b. Else all of them, and `boats` is not read.
 #[repr(C)]
-#[derive(Drop)]
+#[derive(Clone, Copy)]
 pub struct Released {
     pub limited: bool,
     pub boats: [u8; 32],

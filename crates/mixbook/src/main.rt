@@ -1,4 +1,6 @@
 // mixbook: makes the fleet book fleet.wbk of the spreadsheet fleet.csv, files of the folder that its argument names, or of the current one, and prints its boats, columns and front text.
+#![tactic(auto)]
+
 fn main() {
     let mut name = [0u8; 4095];
     let asked = arguments::folder(b"mixbook", &mut name);

@@ -1,4 +1,6 @@
 // mixcard: searches fleet.wbk and sheet.wsh, files of the folder that its argument names, or of the current one, files the card as card.wcd and prints the listing.
+#![tactic(auto)]
+
 fn main() {
     let mut name = [0u8; 4095];
     let asked = arguments::folder(b"mixcard", &mut name);

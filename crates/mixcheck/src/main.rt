@@ -1,4 +1,6 @@
 // mixcheck: checks card.wcd against fleet.wbk and sheet.wsh, files of the folder that its argument names, or of the current one, and prints the listing of the card's answer.
+#![tactic(auto)]
+
 fn main() {
     let mut name = [0u8; 4095];
     let asked = arguments::folder(b"mixcheck", &mut name);

@@ -1,4 +1,6 @@
 // mixedition: converts the sheet sheet.wsh, a file of the folder that its argument names, or of the current one, into its other edition other.wsh, and prints the edition and its bytes.
+#![tactic(auto)]
+
 fn main() {
     let mut name = [0u8; 4095];
     let asked = arguments::folder(b"mixedition", &mut name);

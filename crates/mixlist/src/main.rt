@@ -1,4 +1,6 @@
 // mixlist: prints the listing of the search of fleet.wbk and sheet.wsh, files of the folder that its argument names, or of the current one.
+#![tactic(auto)]
+
 fn main() {
     let mut name = [0u8; 4095];
     let asked = arguments::folder(b"mixlist", &mut name);

@@ -1,4 +1,6 @@
 // mixmerge: files one fleet book from fleet.wbk and bought.wbk as merged.wbk, files of the folder that its argument names, or of the current one, and prints its boats and columns.
+#![tactic(auto)]
+
 fn main() {
     let mut name = [0u8; 4095];
     let asked = arguments::folder(b"mixmerge", &mut name);

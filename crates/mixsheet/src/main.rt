@@ -1,4 +1,6 @@
 // mixsheet: makes the sheet sheet.wsh of the spreadsheets fleet.csv and sheet.csv, files of the folder that its argument names, or of the current one, and prints what it asks for.
+#![tactic(auto)]
+
 fn main() {
     let mut name = [0u8; 4095];
     let asked = arguments::folder(b"mixsheet", &mut name);

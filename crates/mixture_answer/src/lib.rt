@@ -1,6 +1,8 @@
 // The answer of a list of shares, one a boat, which need not come from a run: its residual, and E, G and the verdict from it.
 //
 // Helpers for other crates, whose callers prove what they require: residual_of, answer_of.
+#![tactic(auto)]
+
 ghost use Rattle.std.specs.Prelude.{◌≡◌, ◌≤◌, take};
 ghost use Rattle.frank_wolfe.specs.Vectors.{subtract, scale, sum, combination};
 ghost use Rattle.files.specs.Book.{boats, columns, rows};

@@ -3,6 +3,8 @@
 //
 // Helpers for other crates: tell_of and read_named, which ask nothing of their caller; name_of and count_in, whose callers prove what they
 // require.
+#![tactic(auto)]
+
 ghost use Rattle.std.specs.Prelude.{◌≤◌, length};
 ghost use Rattle.io.specs.Counts.{IsPrefixLen};
 ghost use Rattle.text.specs.Texts.{Holds};

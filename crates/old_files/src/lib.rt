@@ -3,6 +3,7 @@
 // A file without a byte is as one that is not there, which the programs tell or refuse. So is a CSV that cannot be read. Of a CSV one byte more is read
 // than it may have, so that a longer one is not taken for a part of it.
 
+#![tactic(auto)]
 // Says that fleet.csv is not what this book was made from, where there is one.
 pub fn tell_book(csv: &[u8], book: &[u8]) {
     if book.len() == 0 {

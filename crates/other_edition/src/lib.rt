@@ -2,6 +2,8 @@
 //
 // Entry, which asks nothing of its caller: other_edition. Helpers for other crates: refusal_in, which asks nothing either; other_number and
 // other_size, whose callers prove what they require.
+#![tactic(auto)]
+
 ghost use Rattle.std.specs.Prelude.{◌≡◌, ◌+◌, ◌*◌, ◌≤◌, length};
 ghost use Rattle.files.specs.Limits.{file_limit};
 ghost use Rattle.method.specs.Answers.{slots_after};

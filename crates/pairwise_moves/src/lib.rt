@@ -2,6 +2,8 @@
 // least, of those that hold some, until the best amount is 0 or the moves allowed are made. The scores are moved with the shares.
 //
 // Helper for other crates, whose callers prove what it requires: worked_over.
+#![tactic(auto)]
+
 ghost use Rattle.std.specs.Prelude.{◌≡◌, ◌++◌, ◌+◌, ◌*◌, ◌≤◌, ◌<◌, pos, ◌-ℤ◌, length, get_or, take, drop};
 ghost use Rattle.files.specs.Book.{boats, rows_from};
 ghost use Rattle.files.specs.Sheet.{files_refusal};
@@ -20,14 +22,14 @@ ghost use Rattle.pairwise_moves.specs.Passes.{pair_of, ahead, held_moved, Listed
 use iteration::Layout;
 
 // The two boats of a move: `from` gives shares, `to` takes them.
-#[derive(Drop)]
+#[derive(Clone, Copy)]
 pub struct Pair {
     pub from: usize,
     pub to: usize,
 }
 
 // A boat that a pass has found, and its score.
-#[derive(Drop)]
+#[derive(Clone, Copy)]
 pub struct Found {
     pub boat: usize,
     pub score: i64,

@@ -2,6 +2,8 @@
 // the moves are made on derived files; where the call is limited to a set, all of it on a book of the released boats alone.
 //
 // Helper for other crates, whose callers prove what it requires: worked.
+#![tactic(auto)]
+
 ghost use Rattle.std.specs.Prelude.{◌≡◌, true, ◌++◌, take, drop};
 ghost use Rattle.frank_wolfe.specs.Vectors.{sum};
 ghost use Rattle.files.specs.Book.{boats};
@@ -21,7 +23,7 @@ const MOST_MOVES: u32 = 1000;
 
 // A run worked over: the number that refuses it, 53 or 54, or 0; then the answer of the result, and its shares in the first slots, one a boat
 // of the book. Where it is refused the answer and the shares mean nothing.
-#[derive(Drop)]
+#[derive(Clone, Copy)]
 pub struct WorkedRun {
     pub refusal: u32,
     pub answer: Answer,

@@ -1,6 +1,8 @@
 // Paths of files as text. A path has at most 4,095 bytes: where one would be longer the text is empty, which names no file.
 //
 // Helpers for other crates that ask nothing of their caller: path_in, temporary_path.
+#![tactic(auto)]
+
 ghost use Rattle.std.specs.Prelude.{◌++◌};
 ghost use Rattle.text.specs.Texts.{Holds};
 ghost use Rattle.paths.specs.Paths.{bounded, path_in, temporary_path};

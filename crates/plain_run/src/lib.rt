@@ -1,6 +1,8 @@
 // The run of a fleet book and a sheet that counts every column once: its first step, and the memory that the others are lent.
 //
 // Helpers for other crates, whose callers prove what they require: clear, run.
+#![tactic(auto)]
+
 ghost use Rattle.std.specs.Prelude.{◌≡◌, ◌++◌, ◌≤◌, length, drop, replicate};
 ghost use Rattle.method.specs.Calls.{schedule_of, schedule_refusal};
 ghost use Rattle.method.specs.Plain.{plain_problem};

@@ -1,5 +1,7 @@
 // The work of mixqueue, in a folder that the caller names. What the system reads no contract can say; what is made of it is the listing of the
 // book and of the sheets that were read. test_queue holds what is printed to the reference.
+#![tactic(auto)]
+
 ghost use Rattle.std.specs.Prelude.{◌≡◌, ◌+◌, ◌≤◌, ◌<◌, length};
 ghost use Rattle.queue_folder.specs.Folder.{sheet_bytes, most_read, ReadBehind, SomeSheets, SomeQueue};
 
@@ -13,7 +15,7 @@ const SHEET_BYTES: usize = 40001;
 const MOST_READ: usize = 17;
 
 // Sheets that were read back to back into a buffer: their bytes, and the length of each.
-#[derive(Drop)]
+#[derive(Clone, Copy)]
 pub struct Sheets {
     pub len: usize,
     pub lengths: [u32; MOST_READ],

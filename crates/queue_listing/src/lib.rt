@@ -1,6 +1,8 @@
 // The lines of a queue of sheets on one allowance of steps.
 //
 // Entry, which asks nothing of its caller: queue_text.
+#![tactic(auto)]
+
 ghost use Rattle.std.specs.Prelude.{◌≡◌, suc, ◌+◌, ◌≤◌, ◌<◌, length, take};
 ghost use Rattle.text.specs.Texts.{text_limit, Holds, Adds};
 ghost use Rattle.queue_listing.specs.Lines.{named, verdict_words, sheet_line, sheet_lines, listing_refusal, listing_accepted, queue_listing, ListedRight};
@@ -101,7 +103,7 @@ fn plan_of(lengths: &[u32]) -> Plan
 
 // The listing of a queue, the number that refuses it, or 0, and how many of its sheets are accepted ahead of the one that refuses it: 0
 // where something ahead of the sheets does.
-#[derive(Drop)]
+#[derive(Clone, Copy)]
 pub struct Listed {
     pub refusal: u32,
     pub accepted: usize,

@@ -1,6 +1,8 @@
 // A queue of sheets run in rounds on one allowance of steps, on plain numbers and slices.
 //
 // Helpers for other crates: run_plan, which asks nothing of its caller; record_at, whose caller proves what it requires.
+#![tactic(auto)]
+
 ghost use Rattle.std.specs.Prelude.{◌≡◌, ◌-◌, ◌*◌, ◌+◌, ◌≤◌, ◌<◌, length, get_or, take, replicate, pos};
 ghost use Rattle.frank_wolfe.specs.Vectors.{sum};
 ghost use Rattle.files.specs.Book.{boats};
@@ -13,14 +15,14 @@ use iteration::State;
 use sheet_queue::SheetRecord;
 
 // The sheets of a queue: how many, and the lengths of the first 16.
-#[derive(Drop)]
+#[derive(Clone, Copy)]
 pub struct Plan {
     pub count: usize,
     pub lengths: [u32; 16],
 }
 
 // What refuses a queue: its number, or 0, and how many sheets are accepted ahead of the one that refuses it.
-#[derive(Drop)]
+#[derive(Clone, Copy)]
 pub struct Judged {
     pub refusal: u32,
     pub accepted: usize,
@@ -28,7 +30,7 @@ pub struct Judged {
 
 // What a queue leaves: the number that refuses it, or 0; how many records there are, none on a refusal; the records; and how many sheets are
 // accepted ahead of the one that refuses it.
-#[derive(Drop)]
+#[derive(Clone, Copy)]
 pub struct Outcome {
     pub refusal: u32,
     pub count: usize,
@@ -37,7 +39,7 @@ pub struct Outcome {
 }
 
 // For each sheet the steps that it took and whether it is finished, and what is left of the allowance.
-#[derive(Drop)]
+#[derive(Clone, Copy)]
 pub struct Rounds {
     pub used: [u32; 16],
     pub finished: [bool; 16],
@@ -45,7 +47,7 @@ pub struct Rounds {
 }
 
 // A queue between two turns: for each sheet its state and its record.
-#[derive(Drop)]
+#[derive(Clone, Copy)]
 pub struct Work {
     pub rounds: Rounds,
     pub states: [State; 16],

@@ -2,6 +2,8 @@
 // range, or both numbers of columns.
 //
 // The entry, which asks nothing of its caller: detail. Helper for other crates, whose callers prove what it requires: known_detail.
+#![tactic(auto)]
+
 ghost use Rattle.std.specs.Prelude.{◌≡◌, ◌+◌, ◌*◌, ◌≤◌, ◌<◌, length, drop};
 ghost use Rattle.files.specs.Limits.{file_limit};
 ghost use Rattle.files.specs.Bytes.{value, values};

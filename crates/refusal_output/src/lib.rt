@@ -1,5 +1,7 @@
 // What is known of a refusal of a fleet book, a sheet or a card, told on standard error. What the system writes no contract can say;
 // tests/run_programs.py holds it to the reference.
+#![tactic(auto)]
+
 ghost use Rattle.std.specs.Prelude.{◌≡◌, ◌≤◌};
 ghost use Rattle.files.specs.Sheet.{files_refusal};
 ghost use Rattle.card_format.specs.Checks.{check_refusal};

@@ -1,6 +1,8 @@
 // The fleet book of the boats that may be used, put into a buffer.
 //
 // Helper for other crates, whose callers prove what it requires: put_book.
+#![tactic(auto)]
+
 ghost use Rattle.std.specs.Prelude.{◌≡◌, cond, [], ◌+◌, ◌≤◌, length};
 ghost use Rattle.files.specs.Book.{rows, book_refusal};
 ghost use Rattle.buffers.specs.Placed.{placed};

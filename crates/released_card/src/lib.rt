@@ -2,6 +2,8 @@
 // of these boats (37 to 39).
 //
 // Helpers for other crates, whose callers prove what they require: rests, judged.
+#![tactic(auto)]
+
 ghost use Rattle.std.specs.Prelude.{◌≡◌, true, ◌||◌, ◌≤◌, eqb, length, take};
 ghost use Rattle.files.specs.Book.{boats};
 ghost use Rattle.files.specs.Sheet.{files_refusal};

@@ -2,6 +2,8 @@
 // searched, and the shares are put into the slots of these boats.
 //
 // Helper for other crates, whose callers prove what it requires: run.
+#![tactic(auto)]
+
 ghost use Rattle.std.specs.Prelude.{◌≡◌, true, ◌++◌, ◌≤◌, length, drop};
 ghost use Rattle.files.specs.Book.{boats};
 ghost use Rattle.method.specs.Problem.{call_problem};

@@ -1,6 +1,8 @@
 // The boats that a call may use: whether a boat may be, what refuses a set, and shares passed between the released boats and all boats of a book.
 //
 // Helpers for other crates, whose callers prove what they require: may_use, count, set_refusal, scatter, gather.
+#![tactic(auto)]
+
 ghost use Rattle.std.specs.Prelude.{◌≡◌, ◌++◌, ◌-◌, ◌≤◌, ◌<◌, length, get_or, take, drop, replicate, true, cond};
 ghost use Rattle.method.specs.ReleasedBoats.{only, usable, may_use, used_from, set_refusal, kept, scatter_from};
 

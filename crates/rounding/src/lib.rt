@@ -2,6 +2,8 @@
 //
 // Helpers for other crates, whose callers prove what they require: half_even of two unsigned numbers, rounded of a signed one
 // and an unsigned one.
+#![tactic(auto)]
+
 ghost use Rattle.std.specs.Prelude.{◌≡◌, ◌+◌, ◌^◌, ◌≤◌, ◌<◌, nat_abs};
 ghost use Rattle.rounding.specs.Rounding.{half_even, signed, rounded};
 

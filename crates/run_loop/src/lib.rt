@@ -1,6 +1,8 @@
 // The loop of a run: its steps, with the memory of products that they share.
 //
 // Helpers for other crates, whose callers prove what they require: add_shares, step, run_from.
+#![tactic(auto)]
+
 ghost use Rattle.std.specs.Prelude.{◌≡◌, ◌++◌, ◌+◌, ◌*◌, ◌≤◌, ◌<◌, length, get_or, set, drop};
 ghost use Rattle.method.specs.Problem.{allowed_steps};
 ghost use Rattle.method.specs.Calls.{schedule_of, schedule_refusal};

@@ -1,6 +1,8 @@
 // Scale cells from flat lists, one entry a cell in each, as programs in other languages hand them over.
 //
 // Helper for other crates, which asks nothing of its caller: cells_of.
+#![tactic(auto)]
+
 ghost use Rattle.std.specs.Prelude.{◌≡◌};
 ghost use Rattle.scale_cell_lists.specs.Lists.{cell_of, flat_cell, flat_cells};
 

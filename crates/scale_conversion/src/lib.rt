@@ -1,6 +1,8 @@
 // Scale cells turned into the values of a sheet. docs/cells.md has the rules.
 //
 // Entry, which asks nothing of its caller: sheet_values.
+#![tactic(auto)]
+
 ghost use Rattle.std.specs.Prelude.{◌≡◌, ◌≤◌, pos, take};
 ghost use Rattle.scale_cells.specs.Cells.{sheet_values};
 ghost use Rattle.scale_cells.specs.Promise.{ConversionRight};
@@ -9,7 +11,7 @@ ghost use Rattle.scale_conversion.specs.Outcomes.{net_cell, cell_outcome, outcom
 use scale_cells::{Cell, ScaleCell, SheetValues};
 
 // What one cell gives: the number that refuses it and 0, or 0 and its value.
-#[derive(Drop)]
+#[derive(Clone, Copy)]
 pub struct Outcome {
     pub refusal: u32,
     pub value: i16,

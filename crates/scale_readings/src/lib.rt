@@ -1,6 +1,8 @@
 // A reading of a scale, which is a double: whether it is within the limit, and its exact value in whole kilograms, from its bits.
 //
 // Helpers for other crates: is_within_limit asks nothing; of whole_kilograms the callers prove what it requires.
+#![tactic(auto)]
+
 ghost use Rattle.std.specs.Prelude.{◌≡◌, true, ◌^◌, ◌≤◌, ◌<◌, nat_abs};
 ghost use Rattle.rounding.specs.Rounding.{half_even};
 ghost use Rattle.scale_readings.specs.Readings.{within_limit, whole};

@@ -1,6 +1,8 @@
 // The sheet of scale cells: from the cells that a weigh hall hands over to the file that a search reads. docs/cells.md has the rules.
 //
 // Entry, which asks nothing of its caller: scale_sheet.
+#![tactic(auto)]
+
 ghost use Rattle.std.specs.Prelude.{◌≡◌};
 ghost use Rattle.scale_sheet.specs.Sheets.{scale_sheet, refused_sheet};
 ghost use Rattle.scale_sheet.specs.Promise.{SheetRight};
@@ -13,7 +15,7 @@ const MOST_STEPS: usize = files::MOST_STEPS as usize;
 // A sheet by value: its bytes are the first `len` of `bytes`, and 0 stands behind them. A refused call has its number in
 // `refusal`, no byte and 0 everywhere; an accepted one has 0 in `refusal`.
 #[repr(C)]
-#[derive(Drop)]
+#[derive(Clone, Copy)]
 pub struct ScaleSheet {
     pub refusal: u32,
     pub len: usize,

@@ -1,6 +1,8 @@
 // The shares of a run: 1, 2, 3, .., or the entries of a table that is lent. A table is read only where `lent` says so.
 //
 // Helpers for other crates, whose callers prove what they require: refusal, steps, share, total.
+#![tactic(auto)]
+
 ghost use Rattle.std.specs.Prelude.{◌≡◌, ◌&&◌, ◌*◌, ◌≤◌, ◌<◌, ltb, leb, length, take};
 ghost use Rattle.frank_wolfe.specs.Vectors.{sum};
 ghost use Rattle.method.specs.Problem.{share, weight, allowed_steps};

@@ -1,5 +1,7 @@
 // The scores of the boats, from the rows of a fleet book or moved from step to step, the boat of least score, and the boat that a step picks.
 // All functions are helpers for other crates, whose callers prove what they require.
+#![tactic(auto)]
+
 ghost use Rattle.std.specs.Prelude.{◌≡◌, ◌++◌, ◌≤◌, length, take, drop, pos, ◌+ℤ◌, ◌*ℤ◌};
 ghost use Rattle.files.specs.Book.{rows_from};
 ghost use Rattle.files.specs.Limits.{entry_limit};
@@ -9,7 +11,7 @@ ghost use Rattle.sums.specs.Operands.{Bounded, Padded, Grid, RowsBounded, ScoreS
 ghost use Rattle.scoring.specs.Scores.{least_of, pick_of, Pickable};
 
 // A boat of least score, and its score.
-#[derive(Drop)]
+#[derive(Clone, Copy)]
 pub struct Least {
     pub boat: usize,
     pub score: i64,

@@ -1,6 +1,8 @@
 // The mixture search.
 //
 // Entries, which ask nothing of their caller: search_with, search.
+#![tactic(auto)]
+
 ghost use Rattle.std.specs.Prelude.{◌≡◌, false, length};
 ghost use Rattle.method.specs.Problem.{plain_terms, call_problem, problem};
 ghost use Rattle.method.specs.Calls.{call_terms};

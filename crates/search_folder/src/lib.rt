@@ -1,6 +1,7 @@
 // The work of mixlist, in a folder that the caller names. What the system reads and writes no contract can say;
 // test_program holds what is printed to the reference.
 
+#![tactic(auto)]
 // Prints the listing of the search of fleet.wbk and sheet.wsh in a folder, which are read into these buffers.
 fn list_read(folder: &[u8], book: &mut [u8], sheet: &mut [u8]) {
     let n = file_io::read_in(folder, b"fleet.wbk", book);

@@ -1,6 +1,8 @@
 // The listing of the search of a fleet book and a sheet.
 //
 // Entry, which asks nothing of its caller: search_listing.
+#![tactic(auto)]
+
 ghost use Rattle.std.specs.Prelude.{◌≡◌};
 ghost use Rattle.files.specs.Sheet.{files_refusal};
 ghost use Rattle.text.specs.Texts.{Holds};

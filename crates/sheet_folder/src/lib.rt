@@ -1,5 +1,7 @@
 // The work of mixsheet, in a folder that the caller names. What the system reads and writes no contract can say; test_sheet holds what is
 // printed and filed to the reference.
+#![tactic(auto)]
+
 use csv_sheet::Made;
 
 // Says on standard error what is wrong with the CSVs. A fault of the fleet's has the line that mixbook has for it.

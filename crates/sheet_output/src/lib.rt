@@ -1,6 +1,8 @@
 // A sheet's bytes put into a buffer: its values from the first byte on, in the edition WSH2 its factors, then its trailer.
 //
 // Helpers for other crates, whose callers prove what they require: put_values, put_sheet_trailer, put_factored_trailer; bits_of asks nothing.
+#![tactic(auto)]
+
 ghost use Rattle.std.specs.Prelude.{◌≡◌, true, ◌+◌, ◌*◌, ◌≤◌, length, take};
 ghost use Rattle.files.specs.Bytes.{all_in_range};
 ghost use Rattle.files.specs.Sheet.{WSH1, WSH2};

@@ -1,6 +1,7 @@
 // A queue of sheets that share one allowance of steps: a record of the queue. The rounds, the records and the refusals are defined in
 // specs/, and what is promised of them in specs/Promise.antt. It has no function.
 
+#![tactic(auto)]
 // The most sheets of a queue.
 pub const MOST_SHEETS: usize = 16;
 
@@ -12,7 +13,7 @@ pub const MOST_STEPS: u32 = 5760;
 
 // What the queue says of one sheet. The caller gives its length; the rest is written.
 #[repr(C)]
-#[derive(Drop)]
+#[derive(Clone, Copy)]
 pub struct SheetRecord {
     // the steps that the sheet asks for
     pub asked: u32,

@@ -3,6 +3,8 @@
 // factor says are made in local memory, anew at each turn.
 //
 // Helpers for other crates, whose callers prove what they require: start, turn.
+#![tactic(auto)]
+
 ghost use Rattle.std.specs.Prelude.{◌≡◌, true, ◌++◌, ◌+◌, ◌<◌, length, drop};
 ghost use Rattle.files.specs.Book.{boats};
 ghost use Rattle.files.specs.Sheet.{WSH2, sheet_lettered, files_refusal};
@@ -128,7 +130,7 @@ fn stepped(state: State, book: &[u8], sheet: &[u8], shares: &mut [u16], scores: 
 }
 
 // What a turn leaves: the state after its step, and the sheet's record.
-#[derive(Drop)]
+#[derive(Clone, Copy)]
 pub struct Turned {
     pub state: State,
     pub record: SheetRecord,

@@ -1,5 +1,7 @@
 // Sums over the columns of a fleet book or a sheet, read by offset from the bytes: inner products, squares, the move of the residual.
 // All functions are helpers for other crates, whose callers prove what they require.
+#![tactic(auto)]
+
 ghost use Rattle.std.specs.Prelude.{◌≡◌, ◌++◌, ◌*◌, ◌≤◌, length, take, drop, pos, nat_abs, ◌+ℤ◌, ◌-ℤ◌, ◌*ℤ◌};
 ghost use Rattle.files.specs.Bytes.{values};
 ghost use Rattle.files.specs.Limits.{entry_limit};

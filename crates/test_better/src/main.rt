@@ -1,5 +1,7 @@
 // The better of two cards for pairs written by hand and drawn: near one another, equal, behind front text, damaged, with factors.
 // The file of cases is made by tests/pairs.py, the expected output by tests/expected/test_better.py.
+#![tactic(auto)]
+
 use test_buffers::{between, u16_at};
 
 // Prints what is left in the lent number and what is handed back, then the choice as numbers.

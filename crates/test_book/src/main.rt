@@ -1,5 +1,7 @@
 // Fleet books of CSVs written by hand and drawn, and mixbook in one folder after another. The cases and folders are made by
 // tests/make_data.py, the expected output by tests/expected/test_book.py.
+#![tactic(auto)]
+
 use test_buffers::{between, u16_at};
 
 // Prints what is made of a CSV: the line of its fault, or the lines of its book with length and sum, and how many bytes of the buffer

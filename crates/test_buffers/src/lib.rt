@@ -1,5 +1,7 @@
 // Helpers of the test programs: bytes, numbers and trailers put into a buffer, and parts of one.
 // Every function is safe on all arguments: what would fall outside a buffer is left out.
+#![tactic(auto)]
+
 ghost use Rattle.std.specs.Prelude.{◌≡◌, [], ◌∷◌, ◌*◌, ◌-◌, ◌%◌, ◌<◌, get_or};
 ghost use Rattle.files.specs.Bytes.{number, number_bytes};
 ghost use Rattle.test_buffers.specs.Buffers.{Puts, part, checksum, book_trailer, sheet_trailer};

@@ -1,5 +1,7 @@
 // Cards of drawn fleet books and sheets, written, checked, damaged and checked again.
 // The expected output is made by tests/expected/test_card.py.
+#![tactic(auto)]
+
 use test_samples::Part;
 
 // Checks a card with a list of 10 slots that hold 7, and prints the list.

@@ -1,5 +1,7 @@
 // Cards of the marked sheets: written and read back, in buffers of every fit, behind front text, and with each bit flipped.
 // The expected output is made by tests/expected/test_card_cases.py.
+#![tactic(auto)]
+
 mod flips;
 mod inputs;
 mod marked;

@@ -1,4 +1,6 @@
 // For the test programs: a card written, and what the writer gives back printed.
+#![tactic(auto)]
+
 ghost use Rattle.std.specs.Prelude.{◌≡◌, length};
 ghost use Rattle.card_format.specs.Filing.{written_size};
 ghost use Rattle.test_card_printing.specs.Written.{written_length, written_bytes};

@@ -1,5 +1,7 @@
 // Drawn fleet books and sheets, one of the two damaged, listed: most are refused.
 // The expected output is made by tests/expected/test_damage.py.
+#![tactic(auto)]
+
 use test_samples::Part;
 
 // Lists the files in parts of two buffers.

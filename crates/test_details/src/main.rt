@@ -1,5 +1,7 @@
 // What is known of the refusals of fleet books and sheets, written by hand and drawn. The cases are made by tests/make_data.py, the
 // expected output by tests/expected/test_details.py.
+#![tactic(auto)]
+
 ghost use Rattle.std.specs.Prelude.{◌<◌};
 
 use test_buffers::{between, u16_at};

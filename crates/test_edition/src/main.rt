@@ -1,6 +1,8 @@
 // Cards of both editions: those that were filed before WCD2, and drawn ones at the border of the sharper test.
 // data/ has books and sheets that tests/make_data.py makes, and their cards as the program filed them before WCD2. The expected
 // output is made by tests/expected/test_edition.py.
+#![tactic(auto)]
+
 use method::{Answer, Searched, Verdict};
 use test_buffers::between;
 

@@ -2,6 +2,8 @@
 // all three, the better of two chosen, a sheet searched and checked with drawn tables of shares and released sets, and a sheet damaged. Small
 // books, some of 64 columns, one of full size, some of 360 steps, and some of up to 40 boats. Before them, tables and sets written by hand.
 // The expected output is made by tests/expected/test_factor.py.
+#![tactic(auto)]
+
 mod lent;
 mod marked;
 

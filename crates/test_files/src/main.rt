@@ -1,6 +1,8 @@
 // Fleet books and sheets made from bytes in memory: each case is one line, its name and the number that refuses it, 0 where
 // it is accepted. Expected: tests/expected/test_files.py.
 // A file under test is the last bytes of an array of 40,001: its trailer stands at the end, and zeros before it.
+#![tactic(auto)]
+
 mod cases;
 
 use libc::STDOUT_FILENO;

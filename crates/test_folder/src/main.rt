@@ -1,6 +1,7 @@
 // Files of a folder read, replaced and read again: one that is missing, empty, as long as a file may be or longer, a folder in
 // the place of a file, and one that cannot be written. The expected output is made by tests/expected/test_folder.py.
 
+#![tactic(auto)]
 // Prints whether something was done.
 fn done(word: &[u8], yes: bool) {
     test_printing::line(word, if yes { 1 } else { 0 });

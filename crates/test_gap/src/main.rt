@@ -1,5 +1,7 @@
 // Drawn fleet books, followed for K steps without regard to verdicts: the step where the gap is least, against the bound that some
 // step up to K keeps to. The expected output is made by tests/expected/test_gap.py.
+#![tactic(auto)]
+
 ghost use Rattle.std.specs.Prelude.{◌≡◌, ◌+◌, ◌*◌, ◌<◌, max, drop};
 ghost use Rattle.files.specs.Book.{boats, columns, rows};
 ghost use Rattle.files.specs.Sheet.{files_refusal};
@@ -83,7 +85,7 @@ fn diameter(book: &[u8], sheet: &[u8], layout: Layout) -> u64
 
 // What was found of a book: the first step where the ratio is least, with its W, G and ratio in thousandths, and whether some step
 // and every step keeps to the bound.
-#[derive(Drop)]
+#[derive(Clone, Copy)]
 struct Found {
     step: u32,
     weight: u32,
@@ -177,7 +179,7 @@ fn follow(start: State, book: &[u8], sheet: &[u8], layout: Layout, diameter: u64
 }
 
 // Totals over the books: how many there are, have a step that keeps to the bound, have no other; and the greatest of their ratios.
-#[derive(Drop)]
+#[derive(Clone, Copy)]
 struct Totals {
     books: u64,
     some: u64,

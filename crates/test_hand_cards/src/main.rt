@@ -1,5 +1,7 @@
 // Cards made by hand for fleet P: true ones that no search writes, and ones that are nearly true.
 // The expected output is made by tests/expected/test_hand_cards.py.
+#![tactic(auto)]
+
 use test_buffers::between;
 
 // Puts fleet P: the boats (0,0), (4,0) and (0,4), then the trailer.

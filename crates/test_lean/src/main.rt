@@ -1,9 +1,11 @@
 // Reports of the boats that cards rest on, for sets of cards written by hand and drawn, and leanlist in one folder after another. The cases and
 // folders are made by tests/leanings.py, the expected output by tests/expected/test_lean.py.
+#![tactic(auto)]
+
 use test_buffers::{between, u16_at};
 
 // Where the next pair of a file of cases starts, and what refused so far.
-#[derive(Drop)]
+#[derive(Clone, Copy)]
 struct Walk {
     at: usize,
     refusal: u32,

@@ -1,5 +1,7 @@
 // One fleet book from two, for pairs written by hand and drawn, and mixmerge in one folder after another. The cases and folders are made
 // by tests/merges.py, the expected output by tests/expected/test_merge.py.
+#![tactic(auto)]
+
 use merged_book::Merged;
 use test_buffers::{between, u16_at};
 

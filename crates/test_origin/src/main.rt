@@ -1,5 +1,7 @@
 // Books and sheets beside the CSVs that they were made from, or beside others, by hand and drawn. The cases are made by tests/make_data.py, the
 // expected output by tests/expected/test_origin.py.
+#![tactic(auto)]
+
 use test_buffers::{between, u16_at};
 
 // Where the part at `at` ends, which has three bytes of length in front.

@@ -1,4 +1,6 @@
 // Helpers of the test programs: answers and numbers printed.
+#![tactic(auto)]
+
 use libc::STDOUT_FILENO;
 use method::{Answer, Searched, Verdict};
 

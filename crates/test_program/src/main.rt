@@ -1,6 +1,7 @@
 // The work of the four programs in one folder after another: what each prints, and the cards that are left. The files of data/
 // are made by tests/make_data.py, the expected output by tests/expected/test_program.py.
 
+#![tactic(auto)]
 // Prints how many bytes a card of a folder has, at most 40,001, and a sum over them.
 fn card_left(folder: &[u8], name: &[u8]) {
     let mut filed = [0u8; 40001];

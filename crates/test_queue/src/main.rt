@@ -1,5 +1,7 @@
 // Queues of sheets on one allowance, for queues written by hand and drawn, through run_plan, on which dofitrano_run_queue stands; then mixqueue in one
 // folder after another. The cases are made by tests/queues.py, the expected output by tests/expected/test_queue.py.
+#![tactic(auto)]
+
 ghost use Rattle.std.specs.Prelude.{◌<◌};
 
 use queue_rounds::{Outcome, Plan};

@@ -1,6 +1,8 @@
 // Drawn fleet books and sheets, small ones and two of full size, one of these with the most steps, and books with mirrored rows,
 // searched and listed.
 // The expected output is made by tests/expected/test_random.py.
+#![tactic(auto)]
+
 mod mirrored;
 
 use iteration::State;

@@ -1,5 +1,7 @@
 // Sheets converted into their other edition and back, by hand and drawn, with the searches of both, and mixedition in one folder after
 // another. The cases and folders are made by tests/make_data.py, the expected output by tests/expected/test_rewriting.py.
+#![tactic(auto)]
+
 use editions::Rewritten;
 use test_buffers::{between, u16_at};
 

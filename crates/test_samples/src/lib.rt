@@ -1,6 +1,8 @@
 // Drawn files of the test programs: a generator of numbers, and fleet books and sheets built from it in a buffer.
 // Every function is safe on all arguments: what would fall outside a buffer is left out.
 // tests/generator.py does the same in Python, draw for draw.
+#![tactic(auto)]
+
 ghost use Rattle.std.specs.Prelude.{◌≡◌, length};
 ghost use Rattle.test_buffers.specs.Buffers.{Puts};
 ghost use Rattle.test_samples.specs.Draws.{advance, advances, drawn, any_bytes};
@@ -139,7 +141,7 @@ pub fn put_middle(
 }
 
 // The sizes of a drawn case: values go from -`scale` to `scale`, and `front` bytes stand before each body.
-#[derive(Drop)]
+#[derive(Clone, Copy)]
 pub struct Plan {
     pub boats: u64,
     pub columns: u64,
@@ -171,7 +173,7 @@ pub fn draw_plan(seed: &mut u64) -> Plan
 }
 
 // Where a book's rows start, and where the book ends.
-#[derive(Drop)]
+#[derive(Clone, Copy)]
 pub struct Placed {
     pub rows: usize,
     pub end: usize,
@@ -251,7 +253,7 @@ const SPECIAL: [u64; 12] = [0, 1, 2, 3, 5, 8, 10, 64, 65, 256, 360, 361];
 const LIMITS: [u64; 4] = [2000, 2001, 63536, 63535];
 
 // A part of a buffer.
-#[derive(Drop)]
+#[derive(Clone, Copy)]
 pub struct Part {
     pub start: usize,
     pub end: usize,

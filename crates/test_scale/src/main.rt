@@ -1,4 +1,6 @@
 // Drawn scale cells turned into sheet values and into sheets. The expected output is made by tests/expected/test_scale.py.
+#![tactic(auto)]
+
 mod draws;
 
 use libc::STDOUT_FILENO;

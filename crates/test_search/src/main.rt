@@ -1,5 +1,7 @@
 // The marked sheets, without factors and with them, and the limits of the files, through the search itself: the answer or the refusal, and the share list.
 // The files of data/ are made by tests/make_data.py, the expected output by tests/expected/test_search.py.
+#![tactic(auto)]
+
 ghost use Rattle.std.specs.Prelude.{◌≡◌, ◌<◌};
 ghost use Rattle.test_buffers.specs.Buffers.{checksum};
 

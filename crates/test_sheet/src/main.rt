@@ -1,5 +1,7 @@
 // Sheets of CSVs written by hand and drawn, mixsheet in one folder after another, and the way from spreadsheets to a card. The cases and folders are made by
 // tests/make_data.py, the expected output by tests/expected/test_sheet.py.
+#![tactic(auto)]
+
 use test_buffers::{between, u16_at};
 
 // Prints what is made of a fleet's CSV and a sheet's: the line of its fault, or the lines of the sheet, then its length and a sum over

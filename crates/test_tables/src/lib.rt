@@ -1,5 +1,7 @@
 // Tables of cases for the test programs. A table is text: each line is a case, its name up to a colon, then its fields,
 // each a word of a capital letter and what the field has.
+#![tactic(auto)]
+
 ghost use Rattle.std.specs.Prelude.{◌≡◌, ◌+◌, ◌≤◌, ◌<◌, min, length, drop};
 ghost use Rattle.test_buffers.specs.Buffers.{Puts};
 ghost use Rattle.test_tables.specs.Tables.{before, until, word, digits_after, field, fields};

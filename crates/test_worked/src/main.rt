@@ -1,5 +1,7 @@
 // Searches worked over by moves, for calls written by hand and drawn. The cases are made by tests/workings.py, the expected output by
 // tests/expected/test_worked.py.
+#![tactic(auto)]
+
 use method::{Released, Searched};
 use test_buffers::{between, byte_at, u16_at};
 

@@ -1,6 +1,8 @@
 // Text under construction, given back by value with its length: bytes, decimal figures, and lines of a word and numbers.
 //
 // Helpers for other crates, whose callers prove that there is room: Text::empty, with_bytes, with_number, with_line, with_pair.
+#![tactic(auto)]
+
 ghost use Rattle.std.specs.Prelude.{[], ◌+◌, ◌≤◌, length};
 ghost use Rattle.text.specs.Decimal.{decimal};
 ghost use Rattle.text.specs.Lines.{number_line, pair_line};
@@ -12,7 +14,7 @@ mod pairs;
 pub const MOST_BYTES: usize = 4096;
 
 // Decimal figures at the end of a buffer, from `at`.
-#[derive(Drop)]
+#[derive(Clone, Copy)]
 pub struct Figures {
     pub bytes: [u8; 20],
     pub at: usize,
@@ -45,7 +47,7 @@ fn figures_of(n: u64) -> Figures
 }
 
 // Text: the first `len` bytes, of which 4,096 hold the longest listing. A text that begins empty has 0 in every byte after them.
-#[derive(Drop)]
+#[derive(Clone, Copy)]
 pub struct Text {
     pub bytes: [u8; MOST_BYTES],
     pub len: usize,

@@ -1,6 +1,8 @@
 // The totals of the shares 1, 2, .., t, for each t up to the most steps, 360.
 //
 // Helper for other crates, whose callers prove what it requires: total_after.
+#![tactic(auto)]
+
 ghost use Rattle.std.specs.Prelude.{◌≡◌, ◌≤◌};
 ghost use Rattle.method.specs.Problem.{fixed, weight};
 

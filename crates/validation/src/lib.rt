@@ -1,6 +1,8 @@
 // The number that refuses a fleet book or a sheet, or 0. docs/formats.md has the numbers.
 //
 // Helpers for other crates that ask nothing of their caller: book_refusal, sheet_refusal_in, sheet_refusal, files_refusal.
+#![tactic(auto)]
+
 ghost use Rattle.std.specs.Prelude.{◌≡◌, ◌||◌, ◌≤◌, length};
 ghost use Rattle.files.specs.Book.{book_refusal};
 ghost use Rattle.files.specs.Sheet.{WSH1, WSH2, sheet_lettered, sheet_refusal_in, sheet_refusal, files_refusal};

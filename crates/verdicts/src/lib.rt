@@ -1,6 +1,8 @@
 // How a verdict is found, whether it ends a run, and its number on a card.
 //
 // Helpers for other crates. judge has a requirement, which its callers prove; stops and verdict_number ask nothing.
+#![tactic(auto)]
+
 ghost use Rattle.std.specs.Prelude.{◌≡◌, ◌<◌};
 ghost use Rattle.method.specs.declared.Test.TheVariants.{Sharper};
 ghost use Rattle.method.specs.Answers.{is_beyond, verdict, verdict_number, stops};

@@ -1,11 +1,13 @@
 // Products of 128 bits: the whole product of two u64, and the order of two such products.
 //
 // Helpers for other crates, which ask nothing. No operation overflows or wraps: every sum and product on the way fits a u64.
+#![tactic(auto)]
+
 ghost use Rattle.std.specs.Prelude.{◌≡◌, ◌*◌, ltb};
 ghost use Rattle.wide_products.specs.Value.{value};
 
 // A number of 128 bits, hi × 2^64 + lo.
-#[derive(Drop)]
+#[derive(Clone, Copy)]
 pub struct Wide {
     pub hi: u64,
     pub lo: u64,

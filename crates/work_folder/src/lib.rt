@@ -1,6 +1,7 @@
 // The work of mixwork, in a folder that the caller names. What the system reads and writes no contract can say; test_worked holds what is
 // printed and filed to the reference.
 
+#![tactic(auto)]
 // Files the card of a search that was worked over, which has no bytes where the call is refused; what is in the way goes to standard error.
 // Whether there is a listing to print.
 fn file(path: &[u8], output: &[u8; card_listing::MOST_CARD], len: usize) -> bool {

@@ -1,6 +1,8 @@
 // The card of a Spent run that is worked over.
 //
 // Entry, which asks nothing of its caller: work_over.
+#![tactic(auto)]
+
 ghost use Rattle.std.specs.Prelude.{◌≡◌, length};
 ghost use Rattle.method.specs.Problem.{call_problem};
 ghost use Rattle.method.specs.Answers.{slots_after};

@@ -1,6 +1,8 @@
 // The listing of a Spent search that is worked over, and its card.
 //
 // Entry, which asks nothing of its caller: worked_text.
+#![tactic(auto)]
+
 ghost use Rattle.std.specs.Prelude.{◌≡◌, ◌≤◌, length};
 ghost use Rattle.method.specs.Problem.{plain_terms};
 ghost use Rattle.method.specs.Answers.{slots_after};

@@ -1,6 +1,8 @@
 // The card writer.
 //
 // Entries, which ask nothing of their caller: write_card_with, write_card.
+#![tactic(auto)]
+
 ghost use Rattle.std.specs.Prelude.{◌≡◌, false, length};
 ghost use Rattle.method.specs.Problem.{plain_terms, call_problem, problem};
 ghost use Rattle.method.specs.Calls.{call_terms};
