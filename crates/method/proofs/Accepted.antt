@@ -23,6 +23,7 @@ use Rattle.method.proofs.ReleasedBoats.{some_released, length_gather, well_forme
 
 -- what holds of each row by its index holds of the rows
 among_by : (P : List ℤ → Type 0) (vs : List (List ℤ)) → ((i : ℕ) → i < length vs → P (get_or vs i [])) → {v : List ℤ} → Among vs v → P v
+among_by P [] f {v = v} x = elim x [ ]
 among_by P (v ∷ vs) f here = f 0 (omega arith)
 among_by P (u ∷ vs) f (there a) = among_by P vs (λ i h. f (suc i) (omega arith)) a
 

@@ -1,0 +1,13 @@
+-- `buffers::put_bytes` meets its contract: the bytes that are left are still to be put.
+use borrow.Author.Rules.{rules}
+use native.Mathlib.Omega.{arith}
+use Prim.Native.Nat.{◌-◌}
+use lib.ListN.{length}
+use Rattle.buffers.proofs.Writing.{Copying}
+use Rattle.buffers.proofs.put_bytes.Given as goal
+
+abbrev pub invariant-loop-i : goal.invariant-loop-i
+invariant-loop-i l = Copying l.initial.output l.at l.bytes l.i l.output
+
+abbrev pub decreases-loop-i : goal.decreases-loop-i
+decreases-loop-i l = length l.bytes - l.i

@@ -1,0 +1,6 @@
+-- `csv_bytes::is_negative` meets its contract.
+use borrow.Author.Rules.{rules}
+use Rattle.csv_bytes.proofs.is_negative.Goals as goal
+
+pub returns : goal.returns
+returns c = simp c.if-negative.false
