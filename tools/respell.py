@@ -14,7 +14,7 @@ import sys
 CRATES = {'csv': 'csv_bytes'}
 # a name that is no word of snake or camel case, and what it becomes
 SPECIAL = {'leQ': 'le_q', 'ltQ': 'lt_q', 'fleet-P': 'fleet_p', 'getD-shown': 'get_or_shown', 'goodO-of': 'good_o_of'}
-DECLARED = re.compile(r'^\s*((?:abbrev|unfoldable|unfold|opaque|private|instance|pub|infix\w* \d+)\s+)*(record|data)?\s*([^\s(){}:]+)\s*(?:[({].*)?:(?!=)')
+DECLARED = re.compile(r'^\s*((?:abbrev|unfoldable|unfold|opaque|private|instance|pub|infix\w* \d+)\s+)*((?:record|data)\s+)?([^\s(){}:]+)\s*(?:[({].*)?:(?!=)')
 TOKEN = re.compile(r"[A-Za-z_Α-Ωα-ωκ0-9'ℕℤℚ₀-₉]+(?:-[A-Za-z_Α-Ωα-ωκ0-9'ℕℤℚ₀-₉]+)*")
 IMPORT = re.compile(r'^\s*(?:pub )?(?:ghost )?use ([^\s;{]+?)(?:\.\{([^}]*)\})?(?: as (\S+?))?;?\s*$')
 

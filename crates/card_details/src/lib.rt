@@ -5,6 +5,7 @@
 // known_card_detail.
 #![tactic(auto)]
 
+ghost use Rattle.files.specs.declared.TheConstants.{MOST_STEPS};
 ghost use Rattle.std.specs.Prelude.{◌≡◌, ◌+◌, ◌*◌, ◌≤◌, ◌<◌, length, take};
 ghost use Rattle.frank_wolfe.specs.Vectors.{sum};
 ghost use Rattle.files.specs.Book.{boats};
@@ -224,7 +225,7 @@ fn entries_line(name: &[u8], card: &[u8], start: usize, count: usize, boats: usi
 // The line of a card with too many boats for its steps or another total of shares, which are given, one a boat.
 fn total_line(name: &[u8], book: &[u8], card: &[u8], shares: [u16; 256]) -> Text
     requires in_bounds { (12 ≤ length book.now) × (boats book.now ≤ 256) }
-    requires* fact { do ⌜ (36 ≤ length card.now) × ((card_fields card.now).steps ≤ (← ⟦files::MOST_STEPS⟧)) ⌝ }
+    requires fact { (36 ≤ length card.now) × ((card_fields card.now).steps ≤ MOST_STEPS) }
     requires shares_value { take (boats book.now) shares ≡ card_shares (boats book.now) card.now }
     ensures { Holds (total_line name.now book.now card.now) result }
 {

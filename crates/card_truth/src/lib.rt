@@ -22,7 +22,7 @@ use method::{Answer, Searched};
 // Whether a card's boats that hold shares are no more than its steps used, and the shares total what so many steps give.
 fn shares_total(lent: bool, table: &[u16], card: &[u8], shares: [u16; 256], boats: usize) -> bool
     requires in_bounds { (36 ≤ length card.now) × (boats ≤ 256) }
-    requires* card_bound { do ⌜ (card_fields card.now).steps ≤ allowed_steps (schedule_of lent table.now) (← ⟦State::MOST_STEPS⟧) ⌝ }
+    requires card_bound { (card_fields card.now).steps ≤ allowed_steps (schedule_of lent table.now) State.MOST_STEPS }
     ensures { result ≡ shares_total (schedule_of lent table.now) (pair_count card.now) (take boats shares) (card_fields card.now).steps }
 {
     let t = card_input::steps_used(card);

@@ -10,7 +10,7 @@ use lib.Dec.{ltb}
 use lib.ListN.{length, get_or, set, take, drop, replicate, length-set, length-take, length-replicate, get_or-map}
 use lib.Seq.{get_or-set_same, get_or-set_other, get_or-take, length-take-le, ext_get_or}
 use Rattle.sheet_queue.specs.declared.SheetRecord.{SheetRecord}
-use Rattle.sheet_queue.specs.Queue.{blank, lengths, sheets_of, problems, queue_steps, refusal_of, queue_refusal, records-of, shares_of, filled, records-after, queue_slots_after}
+use Rattle.sheet_queue.specs.Queue.{blank, lengths, sheets_of, problems, queue_steps, refusal_of, queue_refusal, records_of, shares_of, filled, records_after, queue_slots_after}
 use Rattle.sheet_queue.specs.Promise.{QueueRight}
 use Rattle.sheet_queue.proofs.Rounds.{below_or_not}
 use Rattle.sheet_queue.proofs.Records.{lengths_count}
@@ -101,16 +101,16 @@ module _ {b bs : List ℕ} {a : ℕ} (ys : List SheetRecord) {slots slots' : Lis
     unfolding count_after
     count_all = R.count_is ∙ ap (λ (n : ℕ). count_after n p) z
 
-    records-all : take (length ys) r.records ≡ plan_records 0 b p bs a
-    records-all = ap (λ (n : ℕ). take n r.records) (sym count_all) ∙ R.records-are ∙ ap (λ (n : ℕ). plan_records n b p bs a) z
+    records_all : take (length ys) r.records ≡ plan_records 0 b p bs a
+    records_all = ap (λ (n : ℕ). take n r.records) (sym count_all) ∙ R.records_are ∙ ap (λ (n : ℕ). plan_records n b p bs a) z
 
-    records-done : stored ys r r.count ≡ records-after 0 b bs a ys
-    unfolding plan_records records-after
-    records-done =
+    records_done : stored ys r r.count ≡ records_after 0 b bs a ys
+    unfolding plan_records records_after
+    records_done =
         ap (stored ys r) count_all
-        ∙ stored_all ys r (omega (arith, few, R.records-long))
-        ∙ records-all
-        ∙ ap (λ (ns : List ℕ). records-of ns (problems b (sheets_of ns bs)) (queue_steps a (problems b (sheets_of ns bs)))) (few_lengths few)
+        ∙ stored_all ys r (omega (arith, few, R.records_long))
+        ∙ records_all
+        ∙ ap (λ (ns : List ℕ). records_of ns (problems b (sheets_of ns bs)) (queue_steps a (problems b (sheets_of ns bs)))) (few_lengths few)
 
     slots_done : slots' ≡ queue_slots_after 0 b bs a ys slots
     unfolding plan_slots queue_slots_after
@@ -118,10 +118,10 @@ module _ {b bs : List ℕ} {a : ℕ} (ys : List SheetRecord) {slots slots' : Lis
         R.slots_are ∙ ap (λ (n : ℕ). plan_slots n b p bs a slots) z
         ∙ ap (λ (ns : List ℕ). filled (shares_of (problems b (sheets_of ns bs)) (queue_steps a (problems b (sheets_of ns bs)))) slots) (few_lengths few)
 
-  records-by : (n : ℕ) → r.refusal ≡ n → stored ys r r.count ≡ records-after n b bs a ys
-  unfolding records-after stored count_after
-  records-by zero e = records-done e
-  records-by (suc n) e = let c : r.count ≡ 0 = R.count_is ∙ ap (λ (m : ℕ). count_after m p) e in ap (stored ys r) c
+  records_by : (n : ℕ) → r.refusal ≡ n → stored ys r r.count ≡ records_after n b bs a ys
+  unfolding records_after stored count_after
+  records_by zero e = records_done e
+  records_by (suc n) e = let c : r.count ≡ 0 = R.count_is ∙ ap (λ (m : ℕ). count_after m p) e in ap (stored ys r) c
 
   slots_by : (n : ℕ) → r.refusal ≡ n → slots' ≡ queue_slots_after n b bs a ys slots
   unfolding queue_slots_after plan_slots
@@ -129,8 +129,8 @@ module _ {b bs : List ℕ} {a : ℕ} (ys : List SheetRecord) {slots slots' : Lis
   slots_by (suc n) e = R.slots_are ∙ ap (λ (m : ℕ). plan_slots m b p bs a slots) e
 
   pub queue_done : {zs : List SheetRecord} → zs ≡ stored ys r r.count →
-      (r.refusal ≡ queue_refusal b (lengths ys) bs a (length slots)) × (zs ≡ records-after r.refusal b bs a ys) × (slots' ≡ queue_slots_after r.refusal b bs a ys slots) × QueueRight b bs a ys slots r.refusal zs slots'
+      (r.refusal ≡ queue_refusal b (lengths ys) bs a (length slots)) × (zs ≡ records_after r.refusal b bs a ys) × (slots' ≡ queue_slots_after r.refusal b bs a ys slots) × QueueRight b bs a ys slots r.refusal zs slots'
   queue_done {zs} e =
-      let f : zs ≡ records-after r.refusal b bs a ys = e ∙ records-by r.refusal refl in
+      let f : zs ≡ records_after r.refusal b bs a ys = e ∙ records_by r.refusal refl in
       let g : slots' ≡ queue_slots_after r.refusal b bs a ys slots = slots_by r.refusal refl in
       (number, f, g, queue_right b bs a ys slots r.refusal zs slots' number f g)

@@ -6,7 +6,7 @@
 #![tactic(auto)]
 
 ghost use Rattle.std.specs.Prelude.{◌≡◌, ◌≤◌, ◌<◌, length};
-ghost use Rattle.sheet_queue.specs.Queue.{lengths, queue_refusal, records-after, queue_slots_after};
+ghost use Rattle.sheet_queue.specs.Queue.{lengths, queue_refusal, records_after, queue_slots_after};
 ghost use Rattle.sheet_queue.specs.Promise.{QueueRight};
 ghost use Rattle.queue_rounds.specs.Work.{Ran};
 ghost use Rattle.exported_queue.specs.Lists.{no_lengths, with_length, lengths_to, plan_of, stored};
@@ -93,7 +93,7 @@ pub extern "C" fn dofitrano_run_queue(
     allowance: u32,
     shares: &mut [u16],
 ) -> u32
-    ensures { (result ≡ queue_refusal book.now (lengths queue.old) sheets.now allowance (length shares.old)) × (queue.new ≡ records-after result book.now sheets.now allowance queue.old) × (shares.new ≡ queue_slots_after result book.now sheets.now allowance queue.old shares.old) × QueueRight book.now sheets.now allowance queue.old shares.old result queue.new shares.new }
+    ensures { (result ≡ queue_refusal book.now (lengths queue.old) sheets.now allowance (length shares.old)) × (queue.new ≡ records_after result book.now sheets.now allowance queue.old) × (shares.new ≡ queue_slots_after result book.now sheets.now allowance queue.old shares.old) × QueueRight book.now sheets.now allowance queue.old shares.old result queue.new shares.new }
 {
     let lengths = lengths_of(queue);
     let count = queue.len();

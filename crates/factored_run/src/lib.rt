@@ -60,7 +60,7 @@ fn plain_answer(
 ) -> Answer
     requires sheet_value { files_refusal book.now sheet.now ≡ 0 }
     requires table_value { schedule_refusal (schedule_of lent table.now) ≡ 0 }
-    requires* fact { do ⌜ (1 ≤ t) × (t ≤ allowed_steps (schedule_of lent table.now) (← ⟦State::MOST_STEPS⟧)) ⌝ }
+    requires fact { (1 ≤ t) × (t ≤ allowed_steps (schedule_of lent table.now) State.MOST_STEPS) }
     requires shares_value { sum (take (boats book.now) shares) ≡ weight (schedule_of lent table.now) t }
     ensures { result ≡ answer_of test (plain_problem (schedule_of lent table.now) book.now sheet.now) (take (boats book.now) shares) t }
 {
@@ -81,7 +81,7 @@ fn derived_answer(
     requires sheet_value { files_refusal book.now sheet.now ≡ 0 }
     requires table_value { schedule_refusal (schedule_of lent table.now) ≡ 0 }
     requires sheet_value_2 { sheet_lettered WSH2 sheet.now ≡ true }
-    requires* fact { do ⌜ (1 ≤ t) × (t ≤ allowed_steps (schedule_of lent table.now) (← ⟦State::MOST_STEPS⟧)) ⌝ }
+    requires fact { (1 ≤ t) × (t ≤ allowed_steps (schedule_of lent table.now) State.MOST_STEPS) }
     requires shares_value { sum (take (boats book.now) shares) ≡ weight (schedule_of lent table.now) t }
     ensures { result ≡ answer_of test (call_problem (terms lent table.now) book.now sheet.now) (take (boats book.now) shares) t }
 {
@@ -113,7 +113,7 @@ pub fn answer_of(
 ) -> Answer
     requires sheet_value { files_refusal book.now sheet.now ≡ 0 }
     requires table_value { schedule_refusal (schedule_of lent table.now) ≡ 0 }
-    requires* fact { do ⌜ (1 ≤ t) × (t ≤ allowed_steps (schedule_of lent table.now) (← ⟦State::MOST_STEPS⟧)) ⌝ }
+    requires fact { (1 ≤ t) × (t ≤ allowed_steps (schedule_of lent table.now) State.MOST_STEPS) }
     requires shares_value { sum (take (boats book.now) shares) ≡ weight (schedule_of lent table.now) t }
     ensures { result ≡ answer_of test (call_problem (terms lent table.now) book.now sheet.now) (take (boats book.now) shares) t }
 {

@@ -1,10 +1,10 @@
 -- The range test of a value as the code computes it, and the scan that tests values one by one.
 use mathlib.Core.Path.{◌≡◌, refl, sym, ◌∙◌}
-use mathlib.Core.Bool.{Bool, true, false, ◌&&◌, not, cond}
+use mathlib.Core.Bool.{Bool, true, false, ◌&&◌, cond}
 use mathlib.Core.List.{List}
 use Prim.Native.Nat.{ℕ, suc, ◌+◌, ◌*◌, ◌-◌, ◌%◌, ◌≤◌, ◌<◌}
 use native.Mathlib.Omega.{arith}
-use borrow.Author.Tests.{lt-ltb, le-ltb, le-leb, lt-leb, ltb-true, ltb-false, leb-true, leb-false, not-true, not-false}
+use borrow.Author.Tests.{lt-ltb, le-ltb, le-leb, lt-leb, ltb-true, ltb-false, leb-true, leb-false}
 use lib.Dec.{ltb, leb}
 use lib.IntN.{pos, negsuc}
 use lib.ListN.{drop}
@@ -55,14 +55,14 @@ module _ {bs : List ℕ} {at count : ℕ} where
         s.decides ∙ rw (e, p, values_suc)
 
     module _ {v : ℕ} {g : Bool} (h : i < count) (ev : v ≡ number (at + 2 * i) 2 bs) (eg : g ≡ in_range (value v)) where
-      pub scanned_in : not g ≡ false → Scanned bs at count good (i + 1)
+      pub scanned_in : g ≡ true → Scanned bs at count good (i + 1)
       scanned_in t =
-          let e : in_range (value v) ≡ true = sym eg ∙ not-false g t in
+          let e : in_range (value v) ≡ true = sym eg ∙ t in
           record { within = omega arith; decides = next h ∙ simp (← ev, e) }
 
-      pub scanned_out : not g ≡ true → Scanned bs at count false (i + 1)
+      pub scanned_out : g ≡ false → Scanned bs at count false (i + 1)
       scanned_out t =
-          let e : in_range (value v) ≡ false = sym eg ∙ not-true g t in
+          let e : in_range (value v) ≡ false = sym eg ∙ t in
           record { within = omega arith; decides = next h ∙ (simp (← ev, e) (and_false good)) }
 
     pub scanned_end : count ≤ i → good ≡ all_in_range (values count (drop at bs))

@@ -77,7 +77,7 @@ pub fn least_product_of(boat: usize, book: &[u8], sheet: &[u8], layout: Layout) 
 
 // E of the residual r + k d, where d is a row v less the target u, from E of r: E + 2 k (<r, v> - <r, u>) + k² (<d, v> - <d, u>).
 fn distance_after(e: u64, k: u32, score: i64, target_score: i64, own: i32, target: i32) -> u64
-    requires* k_bound { do ⌜ k ≤ (← ⟦State::MOST_STEPS⟧) ⌝ }
+    requires k_bound { k ≤ State.MOST_STEPS }
     requires moves { Moves e k score target_score own target }
     ensures { pos result ≡ moved_distance e k score target_score own target }
 {
@@ -123,7 +123,7 @@ impl State {
     // A step of k shares: the boat picked gets k more, and the residual moves by k d, where d is its row less the target. `score` is its score
     // under r before the step, `own` the product of d with its row, `target` that with the target; `pick` is the boat that the step after it picks.
     pub fn next(self, k: u32, score: i64, own: i32, target: i32, pick: Least) -> State
-        requires* fact { do ⌜ (self.steps < (← ⟦State::MOST_STEPS⟧)) × (k ≤ (← ⟦State::MOST_STEPS⟧)) ⌝ }
+        requires fact { (self.steps < State.MOST_STEPS) × (k ≤ State.MOST_STEPS) }
         requires steppable { Steppable self k score own target }
         ensures { result ≡ next_state self k score own target pick }
     {

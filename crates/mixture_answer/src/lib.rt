@@ -55,7 +55,7 @@ pub fn answer_of(
     requires sheet_value { files_refusal book.now sheet.now ≡ 0 }
     requires table_value { schedule_refusal (schedule_of lent table.now) ≡ 0 }
     requires layout_value { layout ≡ file_layout book.now sheet.now }
-    requires* fact { do ⌜ (1 ≤ t) × (t ≤ allowed_steps (schedule_of lent table.now) (← ⟦State::MOST_STEPS⟧)) ⌝ }
+    requires fact { (1 ≤ t) × (t ≤ allowed_steps (schedule_of lent table.now) State.MOST_STEPS) }
     requires shares_value { sum (take (boats book.now) shares) ≡ weight (schedule_of lent table.now) t }
     ensures { result ≡ answer_of test (plain_problem (schedule_of lent table.now) book.now sheet.now) (take (boats book.now) shares) t }
 {

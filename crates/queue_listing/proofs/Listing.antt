@@ -11,7 +11,7 @@ use Rattle.text.specs.declared.Text.{Text}
 use Rattle.text.specs.Texts.{Holds}
 use Rattle.listing.specs.Lines.{refused_line}
 use Rattle.sheet_queue.specs.declared.SheetRecord.{SheetRecord}
-use Rattle.sheet_queue.specs.Queue.{lengths, sheets_of, problems, queue_steps, refusal_of, accepted_of, records-of, records-after, queue_slots_after}
+use Rattle.sheet_queue.specs.Queue.{lengths, sheets_of, problems, queue_steps, refusal_of, accepted_of, records_of, records_after, queue_slots_after}
 use Rattle.sheet_queue.proofs.Rounds.{below_or_not}
 use Rattle.sheet_queue.proofs.Refusals.{passes, too_many, too_many_accepted}
 use Rattle.sheet_queue.proofs.Promise.{queue_right}
@@ -73,7 +73,7 @@ module _ {b ns bs : List ℕ} {a : ℕ} {p : Plan} {r : Outcome} {slots' : List 
       R.accepted_is ∙ ap (λ (n : ℕ). accepted_of n b (plan_lengths p) bs a) P.count_is
       ∙ ⊎_elim (λ (h : 16 < length ns). too_many_accepted (length ns) b (plan_lengths p) ns bs a h) (λ (h : length ns ≤ 16). ap (λ (ms : List ℕ). accepted_of (length ns) b ms bs a) (P.lengths_are h)) (below_or_not 16 (length ns))
 
-  refused_by : {t : Text} (n : ℕ) → (n ≡ 0 → ⊥) → Holds (refused_line n) t → Holds (queue_text n (records-after n b bs a (queue_of ns))) t
+  refused_by : {t : Text} (n : ℕ) → (n ≡ 0 → ⊥) → Holds (refused_line n) t → Holds (queue_text n (records_after n b bs a (queue_of ns))) t
   unfolding queue_text
   refused_by zero h q = absurd (h refl)
   refused_by (suc n) h q = q
@@ -87,12 +87,12 @@ module _ {b ns bs : List ℕ} {a : ℕ} {p : Plan} {r : Outcome} {slots' : List 
     few : length ns ≤ 16
     few = (passes (length ns) b ns bs a 4096 (sym number_is ∙ z)).ahead.most
 
-    records-are : take r.count r.records ≡ records-after 0 b bs a (queue_of ns)
-    unfolding plan_records records-after
-    records-are =
-        R.records-are ∙ ap (λ (n : ℕ). plan_records n b p bs a) z
-        ∙ ap (λ (ms : List ℕ). records-of ms (problems b (sheets_of ms bs)) (queue_steps a (problems b (sheets_of ms bs)))) (P.lengths_are few ∙ sym (lengths_of ns))
+    records_are : take r.count r.records ≡ records_after 0 b bs a (queue_of ns)
+    unfolding plan_records records_after
+    records_are =
+        R.records_are ∙ ap (λ (n : ℕ). plan_records n b p bs a) z
+        ∙ ap (λ (ms : List ℕ). records_of ms (problems b (sheets_of ms bs)) (queue_steps a (problems b (sheets_of ms bs)))) (P.lengths_are few ∙ sym (lengths_of ns))
 
     pub lines_listed : {t : Text} → Holds (sheet_lines 0 (take r.count r.records)) t → Holds (queue_listing b ns bs a) t
     unfolding queue_listing queue_text
-    lines_listed h = rw (sym number_is ∙ z) (rw records-are at h)
+    lines_listed h = rw (sym number_is ∙ z) (rw records_are at h)

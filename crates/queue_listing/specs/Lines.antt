@@ -3,7 +3,7 @@ use Rattle.std.specs.Prelude.{Bool, false, cond, List, [], ◌∷◌, ◌++◌, 
 use Rattle.text.specs.Decimal.{decimal}
 use Rattle.listing.specs.Lines.{sheet_word, within_word, beyond_word, spent_word, refused_line}
 use Rattle.sheet_queue.specs.declared.SheetRecord.{SheetRecord}
-use Rattle.sheet_queue.specs.Queue.{queue_refusal, accepted_of, records-after, queue_slots_after}
+use Rattle.sheet_queue.specs.Queue.{queue_refusal, accepted_of, records_after, queue_slots_after}
 use Rattle.sheet_queue.specs.Promise.{QueueRight}
 
 -- ---- Lines
@@ -59,7 +59,7 @@ listing_accepted b ns bs a = accepted_of (length ns) b ns bs a
 
 -- the records that they get
 abbrev pub listing_records : (book lengths buffer : List ℕ) → (allowance : ℕ) → List SheetRecord
-listing_records b ns bs a = records-after (listing_refusal b ns bs a) b bs a (queue_of ns)
+listing_records b ns bs a = records_after (listing_refusal b ns bs a) b bs a (queue_of ns)
 
 abbrev pub listing_slots : (book lengths buffer : List ℕ) → (allowance : ℕ) → List ℕ
 listing_slots b ns bs a = queue_slots_after (listing_refusal b ns bs a) b bs a (queue_of ns) no_shares

@@ -26,12 +26,12 @@ use Rattle.iteration.specs.States.{Holds}
 use Rattle.run_loop.proofs.Keeping.{scores_start}
 use Rattle.sheet_queue.specs.declared.SheetRecord.{SheetRecord}
 use Rattle.sheet_queue.specs.Rounds.{steps_got}
-use Rattle.sheet_queue.specs.Queue.{blank, sheets_of, problems, with_steps, own_steps, queue_steps, refusal_of, accepted_of, record_of, records-of, shares_of, filled}
+use Rattle.sheet_queue.specs.Queue.{blank, sheets_of, problems, with_steps, own_steps, queue_steps, refusal_of, accepted_of, record_of, records_of, shares_of, filled}
 use Rattle.sheet_queue.specs.Promise.{part}
 use Rattle.sheet_queue.proofs.Alone.{alone_iterate}
 use Rattle.sheet_queue.proofs.Fair.{fair, everyone_starts}
 use Rattle.sheet_queue.proofs.Parts.{part_of, Roomy, filled_length, filled_part, filled_rest, filled_by}
-use Rattle.sheet_queue.proofs.Records.{own_count, records-count, records-at, shares_count, shares_at}
+use Rattle.sheet_queue.proofs.Records.{own_count, records_count, records-at, shares_count, shares_at}
 use Rattle.sheet_queue.proofs.Refusals.{Passes, passes, sheet_accepted}
 use Rattle.sheet_turn.specs.Turns.{plain_book, plain_sheet, TurnScores}
 use Rattle.sheet_turn.proofs.Plain.{plain_same}
@@ -164,7 +164,7 @@ module _ {b : List ℕ} {p : Plan} {bs : List ℕ} (a : Accepted b p bs) where
           room = omega (arith, start_rest.long);
           kept = kept_start n;
           states_long = S.long;
-          records-long = refl;
+          records_long = refl;
           scores_long = length-replicate 4096 (pos 0);
           each = λ i h.
               rw (none_at i (omega (arith, a.few)))
@@ -231,17 +231,17 @@ module _ {b : List ℕ} {p : Plan} {bs : List ℕ} {w : Work} {slots : List ℕ}
   pub served_end : ServedAll b p bs a w.records slots
   served_end =
       record {
-        records-long = W.records-long;
-        records-are = ext_get_or blank (take p.count w.records) (records-of (plan_lengths p) (problems b ss) ks) long
+        records_long = W.records_long;
+        records_are = ext_get_or blank (take p.count w.records) (records_of (plan_lengths p) (problems b ss) ks) long
             (λ i h. get_or-take p.count w.records i blank (within i h) ∙ record_is i (within i h) ∙ sym (records-at b (plan_lengths p) ss ks (count_ss ∙ sym count_ns) (count_ks ∙ sym count_ns) i (omega (arith, count_ns, within i h))));
         shares_are = shares_is;
       }
     where
       took : length (take p.count w.records) ≡ p.count
-      took = length-take-le p.count w.records (omega (arith, W.records-long, W.accepted.few))
+      took = length-take-le p.count w.records (omega (arith, W.records_long, W.accepted.few))
 
-      long : length (take p.count w.records) ≡ length (records-of (plan_lengths p) (problems b ss) ks)
-      long = took ∙ sym (records-count b (plan_lengths p) ss ks (count_ss ∙ sym count_ns) (count_ks ∙ sym count_ns) ∙ count_ns)
+      long : length (take p.count w.records) ≡ length (records_of (plan_lengths p) (problems b ss) ks)
+      long = took ∙ sym (records_count b (plan_lengths p) ss ks (count_ss ∙ sym count_ns) (count_ks ∙ sym count_ns) ∙ count_ns)
 
       within : (i : ℕ) → i < length (take p.count w.records) → i < p.count
       within i h = omega (arith, took)
@@ -258,7 +258,7 @@ module _ (b : List ℕ) (p : Plan) (bs : List ℕ) (a : ℕ) (slots : List ℕ) 
   pub ran_refused : (n : ℕ) {m : ℕ} → n ≡ refused_by → m ≡ accepted_by → (n ≡ 0 → ⊥) → Ran b p bs a slots (record { refusal = n; count = 0; records = replicate 16 blank; accepted = m }) slots
   unfolding count_after plan_records plan_slots
   ran_refused zero e g f = absurd (f refl)
-  ran_refused (suc n) e g f = record { refusal_is = e; count_is = refl; count_few = omega arith; records-long = refl; records-are = refl; slots_are = refl; accepted_is = g }
+  ran_refused (suc n) e g f = record { refusal_is = e; count_is = refl; count_few = omega arith; records_long = refl; records_are = refl; slots_are = refl; accepted_is = g }
 
   module _ {n : ℕ} (e : n ≡ refused_by) (z : n ≡ 0) where
     passed : Passes p.count b (plan_lengths p) bs a (length slots)
@@ -305,8 +305,8 @@ module _ (b : List ℕ) (p : Plan) (bs : List ℕ) (a : ℕ) (slots : List ℕ) 
             refusal_is = sym z ∙ e;
             count_is = refl;
             count_few = passed.ahead.most;
-            records-long = S.records-long;
-            records-are = S.records-are;
+            records_long = S.records_long;
+            records_are = S.records_are;
             slots_are = filled_by all_shares slots slots' (λ i h. part_made i (omega (arith, shares_number))) (rw shares_number R.rest);
             accepted_is = g;
           }

@@ -209,7 +209,7 @@ module _ {b : List ℕ} {p : Plan} {bs : List ℕ} {w : Work} {slots : List ℕ}
             room = omega (arith, W.room, turn_rest.long);
             kept = turn_turned.kept;
             states_long = length-set w.states i y ∙ W.states_long;
-            records-long = length-set w.records i r ∙ W.records-long;
+            records_long = length-set w.records i r ∙ W.records_long;
             scores_long = ap length scores_is ∙ put_length i ps scores few_ps scores_room ∙ W.scores_long;
             each = λ j l. ⊎_elim (λ (f : j ≡ i). rw f mine) (λ f. others j l f) (same_or_other j i);
           }
@@ -219,7 +219,7 @@ module _ {b : List ℕ} {p : Plan} {bs : List ℕ} {w : Work} {slots : List ℕ}
               rw (
                 get_or-set_same w.rounds.used i (k + 1) 0 (omega (arith, i_few, W.kept.used_long)),
                 get_or-set_same w.states i y no_state (omega (arith, i_few, W.states_long)),
-                get_or-set_same w.records i r blank (omega (arith, i_few, W.records-long)),
+                get_or-set_same w.records i r blank (omega (arith, i_few, W.records_long)),
                 part_new,
                 score_new,
               )

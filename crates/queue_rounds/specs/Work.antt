@@ -6,7 +6,7 @@ use Rattle.method.specs.Iterates.{iterate}
 use Rattle.iteration.specs.declared.State.{State}
 use Rattle.iteration.specs.States.{Holds}
 use Rattle.sheet_queue.specs.declared.SheetRecord.{SheetRecord}
-use Rattle.sheet_queue.specs.Queue.{blank, problems, queue_steps, refusal_of, accepted_of, record_of, records-of, shares_of, filled}
+use Rattle.sheet_queue.specs.Queue.{blank, problems, queue_steps, refusal_of, accepted_of, record_of, records_of, shares_of, filled}
 use Rattle.sheet_queue.specs.Promise.{part}
 use Rattle.sheet_turn.specs.Turns.{plain_book, plain_sheet, TurnScores}
 use Rattle.queue_rounds.specs.declared.Plan.{Plan}
@@ -36,7 +36,7 @@ pub record Working (b : List ℕ) (p : Plan) (bs : List ℕ) (w : Work) (slots :
   pub room : 256 * p.count ≤ length slots
   pub kept : Kept (own_of b p bs) w.rounds
   pub states_long : length w.states ≡ 16
-  pub records-long : length w.records ≡ 16
+  pub records_long : length w.records ≡ 16
   pub scores_long : length scores ≡ 4096
   pub each : (i : ℕ) → i < p.count →
       SheetAt b (sheet_of p bs i) (get_or w.rounds.used i 0) (get_or w.states i no_state) (get_or w.records i blank) (part i slots) (take 256 (drop (256 * i) scores))
@@ -49,8 +49,8 @@ pub record SameRest (b : List ℕ) (n : ℕ) (old new : List ℕ) : Type 0 where
 
 -- the records, and the shares in the slots, of an allowance that was served
 pub record ServedAll (b : List ℕ) (p : Plan) (bs : List ℕ) (a : ℕ) (rs : List SheetRecord) (slots : List ℕ) : Type 0 where
-  pub records-long : length rs ≡ 16
-  pub records-are : take p.count rs ≡ records-of (plan_lengths p) (problems b (plan_sheets p bs)) (queue_steps a (problems b (plan_sheets p bs)))
+  pub records_long : length rs ≡ 16
+  pub records_are : take p.count rs ≡ records_of (plan_lengths p) (problems b (plan_sheets p bs)) (queue_steps a (problems b (plan_sheets p bs)))
   pub shares_are : (i : ℕ) → i < p.count → take (boats b) (part i slots) ≡ get_or (shares_of (problems b (plan_sheets p bs)) (queue_steps a (problems b (plan_sheets p bs)))) i []
 
 -- ---- What the queue of a plan leaves
@@ -61,7 +61,7 @@ count_after zero p = p.count
 count_after (suc n) p = 0
 
 unfoldable pub plan_records : (refusal : ℕ) → (b : List ℕ) → Plan → (bs : List ℕ) → (a : ℕ) → List SheetRecord
-plan_records zero b p bs a = records-of (plan_lengths p) (problems b (plan_sheets p bs)) (queue_steps a (problems b (plan_sheets p bs)))
+plan_records zero b p bs a = records_of (plan_lengths p) (problems b (plan_sheets p bs)) (queue_steps a (problems b (plan_sheets p bs)))
 plan_records (suc n) b p bs a = []
 
 unfoldable pub plan_slots : (refusal : ℕ) → (b : List ℕ) → Plan → (bs : List ℕ) → (a : ℕ) → (slots : List ℕ) → List ℕ
@@ -72,7 +72,7 @@ pub record Ran (b : List ℕ) (p : Plan) (bs : List ℕ) (a : ℕ) (slots : List
   pub refusal_is : r.refusal ≡ refusal_of p.count b (plan_lengths p) bs a (length slots)
   pub count_is : r.count ≡ count_after r.refusal p
   pub count_few : r.count ≤ 16
-  pub records-long : length r.records ≡ 16
-  pub records-are : take r.count r.records ≡ plan_records r.refusal b p bs a
+  pub records_long : length r.records ≡ 16
+  pub records_are : take r.count r.records ≡ plan_records r.refusal b p bs a
   pub slots_are : slots' ≡ plan_slots r.refusal b p bs a slots
   pub accepted_is : r.accepted ≡ accepted_of p.count b (plan_lengths p) bs a

@@ -78,7 +78,7 @@ pub fn step(
     requires table_value { schedule_refusal (schedule_of lent table.now) ≡ 0 }
     requires layout_value { layout ≡ file_layout book.now sheet.now }
     requires holds { Holds (schedule_of lent table.now) book.now sheet.now state.steps state }
-    requires* steps_bound { do ⌜ state.steps < allowed_steps (schedule_of lent table.now) (← ⟦State::MOST_STEPS⟧) ⌝ }
+    requires steps_bound { state.steps < allowed_steps (schedule_of lent table.now) State.MOST_STEPS }
     requires shares_at { SharesAt (schedule_of lent table.now) book.now sheet.now state.steps shares.old }
     requires scores_at { ScoresAt (schedule_of lent table.now) book.now sheet.now state.steps scores.old }
     requires remembered { Remembered book.now sheet.now (memory_of tags.old targets.old memory.old) }

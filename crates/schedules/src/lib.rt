@@ -3,6 +3,7 @@
 // Helpers for other crates, whose callers prove what they require: refusal, steps, share, total.
 #![tactic(auto)]
 
+ghost use Rattle.files.specs.declared.TheConstants.{MOST_STEPS};
 ghost use Rattle.std.specs.Prelude.{◌≡◌, ◌&&◌, ◌*◌, ◌≤◌, ◌<◌, ltb, leb, length, take};
 ghost use Rattle.frank_wolfe.specs.Vectors.{sum};
 ghost use Rattle.method.specs.Problem.{share, weight, allowed_steps};
@@ -70,7 +71,7 @@ pub fn steps(lent: bool, table: &[u16], asked: u32) -> u32
 
 // The share of step k + 1.
 pub fn share(lent: bool, table: &[u16], k: u32) -> u32
-    requires* { do ⌜ k < allowed_steps (schedule_of lent table.now) (← ⟦files::MOST_STEPS⟧) ⌝ }
+    requires { k < allowed_steps (schedule_of lent table.now) MOST_STEPS }
     ensures { result ≡ share (schedule_of lent table.now) k }
 {
     if lent {
@@ -81,7 +82,7 @@ pub fn share(lent: bool, table: &[u16], k: u32) -> u32
 
 // The total of the first entries of a table.
 fn entries_total(table: &[u16], count: usize) -> u32
-    requires* { do ⌜ (count ≤ (← ⟦files::MOST_STEPS⟧)) × (count ≤ length table.now) ⌝ }
+    requires { (count ≤ MOST_STEPS) × (count ≤ length table.now) }
     ensures { result ≡ sum (take count table.now) }
 {
     let mut total: u32 = 0;
@@ -95,7 +96,7 @@ fn entries_total(table: &[u16], count: usize) -> u32
 
 // W: the total of the first t shares.
 pub fn total(lent: bool, table: &[u16], t: u32) -> u32
-    requires* { do ⌜ t ≤ allowed_steps (schedule_of lent table.now) (← ⟦files::MOST_STEPS⟧) ⌝ }
+    requires { t ≤ allowed_steps (schedule_of lent table.now) MOST_STEPS }
     ensures { result ≡ weight (schedule_of lent table.now) t }
 {
     if lent {

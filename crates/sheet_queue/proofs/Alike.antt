@@ -19,13 +19,13 @@ use Rattle.files.proofs.Front.{sheet_front_unread, files_front_unread}
 use Rattle.method.specs.Problem.{Problem, plain_terms, problem}
 use Rattle.method.proofs.Promise.{same_problem, problem_behind}
 use Rattle.sheet_queue.specs.declared.SheetRecord.{SheetRecord}
-use Rattle.sheet_queue.specs.Queue.{lengths, sheets_of, problems, queue_steps, sheets_refusal, refusal_ahead, refusal_of, record_of, records-of, shares_of, filled, records-after, queue_slots_after}
+use Rattle.sheet_queue.specs.Queue.{lengths, sheets_of, problems, queue_steps, sheets_refusal, refusal_ahead, refusal_of, record_of, records_of, shares_of, filled, records_after, queue_slots_after}
 use Rattle.sheet_queue.specs.Alike.{Each, no_sheet, one_more, SameOrEdition, Exchanged, unmeasured, SameQueue}
 use Rattle.sheet_queue.proofs.Records.{lengths_count, sheets_count}
 
 -- records without their lengths do not depend on lengths
-lengths_aside : (ns ms : List ℕ) → length ms ≡ length ns → (ps : List Problem) (ks : List ℕ) → map unmeasured (records-of ms ps ks) ≡ map unmeasured (records-of ns ps ks)
-unfolding records-of unmeasured record_of
+lengths_aside : (ns ms : List ℕ) → length ms ≡ length ns → (ps : List Problem) (ks : List ℕ) → map unmeasured (records_of ms ps ks) ≡ map unmeasured (records_of ns ps ks)
+unfolding records_of unmeasured record_of
 lengths_aside [] [] h ps ks = refl
 lengths_aside [] (m ∷ ms) h ps ks = absurd (omega arith)
 lengths_aside (n ∷ ns) [] h ps ks = absurd (omega arith)
@@ -61,8 +61,8 @@ module _ {Alike : List ℕ → List ℕ → Type 0} (b b' : List ℕ) (same_colu
     unfolding refusal_ahead refusal_of
     same_refusal = rw (same_count, same_columns, same_numbers, alike_refusal x.each, eq-eqb (sum (lengths other)) (length bs') x.other_total, eq-eqb (sum (lengths queue)) (length bs) x.total)
 
-    same_records : map unmeasured (records-after 0 b' bs' a other) ≡ map unmeasured (records-after 0 b bs a queue)
-    unfolding records-after
+    same_records : map unmeasured (records_after 0 b' bs' a other) ≡ map unmeasured (records_after 0 b bs a queue)
+    unfolding records_after
     same_records = rw same_problems (lengths_aside (lengths queue) (lengths other) same_count (problems b (sheets_of (lengths queue) bs)) (queue_steps a (problems b (sheets_of (lengths queue) bs))))
 
     same_slots : queue_slots_after 0 b' bs' a other slots ≡ queue_slots_after 0 b bs a queue slots

@@ -24,13 +24,13 @@ use Rattle.sheet_queue.specs.Rounds.{steps_got}
 use Rattle.files.specs.Front.{SameBook, SameSheet}
 use Rattle.sheet_queue.specs.Alike.{SameOrEdition, Exchanged, SameQueue}
 use Rattle.sheet_queue.proofs.Alike.{same_queue, of_edition, book_alike, of_front}
-use Rattle.sheet_queue.specs.Queue.{blank, lengths, sheets_of, problems, with_steps, own_steps, queue_steps, queue_refusal, record_of, records-of, shares_of, filled, records-after, queue_slots_after}
+use Rattle.sheet_queue.specs.Queue.{blank, lengths, sheets_of, problems, with_steps, own_steps, queue_steps, queue_refusal, record_of, records_of, shares_of, filled, records_after, queue_slots_after}
 use Rattle.sheet_queue.specs.Promise.{Fair, SheetRight, used_steps, part, Served, QueueRight}
 use Rattle.sheet_queue.proofs.Fair.{fair, everyone_starts}
 use Rattle.sheet_queue.proofs.Alone.{alone_steps, alone_iterate, alone_answer_steps, alone_own, alone_cut, own_most, alone_right}
 use Rattle.sheet_queue.proofs.Parts.{Roomy, filled_length, filled_part, filled_rest}
 use Rattle.sheet_queue.proofs.Refusals.{Passes, passes, sheet_accepted}
-use Rattle.sheet_queue.proofs.Records.{lengths_count, sheets_count, own_count, own_at, records-count, records-lengths, records-used, records-at, shares_count, shares_at}
+use Rattle.sheet_queue.proofs.Records.{lengths_count, sheets_count, own_count, own_at, records_count, records_lengths, records_used, records-at, shares_count, shares_at}
 
 -- whether two numbers are equal, as a finished sheet says it
 same_or_not : (k t : ℕ) → (eqb k t ≡ true) ↔ (k ≡ t)
@@ -136,7 +136,7 @@ module _ (b bs : List ℕ) (a : ℕ) (queue : List SheetRecord) (slots : List �
     shares_long = ap length shares_is ∙ sheet_shares a (length ns) b (get_or ss i []) ok_at (get_or ks i 0) least_at most_at share_at
 
     pub right_at : (q : List ℕ) → take (boats b) q ≡ get_or (shares_of (problems b ss) ks) i [] →
-        SheetRight a (length ns) b (problem b (get_or ss i [])) (get_or (records-of ns (problems b ss) ks) i blank) q
+        SheetRight a (length ns) b (problem b (get_or ss i [])) (get_or (records_of ns (problems b ss) ks) i blank) q
     right_at q e = rw (records-at b ns ss ks count_ns count_ks i h) (sheet_right a (length ns) b (get_or ss i []) ok_at (get_or ks i 0) least_at most_at share_at (get_or ns i 0) q (e ∙ shares_is))
 
   shares_number : length (shares_of (problems b ss) ks) ≡ length ns
@@ -154,19 +154,19 @@ module _ (b bs : List ℕ) (a : ℕ) (queue : List SheetRecord) (slots : List �
   part_is : (i : ℕ) → i < length ns → part i new ≡ slots_after 0 (get_or (shares_of (problems b ss) ks) i []) (part i slots)
   part_is i h = filled_part (shares_of (problems b ss) ks) slots roomy i (omega (arith, shares_number))
 
-  served_each : (i : ℕ) → i < length ns → SheetRight a (length ns) b (problem b (get_or ss i [])) (get_or (records-of ns (problems b ss) ks) i blank) (part i new)
+  served_each : (i : ℕ) → i < length ns → SheetRight a (length ns) b (problem b (get_or ss i [])) (get_or (records_of ns (problems b ss) ks) i blank) (part i new)
   served_each i h =
       right_at i h (part i new)
       (ap (take (boats b)) (part_is i h) ∙ slots_kept (get_or (shares_of (problems b ss) ks) i []) (part i slots) (boats b) (shares_long i h))
 
-  records-number : length (records-of ns (problems b ss) ks) ≡ length ns
-  records-number = records-count b ns ss ks count_ns count_ks
+  records_number : length (records_of ns (problems b ss) ks) ≡ length ns
+  records_number = records_count b ns ss ks count_ns count_ks
 
-  pub served : Served b a ss (records-of ns (problems b ss) ks) new
+  pub served : Served b a ss (records_of ns (problems b ss) ks) new
   served =
       record {
-        fair = rw (records-used b ns ss ks count_ns count_ks) queue_fair;
-        each = λ i h. rw records-number (served_each i (omega (arith, records-number)));
+        fair = rw (records_used b ns ss ks count_ns count_ks) queue_fair;
+        each = λ i h. rw records_number (served_each i (omega (arith, records_number)));
       }
 
   other : (i j : ℕ) → i < length ns → boats b ≤ j → j < 256 → get_or new (256 * i + j) 0 ≡ get_or slots (256 * i + j) 0
@@ -191,9 +191,9 @@ module _ (b bs : List ℕ) (a : ℕ) (queue : List SheetRecord) (slots : List �
   same_fronts b' other bs' d x = let f = book_alike b b' d in same_queue b b' f.0 f.1 (of_front b b' d) a x slots
 
 pub queue_right : (b bs : List ℕ) (a : ℕ) (queue : List SheetRecord) (slots : List ℕ) (refusal : ℕ) (queue' : List SheetRecord) (slots' : List ℕ) →
-    refusal ≡ queue_refusal b (lengths queue) bs a (length slots) → queue' ≡ records-after refusal b bs a queue → slots' ≡ queue_slots_after refusal b bs a queue slots →
+    refusal ≡ queue_refusal b (lengths queue) bs a (length slots) → queue' ≡ records_after refusal b bs a queue → slots' ≡ queue_slots_after refusal b bs a queue slots →
     QueueRight b bs a queue slots refusal queue' slots'
-unfolding records-after queue_slots_after
+unfolding records_after queue_slots_after
 queue_right b bs a queue slots (suc n) queue' slots' e f g =
     record {
       number = e;
@@ -213,7 +213,7 @@ queue_right b bs a queue slots zero queue' slots' e f g =
     let n = lengths_count queue in
     record {
       number = e;
-      lengths_kept = ap lengths f ∙ records-lengths b (lengths queue) ss ks (sheets_count (lengths queue) bs) (count_ks b bs a queue slots P);
+      lengths_kept = ap lengths f ∙ records_lengths b (lengths queue) ss ks (sheets_count (lengths queue) bs) (count_ks b bs a queue slots P);
       slots_kept = ap length g ∙ filled_length (shares_of (problems b ss) ks) slots (roomy b bs a queue slots P);
       refused = λ h. absurd (omega arith);
       served = λ _. rw (f, g) (served b bs a queue slots P);

@@ -8,7 +8,7 @@ use Rattle.frank_wolfe.specs.Vectors.{sum}
 use Rattle.method.specs.Problem.{problem}
 use Rattle.method.specs.Answers.{steps_used, run_iterate}
 use Rattle.sheet_queue.specs.declared.SheetRecord.{SheetRecord}
-use Rattle.sheet_queue.specs.Queue.{blank, lengths, sheets_of, problems, with_steps, own_steps, record_of, records-of, shares_of}
+use Rattle.sheet_queue.specs.Queue.{blank, lengths, sheets_of, problems, with_steps, own_steps, record_of, records_of, shares_of}
 use Rattle.sheet_queue.specs.Promise.{used_steps}
 
 pub lengths_count : (rs : List SheetRecord) → length (lengths rs) ≡ length rs
@@ -33,31 +33,31 @@ module _ (b : List ℕ) where
   own_at (s ∷ ss) zero h = refl
   own_at (s ∷ ss) (suc i) h = own_at ss i (omega arith)
 
-  pub records-count : (ns : List ℕ) (ss : List (List ℕ)) (ks : List ℕ) → length ss ≡ length ns → length ks ≡ length ns → length (records-of ns (problems b ss) ks) ≡ length ns
-  unfolding records-of problems
-  records-count [] ss ks e f = refl
-  records-count (n ∷ ns) [] ks e f = absurd (omega arith)
-  records-count (n ∷ ns) (s ∷ ss) [] e f = absurd (omega arith)
-  records-count (n ∷ ns) (s ∷ ss) (k ∷ ks) e f = ap suc (records-count ns ss ks (omega arith) (omega arith))
+  pub records_count : (ns : List ℕ) (ss : List (List ℕ)) (ks : List ℕ) → length ss ≡ length ns → length ks ≡ length ns → length (records_of ns (problems b ss) ks) ≡ length ns
+  unfolding records_of problems
+  records_count [] ss ks e f = refl
+  records_count (n ∷ ns) [] ks e f = absurd (omega arith)
+  records_count (n ∷ ns) (s ∷ ss) [] e f = absurd (omega arith)
+  records_count (n ∷ ns) (s ∷ ss) (k ∷ ks) e f = ap suc (records_count ns ss ks (omega arith) (omega arith))
 
-  pub records-lengths : (ns : List ℕ) (ss : List (List ℕ)) (ks : List ℕ) → length ss ≡ length ns → length ks ≡ length ns → lengths (records-of ns (problems b ss) ks) ≡ ns
-  unfolding lengths records-of record_of problems
-  records-lengths [] ss ks e f = refl
-  records-lengths (n ∷ ns) [] ks e f = absurd (omega arith)
-  records-lengths (n ∷ ns) (s ∷ ss) [] e f = absurd (omega arith)
-  records-lengths (n ∷ ns) (s ∷ ss) (k ∷ ks) e f = ap (λ (l : List ℕ). n ∷ l) (records-lengths ns ss ks (omega arith) (omega arith))
+  pub records_lengths : (ns : List ℕ) (ss : List (List ℕ)) (ks : List ℕ) → length ss ≡ length ns → length ks ≡ length ns → lengths (records_of ns (problems b ss) ks) ≡ ns
+  unfolding lengths records_of record_of problems
+  records_lengths [] ss ks e f = refl
+  records_lengths (n ∷ ns) [] ks e f = absurd (omega arith)
+  records_lengths (n ∷ ns) (s ∷ ss) [] e f = absurd (omega arith)
+  records_lengths (n ∷ ns) (s ∷ ss) (k ∷ ks) e f = ap (λ (l : List ℕ). n ∷ l) (records_lengths ns ss ks (omega arith) (omega arith))
 
-  pub records-used : (ns : List ℕ) (ss : List (List ℕ)) (ks : List ℕ) → length ss ≡ length ns → length ks ≡ length ns → used_steps (records-of ns (problems b ss) ks) ≡ ks
-  unfolding used_steps records-of record_of problems
-  records-used [] ss [] e f = refl
-  records-used [] ss (k ∷ ks) e f = absurd (omega arith)
-  records-used (n ∷ ns) [] ks e f = absurd (omega arith)
-  records-used (n ∷ ns) (s ∷ ss) [] e f = absurd (omega arith)
-  records-used (n ∷ ns) (s ∷ ss) (k ∷ ks) e f = ap (λ (l : List ℕ). k ∷ l) (records-used ns ss ks (omega arith) (omega arith))
+  pub records_used : (ns : List ℕ) (ss : List (List ℕ)) (ks : List ℕ) → length ss ≡ length ns → length ks ≡ length ns → used_steps (records_of ns (problems b ss) ks) ≡ ks
+  unfolding used_steps records_of record_of problems
+  records_used [] ss [] e f = refl
+  records_used [] ss (k ∷ ks) e f = absurd (omega arith)
+  records_used (n ∷ ns) [] ks e f = absurd (omega arith)
+  records_used (n ∷ ns) (s ∷ ss) [] e f = absurd (omega arith)
+  records_used (n ∷ ns) (s ∷ ss) (k ∷ ks) e f = ap (λ (l : List ℕ). k ∷ l) (records_used ns ss ks (omega arith) (omega arith))
 
   pub records-at : (ns : List ℕ) (ss : List (List ℕ)) (ks : List ℕ) → length ss ≡ length ns → length ks ≡ length ns → (i : ℕ) → i < length ns →
-      get_or (records-of ns (problems b ss) ks) i blank ≡ record_of (get_or ns i 0) (problem b (get_or ss i [])) (get_or ks i 0)
-  unfolding records-of problems
+      get_or (records_of ns (problems b ss) ks) i blank ≡ record_of (get_or ns i 0) (problem b (get_or ss i [])) (get_or ks i 0)
+  unfolding records_of problems
   records-at [] ss ks e f i h = absurd (omega arith)
   records-at (n ∷ ns) [] ks e f i h = absurd (omega arith)
   records-at (n ∷ ns) (s ∷ ss) [] e f i h = absurd (omega arith)

@@ -3,7 +3,7 @@ use Rattle.std.specs.Prelude.{◌≡◌, ◌⊎◌, List, [], ◌∷◌, map, �
 use Rattle.frank_wolfe.specs.Vectors.{sum}
 use Rattle.files.specs.Editions.{Editions}
 use Rattle.sheet_queue.specs.declared.SheetRecord.{SheetRecord}
-use Rattle.sheet_queue.specs.Queue.{lengths, sheets_of, queue_refusal, records-after, queue_slots_after}
+use Rattle.sheet_queue.specs.Queue.{lengths, sheets_of, queue_refusal, records_after, queue_slots_after}
 
 -- as many sheets, and each as its own of the others
 pub data Each (Alike : List ℕ → List ℕ → Type 0) : List (List ℕ) → List (List ℕ) → Type 0 where
@@ -36,5 +36,5 @@ unmeasured r =
 -- two queues are refused by the same number; where none refuses, their records are the same but for the lengths; their slots are the same
 pub record SameQueue (b bs : List ℕ) (a : ℕ) (queue : List SheetRecord) (b' bs' : List ℕ) (other : List SheetRecord) (slots : List ℕ) : Type 0 where
   pub refusal : queue_refusal b' (lengths other) bs' a (length slots) ≡ queue_refusal b (lengths queue) bs a (length slots)
-  pub records : map unmeasured (records-after 0 b' bs' a other) ≡ map unmeasured (records-after 0 b bs a queue)
+  pub records : map unmeasured (records_after 0 b' bs' a other) ≡ map unmeasured (records_after 0 b bs a queue)
   pub shares : queue_slots_after 0 b' bs' a other slots ≡ queue_slots_after 0 b bs a queue slots

@@ -102,11 +102,11 @@ record_of n p k =
       length = n;
     }
 
-unfoldable pub records-of : (lengths : List ℕ) → List Problem → (used : List ℕ) → List SheetRecord
-records-of (n ∷ ns) (p ∷ ps) (k ∷ ks) = record_of n p k ∷ records-of ns ps ks
-records-of (n ∷ ns) (p ∷ ps) [] = []
-records-of (n ∷ ns) [] ks = []
-records-of [] ps ks = []
+unfoldable pub records_of : (lengths : List ℕ) → List Problem → (used : List ℕ) → List SheetRecord
+records_of (n ∷ ns) (p ∷ ps) (k ∷ ks) = record_of n p k ∷ records_of ns ps ks
+records_of (n ∷ ns) (p ∷ ps) [] = []
+records_of (n ∷ ns) [] ks = []
+records_of [] ps ks = []
 
 -- the shares of each sheet, those of the same run
 unfoldable pub shares_of : List Problem → (used : List ℕ) → List (List ℕ)
@@ -122,11 +122,11 @@ filled (qs ∷ qss) slots = slots_after 0 qs (take 256 slots) ++ filled qss (dro
 -- ---- What a call leaves
 
 -- the records, as they were where the queue is refused
-unfoldable pub records-after : (refusal : ℕ) → (book buffer : List ℕ) → (allowance : ℕ) → (queue : List SheetRecord) → List SheetRecord
-records-after zero b bs a rs =
+unfoldable pub records_after : (refusal : ℕ) → (book buffer : List ℕ) → (allowance : ℕ) → (queue : List SheetRecord) → List SheetRecord
+records_after zero b bs a rs =
     let ps = problems b (sheets_of (lengths rs) bs) in
-    records-of (lengths rs) ps (queue_steps a ps)
-records-after (suc n) b bs a rs = rs
+    records_of (lengths rs) ps (queue_steps a ps)
+records_after (suc n) b bs a rs = rs
 
 -- the slots, as they were where the queue is refused
 unfoldable pub queue_slots_after : (refusal : ℕ) → (book buffer : List ℕ) → (allowance : ℕ) → (queue : List SheetRecord) → (slots : List ℕ) → List ℕ

@@ -58,17 +58,17 @@ module _ (b s : List ℕ) (ok : files_refusal b s ≡ 0) (t : ℕ) (more : t < s
     H' : Holds fixed (plain_book b s) (plain_sheet s) (suc t) x
     H' = rw add-one at H
 
-    pub record-answerable : Answerable x.distance x.weight x.target_score x.least s
-    record-answerable = turn_answerable b s ok H' (omega (arith, few_steps))
+    pub record_answerable : Answerable x.distance x.weight x.target_score x.least s
+    record_answerable = turn_answerable b s ok H' (omega (arith, few_steps))
 
     module _ {a : Answer} (ea : a ≡ answer_by Sharper x.steps x.weight (sheet s).tolerance x.distance x.target_score x.least) where
       answer_is : a ≡ run_answer (with_steps (suc t) (problem b s))
       answer_is = turn_answer b s ok H' (omega (arith, few_steps)) ea ∙ sym (alone_answer (suc t) (problem b s) asked (omega arith) (omega arith))
 
-      pub record-right : {k : ℕ} → k ≡ (sheet s).steps → {d : Bool} → d ≡ stops k x.steps a.verdict → {v : ℕ} → v ≡ verdict_number a.verdict →
+      pub record_right : {k : ℕ} → k ≡ (sheet s).steps → {d : Bool} → d ≡ stops k x.steps a.verdict → {v : ℕ} → v ≡ verdict_number a.verdict →
           record { asked = k; used = x.steps; finished = d; distance = a.distance; gap = a.gap; verdict = v; length = length s } ≡ record_of (length s) (problem b s) (t + 1)
       unfolding record_of call_problem
-      record-right {k} ek {d} ed {v} ev =
+      record_right {k} ek {d} ed {v} ev =
           let n : x.steps ≡ suc t = H'.steps_are in
           let f : d ≡ eqb (suc t) (steps_used (problem b s)) = ed ∙ rw (ek, n, answer_is') (stops_own (problem b s) asked (suc t) (omega arith) (omega arith)) in
           rw (add-one, ek, n, f, ev, answer_is)

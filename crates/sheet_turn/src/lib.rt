@@ -65,7 +65,7 @@ fn plain_turn(
 ) -> State
     requires sheet_value { files_refusal book.now sheet.now ≡ 0 }
     requires holds { Holds fixed book.now sheet.now state.steps state }
-    requires* steps_bound { do ⌜ state.steps < (← ⟦State::MOST_STEPS⟧) ⌝ }
+    requires steps_bound { state.steps < State.MOST_STEPS }
     requires shares_at { SharesAt fixed book.now sheet.now state.steps shares.old }
     requires scores_at { ScoresAt fixed book.now sheet.now state.steps scores.old }
     ensures holds_2 { Holds fixed book.now sheet.now (state.steps + 1) result }
@@ -97,7 +97,7 @@ fn derived_turn(
     requires sheet_value { files_refusal book.now sheet.now ≡ 0 }
     requires sheet_value_2 { sheet_lettered WSH2 sheet.now ≡ true }
     requires holds { Holds fixed (twin_book book.now sheet.now) (twin_sheet sheet.now) state.steps state }
-    requires* steps_bound { do ⌜ state.steps < (← ⟦State::MOST_STEPS⟧) ⌝ }
+    requires steps_bound { state.steps < State.MOST_STEPS }
     requires shares_at { SharesAt fixed (twin_book book.now sheet.now) (twin_sheet sheet.now) state.steps shares.old }
     requires scores_at { ScoresAt fixed (twin_book book.now sheet.now) (twin_sheet sheet.now) state.steps scores.old }
     ensures holds_2 { Holds fixed (twin_book book.now sheet.now) (twin_sheet sheet.now) (state.steps + 1) result }
@@ -116,7 +116,7 @@ fn derived_turn(
 fn stepped(state: State, book: &[u8], sheet: &[u8], shares: &mut [u16], scores: &mut [i64]) -> State
     requires sheet_value { files_refusal book.now sheet.now ≡ 0 }
     requires holds { Holds fixed (plain_book book.now sheet.now) (plain_sheet sheet.now) state.steps state }
-    requires* steps_bound { do ⌜ state.steps < (← ⟦State::MOST_STEPS⟧) ⌝ }
+    requires steps_bound { state.steps < State.MOST_STEPS }
     requires turn_shares { TurnShares book.now sheet.now state.steps shares.old }
     requires turn_scores { TurnScores book.now sheet.now state.steps scores.old }
     ensures holds_2 { Holds fixed (plain_book book.now sheet.now) (plain_sheet sheet.now) (state.steps + 1) result }

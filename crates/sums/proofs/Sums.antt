@@ -1,5 +1,5 @@
 -- An inner product added up from the first column on, in an i64. Assumes nothing.
-use mathlib.Core.Path.{◌≡◌, refl, sym, ap, ◌∙◌}
+use mathlib.Core.Path.{◌≡◌, refl, sym, ◌∙◌}
 use mathlib.Core.List.{List, [], ◌∷◌}
 use Prim.Native.Nat.{ℕ, suc, ◌+◌, ◌*◌, ◌-◌, ◌^◌, ◌≤◌, ◌<◌}
 use lib.Dec.{T, ltb}
@@ -25,19 +25,17 @@ unfolding inner
 inner_nil [] = refl
 inner_nil (x ∷ xs) = refl
 
--- the sum over the first i columns stands in the bits of an accumulator of width w, each product at most m; the columns left add up to the rest
-pub record Summed (w : Width) (m : ℕ) (xs : List ℤ) (bs : List ℕ) (at n i bits : ℕ) : Type 0 where
+-- part is the sum over the first i columns, as an accumulator of width w has it, each product at most m; the columns left add up to the rest
+pub record Summed (w : Width) (m : ℕ) (xs : List ℤ) (bs : List ℕ) (at n i : ℕ) (part : ℤ) : Type 0 where
   pub within : i ≤ n
-  pub part : ℤ
-  pub bits_are : bits ≡ of_z w part
   pub size : nat_abs part ≤ i * m
   pub rest : part +ℤ inner (slice i n xs) (values (n - i) (drop (at + 2 * i) bs)) ≡ inner (take n xs) (values n (drop at bs))
 
-pub sum_start : {w : Width} {m : ℕ} {xs : List ℤ} {bs : List ℕ} {at n : ℕ} → Summed w m xs bs at n 0 0
+pub sum_start : {w : Width} {m : ℕ} {xs : List ℤ} {bs : List ℕ} {at n : ℕ} → Summed w m xs bs at n 0 (pos 0)
 sum_start {m = m} {xs = xs} {bs = bs} {at = at} {n = n} =
     let e : n - 0 ≡ n = omega arith in
     let p : at + 2 * 0 ≡ at = omega arith in
-    record { within = omega arith; part = pos 0; bits_are = refl; size = omega (arith, zero-mul m); rest = rw (e, p, +ℤ_idl) }
+    record { within = omega arith; size = omega (arith, zero-mul m); rest = rw (e, p, +ℤ_idl) }
 
 -- an i32 cast to an i64: it fits, and is read back as it was
 module _ (z : ℤ) (b : ℕ) (h : nat_abs z ≤ b) (t : T (ltb b (2 ^ 31))) where
@@ -83,46 +81,42 @@ module _ {xs : List ℤ} {n i : ℕ} (b : Bounded entry_limit n xs) (h : i < n) 
   wide_product u ev {x} {y} ex ey = abs_mul_le x y entry_limit 32768 (rw ex (b.each i h)) (rw (ey, ev) (value_bound u))
 
 -- 64 products of at most m fit the accumulator
-module _ {w : Width} {m : ℕ} (t : T (ltb (64 * m) (2 ^ hbits w))) {xs : List ℤ} {bs : List ℕ} {at n i bits : ℕ} (d : Summed w m xs bs at n i bits) (s : Span bs at n) where
+module _ {w : Width} {m : ℕ} (t : T (ltb (64 * m) (2 ^ hbits w))) {xs : List ℤ} {bs : List ℕ} {at n i : ℕ} {part : ℤ} (d : Summed w m xs bs at n i part) (s : Span bs at n) where
   -- a bound by i products, for i up to 64
   sized : (j : ℕ) {q : ℕ} → j ≤ 64 → q ≤ j * m → q ≤ 64 * m
   sized j h k = le_trans k (mul-le-mul_right m h)
 
-  bits_read : to_z w bits ≡ d.part
-  bits_read = ap (to_z w) d.bits_are ∙ read w (64 * m) (sized i (omega (arith, d.within, s.few_columns)) d.size) t
-
-  pub sum_end : n ≤ i → to_z w bits ≡ inner (take n xs) (values n (drop at bs))
+  pub sum_end : n ≤ i → part ≡ inner (take n xs) (values n (drop at bs))
   unfolding values
   sum_end h =
       let e : i ≡ n = omega (arith, d.within) in
       let f : n - n ≡ 0 = omega arith in
-      bits_read ∙ sym (+ℤ_idr d.part) ∙ (rw (e, f, inner_nil) at d.rest)
+      sym (+ℤ_idr part) ∙ (rw (e, f, inner_nil) at d.rest)
 
   -- x and y are what the machine holds for the entry of r and for the value
   module _ (l : n ≤ length xs) (h : i < n) {v : ℤ} (ev : v ≡ value (number (at + 2 * i) 2 bs)) {x y : ℤ} (ex : x ≡ get_or xs i (pos 0)) (ey : y ≡ v) (size : nat_abs (x *ℤ y) ≤ m) where
     pub product_fits : SFits w (x *ℤ y)
     product_fits = fits w (64 * m) (sized 1 (omega arith) (rw one-mul size)) t
 
-    sum_read : to_z w bits +ℤ to_z w (of_z w (x *ℤ y)) ≡ d.part +ℤ x *ℤ y
-    sum_read = rw (bits_read, to_z-of_z product_fits)
+    sum_read : part +ℤ to_z w (of_z w (x *ℤ y)) ≡ part +ℤ x *ℤ y
+    sum_read = rw (to_z-of_z product_fits)
 
-    sum_size : nat_abs (d.part +ℤ x *ℤ y) ≤ (i + 1) * m
-    sum_size = omega (arith, abs_add d.part (x *ℤ y), size, d.size, add-mul i 1 m, one-mul m)
+    sum_size : nat_abs (part +ℤ x *ℤ y) ≤ (i + 1) * m
+    sum_size = omega (arith, abs_add part (x *ℤ y), size, d.size, add-mul i 1 m, one-mul m)
 
-    pub sum_fits : SFits w (to_z w bits +ℤ to_z w (of_z w (x *ℤ y)))
+    pub sum_fits : SFits w (part +ℤ to_z w (of_z w (x *ℤ y)))
     sum_fits = rw sum_read (fits w (64 * m) (sized (i + 1) (omega (arith, s.few_columns)) sum_size) t)
 
-    pub sum_more : Summed w m xs bs at n (i + 1) (of_z w (to_z w bits +ℤ to_z w (of_z w (x *ℤ y))))
+    pub sum_more : Summed w m xs bs at n (i + 1) (to_z w (of_z w (part +ℤ to_z w (of_z w (x *ℤ y)))))
     unfolding inner
     sum_more =
         let e : n - i ≡ suc (n - (i + 1)) = omega arith in
         let p : at + 2 * (i + 1) ≡ at + 2 * i + 2 = omega arith in
         let q : value (number (at + 2 * i) 2 bs) ≡ y = sym ev ∙ sym ey in
         let r : slice (i + 1) n xs ≡ slice (suc i) n xs = rw add-one in
-        record {
+        let z : to_z w (of_z w (part +ℤ to_z w (of_z w (x *ℤ y)))) ≡ part +ℤ x *ℤ y = to_z-of_z sum_fits ∙ sum_read in
+        rw z (record {
           within = omega arith;
-          part = d.part +ℤ x *ℤ y;
-          bits_are = ap (of_z w) sum_read;
           size = sum_size;
           rest = rw (+ℤ_assoc, r, p) (rw (e, values_suc, slice-cons i n xs (pos 0) h l, q, ← ex) at d.rest);
-        }
+        })

@@ -3,6 +3,7 @@
 // Helper for other crates, whose callers prove what it requires: total_after.
 #![tactic(auto)]
 
+ghost use Rattle.files.specs.declared.TheConstants.{MOST_STEPS};
 ghost use Rattle.std.specs.Prelude.{◌≡◌, ◌≤◌};
 ghost use Rattle.method.specs.Problem.{fixed, weight};
 
@@ -37,7 +38,7 @@ const TOTALS: [u32; files::MOST_STEPS as usize + 1] = [
 
 // W after t steps.
 pub fn total_after(t: u32) -> u32
-    requires* { do ⌜ t ≤ (← ⟦files::MOST_STEPS⟧) ⌝ }
+    requires { t ≤ MOST_STEPS }
     ensures { result ≡ weight fixed t }
 {
     TOTALS[t as usize]

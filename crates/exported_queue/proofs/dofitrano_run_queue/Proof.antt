@@ -42,7 +42,7 @@ use denote.Triple.Table.{entered, cited}
 use denote.Triple.Walked.{says, Stays, stay_none, stay_none_slice, gave_slice, walk_of, Goes-none, Goes-none_slice, Goes-gave_slice, Walks, ends_at, walked, walk_Meets}
 use denote.Exit.{yes}
 use Rattle.sheet_queue.specs.declared.SheetRecord.{SheetRecord}
-use Rattle.sheet_queue.specs.Queue.{lengths, queue_refusal, records-after, queue_slots_after}
+use Rattle.sheet_queue.specs.Queue.{lengths, queue_refusal, records_after, queue_slots_after}
 use Rattle.sheet_queue.specs.Promise.{QueueRight}
 use Rattle.sheet_queue.specs.contracts.SheetRecord as T
 use Rattle.queue_rounds.specs.declared.Outcome.{Outcome}
@@ -198,7 +198,7 @@ module _ {M : Type 1} {𝓤 : Ura M} (𝓛 : Logic 𝓤) (mem : Memory → SProp
 
   -- ---- The end
   abbrev Says : Outcome → List SheetRecord → List ℕ → Type 0
-  Says r zs ws = (r.refusal ≡ queue_refusal bk (lengths ys) sh c (length ss)) × (zs ≡ records-after r.refusal bk sh c ys) × (ws ≡ queue_slots_after r.refusal bk sh c ys ss) × QueueRight bk sh c ys ss r.refusal zs ws
+  Says r zs ws = (r.refusal ≡ queue_refusal bk (lengths ys) sh c (length ss)) × (zs ≡ records_after r.refusal bk sh c ys) × (ws ≡ queue_slots_after r.refusal bk sh c ys ss) × QueueRight bk sh c ys ss r.refusal zs ws
 
   exits : (r : Outcome) (zs : List SheetRecord) (ws : List ℕ) → r.refusal < 2 ^ 32 → Says r zs ws → length zs ≡ length ys → length ws ≡ length ss
       → ent 𝓤 (⋆ 𝓛 ((‵ (flft κ q) ⊛ ‵ ftrue) ∷ (‵ (flft κ₁ q₁) ⊛ ‵ (flft κ₂ q₂) ⊛ ‵ (flft κ₃ q₃) ⊛ ‵ ftrue) ∷ ‵ (finally T.the_row γ zs) ∷ ‵ (finally u16 γ₃ ws)

@@ -26,7 +26,7 @@ returns c =
 lines-requires : tie.Need-lines-requires
 lines-requires c κs =
     let R = c.before.before.run-plan.ensures in
-    (R.count_few, R.records-long)
+    (R.count_few, R.records_long)
 
 returns-2 : tie.Need-returns-2
 returns-2 c =

@@ -2,7 +2,7 @@
 use native.Mathlib.Omega.{arith}
 use borrow.Author.Rules.{rules}
 use Rattle.files.proofs.Accepted.{files_accepted}
-use Rattle.sheet_turn.proofs.Records.{few_steps, record-answerable, record-right}
+use Rattle.sheet_turn.proofs.Records.{few_steps, record_answerable, record_right}
 use Rattle.sheet_turn.proofs.turn.Statement.{statement}
 use Rattle.sheet_turn.proofs.turn.Tie as tie
 
@@ -15,7 +15,7 @@ answer-requires : tie.Need-answer-requires
 answer-requires c κs =
     let at-stepped = c.before.before.before in
     let start = at-stepped.before.before.before.before.before.before in
-    let p = start.requires in record-answerable _ _ p.0 _ p.1.1.0 at-stepped.stepped.ensures.0
+    let p = start.requires in record_answerable _ _ p.0 _ p.1.1.0 at-stepped.stepped.ensures.0
 
 steps-requires : tie.Need-steps-requires
 steps-requires c κs =
@@ -35,7 +35,7 @@ returns c =
     let start = at-stepped.before.before.before.before.before.before in
     let p = start.requires in
     let h = at-stepped.stepped.ensures in
-    (h.0, (record-right _ _ p.0 _ p.1.1.0 h.0 at-answer.answer.ensures at-steps.steps.ensures c.before.stops.ensures c.verdict_number.ensures, (h.1.0, h.1.1)))
+    (h.0, (record_right _ _ p.0 _ p.1.1.0 h.0 at-answer.answer.ensures at-steps.steps.ensures c.before.stops.ensures c.verdict_number.ensures, (h.1.0, h.1.1)))
 
 pub turn_spec : {M : Type 1} → statement M
 turn_spec =

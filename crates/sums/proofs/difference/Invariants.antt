@@ -1,9 +1,7 @@
 -- `sums::difference` meets its contract. The loop keeps `Differing`: the first i slots hold the row less the target; the later ones are as they were.
 -- A turn stores one difference more.
 -- It ends: the columns that are left fall by one.
-use borrow.Author.Rules.{rules}
 use Prim.Native.Nat.{◌-◌}
-use native.Mathlib.Omega.{arith}
 use Rattle.sums.proofs.Differences.{Differing}
 use Rattle.sums.proofs.difference.Given as goal
 

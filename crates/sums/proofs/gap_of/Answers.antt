@@ -1,6 +1,5 @@
 -- `sums::gap_of` meets its contract.
 use Rattle.sums.proofs.Gaps.{spread_fits, product_fits, gap_fits, gap_cast, gap_result}
-use borrow.Author.Rules.{rules}
 use Rattle.sums.proofs.gap_of.Goals as goal
 
 pub overflow_sub-result : goal.overflow_sub-result

@@ -2,7 +2,6 @@
 -- A turn adds one product of known size.
 -- It ends: the columns that are left fall by one.
 use borrow.Author.Rules.{rules}
-use Prim.Native.Nat.{◌-◌}
 use native.Mathlib.Omega.{arith}
 use Rattle.sums.proofs.Sums.{sum_start, sum_end, sum_more, sum_fits, product_fits, wide_product, entry_cast_fits, entry_cast_read, value_cast_fits, value_cast_read}
 use Rattle.sums.proofs.inner_at.Goals as goal

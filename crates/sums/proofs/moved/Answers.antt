@@ -2,7 +2,6 @@
 -- A turn moves entry j.
 -- It ends: the columns that are left fall by one.
 use borrow.Author.Rules.{rules}
-use Prim.Native.Nat.{◌-◌}
 use native.Mathlib.Omega.{arith}
 use Rattle.sums.proofs.Moves.{move_start, move_end, move_more, difference_fits, change_fits, entry_fits}
 use Rattle.sums.proofs.moved.Goals as goal

@@ -1,9 +1,7 @@
 -- `sums::moved` meets its contract. The loop keeps `Moving`: the first j entries are moved by k times the difference of row and target; the later ones are as they were.
 -- A turn moves entry j.
 -- It ends: the columns that are left fall by one.
-use borrow.Author.Rules.{rules}
 use Prim.Native.Nat.{◌-◌}
-use native.Mathlib.Omega.{arith}
 use Rattle.sums.proofs.Moves.{Moving}
 use Rattle.sums.proofs.moved.Given as goal
 

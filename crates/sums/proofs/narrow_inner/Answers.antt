@@ -1,8 +1,6 @@
 -- `sums::narrow_inner` meets its contract. The loop keeps `Summed`: the accumulator holds the sum over the first i columns, small enough for 32 bits, and the columns that are left add up to the rest.
 -- A turn adds one product of known size.
 -- It ends: the columns that are left fall by one.
-use borrow.Author.Rules.{rules}
-use Prim.Native.Nat.{◌-◌}
 use native.Mathlib.Omega.{arith}
 use Rattle.sums.proofs.Sums.{sum_start, sum_end, sum_more, sum_fits, product_fits, narrow_product, narrow_cast_fits, narrow_cast_read, value_read}
 use Rattle.sums.proofs.narrow_inner.Goals as goal

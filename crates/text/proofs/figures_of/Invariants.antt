@@ -1,5 +1,4 @@
 -- `text::figures_of` meets its contract.
-use borrow.Author.Rules.{rules}
 use Rattle.text.proofs.Texts.{Written}
 use Rattle.text.proofs.figures_of.Given as goal
 

@@ -1,0 +1,12 @@
+-- `derived_files::put_rows` meets its contract. The loop keeps `Rowing`: the rows of the first i boats are written, each column as often as its factor says.
+-- A turn writes the row of boat i behind them by `copy_row`.
+-- It ends: the boats that are left fall by one.
+use Prim.Native.Nat.{◌-◌}
+use Rattle.derived_files.proofs.Rows.{Rowing}
+use Rattle.derived_files.proofs.put_rows.Given as goal
+
+abbrev pub invariant-loop-i : goal.invariant-loop-i
+invariant-loop-i l = Rowing l.initial.output l.book l.places l.i l.output
+
+abbrev pub decreases-loop-i : goal.decreases-loop-i
+decreases-loop-i l = l.boats - l.i

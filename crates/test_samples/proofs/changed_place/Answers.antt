@@ -1,0 +1,12 @@
+-- `test_samples::changed_place` meets its contract.
+use borrow.Author.Tests.{eq-eqb, ne_eqb}
+use Rattle.test_samples.proofs.changed_place.Goals as goal
+
+pub returns-then-kind-eq1 : goal.returns-then-kind-eq1
+returns-then-kind-eq1 c = rw (eq-eqb _ _ c.if-kind-eq1.true) c.less.ensures
+
+pub returns-then-kind-eq2 : goal.returns-then-kind-eq2
+returns-then-kind-eq2 c = rw (ne_eqb _ _ c.if-kind-eq1.false, eq-eqb _ _ c.if-kind-eq2.true) c.less-then-kind-eq2.ensures
+
+pub returns : goal.returns
+returns c = rw (ne_eqb _ _ c.if-kind-eq1.false, ne_eqb _ _ c.if-kind-eq2.false)
