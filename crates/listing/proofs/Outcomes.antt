@@ -22,10 +22,10 @@ use Rattle.text.proofs.Texts.{adds_to_empty, holds_more}
 
 module _ (b s : List ℕ) (ok : files_refusal b s ≡ 0) where
   pub book_length : 12 ≤ length b
-  book_length = (files_accepted b s ok).0.at_least_lem
+  book_length = (files_accepted b s ok).0.at_least
 
   pub sheet_length : 16 ≤ length s
-  sheet_length = (files_accepted b s ok).1.at_least_lem
+  sheet_length = (files_accepted b s ok).1.at_least
 
   pub few_boats : boats b ≤ 256
   few_boats = (files_accepted b s ok).0.most_boats

@@ -153,7 +153,7 @@ module _ (b s : List ℕ) (ok : files_refusal b s ≡ 0) where
     pub turn_answerable : Answerable x.distance x.weight x.target_score x.least s
     turn_answerable =
         let d = answerable (plain_book b s) (plain_sheet s) accepted fixed_sized H few in
-        record { whole = (files_accepted b s ok).1.at_least_lem; sized = d.sized; judged = rw plain_same.same_tolerance at d.judged }
+        record { whole = (files_accepted b s ok).1.at_least; sized = d.sized; judged = rw plain_same.same_tolerance at d.judged }
 
     pub turn_answer : {a : Answer} → a ≡ answer_by Sharper x.steps x.weight (sheet s).tolerance x.distance x.target_score x.least →
         a ≡ answer_at Sharper (problem b s) (suc t) (iterate (problem b s) (suc t))

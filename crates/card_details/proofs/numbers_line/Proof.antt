@@ -28,7 +28,7 @@ answer-of-requires c κs =
 answer-line-requires : tie.Need-answer-line-requires
 answer-line-requires c κs =
     let start = c.before.before.before.before.before.before.before.before in
-    ((files_accepted _ _ start.requires.0).1.at_least_lem, start.requires.1.0.long)
+    ((files_accepted _ _ start.requires.0).1.at_least, start.requires.1.0.long)
 
 returns : tie.Need-returns
 returns c =

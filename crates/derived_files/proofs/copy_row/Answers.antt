@@ -3,7 +3,9 @@
 -- It ends: the places that are left fall by one.
 use native.Mathlib.Omega.{arith}
 use lib.ListN.{length-set}
+use Prim.Native.Nat.{◌-◌}
 use Rattle.derived_files.proofs.Columns.{copy_start, copy_more, copy_end}
+use borrow.Author.Rules.{rules}
 use Rattle.derived_files.proofs.copy_row.Goals as goal
 
 pub loop-k-init : goal.loop-k-init

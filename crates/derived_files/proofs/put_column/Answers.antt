@@ -2,6 +2,7 @@
 -- A turn writes it once more.
 -- It ends: the times that are left fall by one.
 use mathlib.Core.Path.{refl}
+use Prim.Native.Nat.{◌-◌}
 use Rattle.derived_files.proofs.Columns.{fill_start, fill_more, fill_end}
 use borrow.Author.Rules.{rules}
 use Rattle.derived_files.proofs.put_column.Goals as goal

@@ -3,6 +3,7 @@
 -- It ends: the times that are left fall by one.
 use Prim.Native.Nat.{◌-◌}
 use Rattle.derived_files.proofs.Columns.{Filling}
+use borrow.Author.Rules.{rules}
 use Rattle.derived_files.proofs.put_column.Given as goal
 
 abbrev pub invariant-loop-i : goal.invariant-loop-i

@@ -12,7 +12,7 @@ use Rattle.queue_rounds.proofs.serve_all.Tie as tie
 boats-requires : tie.Need-boats-requires
 boats-requires c κs =
     let start = c.before.before.before.before in
-    let p = start.requires in (files_accepted _ _ (p.0.each 0 p.0.some)).0.at_least_lem
+    let p = start.requires in (files_accepted _ _ (p.0.each 0 p.0.some)).0.at_least
 
 clear-parts-requires : tie.Need-clear-parts-requires
 clear-parts-requires c κs =

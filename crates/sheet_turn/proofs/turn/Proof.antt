@@ -20,7 +20,7 @@ answer-requires c κs =
 steps-requires : tie.Need-steps-requires
 steps-requires c κs =
     let start = c.before.before.before.before.before.before.before.before.before.before in
-    (files_accepted _ _ start.requires.0).1.at_least_lem
+    (files_accepted _ _ start.requires.0).1.at_least
 
 cast-t19 : tie.Need-overflow-cast-t19
 cast-t19 c =
