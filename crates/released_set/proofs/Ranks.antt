@@ -5,7 +5,6 @@ use mathlib.Core.List.{List, [], ◌∷◌, ◌++◌}
 use Prim.Native.Nat.{ℕ, zero, suc, ◌+◌, ◌-◌, ◌≤◌, ◌<◌}
 use native.Mathlib.Nat.{zero-add, add-zero}
 use native.Mathlib.Omega.{arith}
-use native.Mathlib.Numerals.{add-one}
 use lib.ListN.{length, get_or, take, drop, set, replicate, length-replicate}
 use lib.Seq.{get_or-drop, length-take-le, get_or-take}
 use Rattle.integers.proofs.Filling.{Filled, filled_start, filled_long, filled_more, filled_end, drop_replicate}

@@ -1,13 +1,13 @@
 -- What the counts of a set's boats, among the book's and past them, say of its refusal.
 use mathlib.Core.Path.{◌≡◌, refl, sym, ◌∙◌}
 use mathlib.Core.Bool.{Bool, true, false, ◌&&◌, cond}
-use Prim.Native.Nat.{ℕ, zero, suc, ◌-◌, ◌≤◌, ◌<◌}
+use Prim.Native.Nat.{ℕ, zero, suc, ◌-◌, ◌<◌}
 use native.Mathlib.Omega.{arith}
 use borrow.Author.Tests.{lt-ltb, ne_eqb}
 use lib.Dec.{eqb, ltb}
 use lib.ListN.{length}
 use Rattle.method.specs.declared.Released.{Released}
-use Rattle.method.specs.ReleasedBoats.{Usable, only, usable, used_from, set_refusal}
+use Rattle.method.specs.ReleasedBoats.{Usable, usable, used_from, set_refusal}
 
 module _ (set : Released) (boats : ℕ) where
   abbrev u : Usable

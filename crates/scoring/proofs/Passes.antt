@@ -9,8 +9,6 @@ use native.Mathlib.Numerals.{add-one}
 use lib.IntN.{ℤ, pos}
 use lib.Signed.{lt_z}
 use lib.ListN.{length, get_or, drop, set}
-use mir.Syntax.{Width}
-use mir.Val.{to_z}
 use Rattle.integers.proofs.Filling.{Filled, filled_start, filled_long, filled_more, filled_end}
 use Rattle.files.specs.Bytes.{values}
 use Rattle.files.specs.Book.{rows_from}
@@ -30,9 +28,9 @@ module _ (g : List ℤ) (bs : List ℕ) (at n c : ℕ) where
   all = scores (ones c) g (rows_from n c (drop at bs))
 
   -- row i stands at p, and the boat of least score so far is known
-  pub record Passed (w : Width) (best bits p i : ℕ) : Type 0 where
+  pub record Passed (best : ℕ) (low : ℤ) (p i : ℕ) : Type 0 where
     pub long : length g ≡ c
-    pub ahead : Ahead w all best bits i
+    pub ahead : Ahead all best low i
     pub place : p ≡ at + 2 * (i * c)
 
   -- row i stands at p, and the scores of the rows before it are stored
@@ -64,7 +62,7 @@ module _ {bs : List ℕ} {at n c : ℕ} (gr : Grid bs at n c) where
 
   -- ---- The least score
 
-  pub passed_start : {g : List ℤ} → length g ≡ c → {w : Width} {s : ℤ} {bits : ℕ} → s ≡ inner g (values c (drop at bs)) → to_z w bits ≡ s → Passed g bs at n c w 0 bits (at + 2 * c) 1
+  pub passed_start : {g : List ℤ} → length g ≡ c → {s low : ℤ} → s ≡ inner g (values c (drop at bs)) → low ≡ s → Passed g bs at n c 0 low (at + 2 * c) 1
   passed_start {g} l es e =
       record {
         long = l;
@@ -72,15 +70,15 @@ module _ {bs : List ℕ} {at n c : ℕ} (gr : Grid bs at n c) where
         place = omega (arith, one-mul c);
       }
 
-  module _ {g : List ℤ} {w : Width} {best bits p i : ℕ} (d : Passed g bs at n c w best bits p i) where
+  module _ {g : List ℤ} {best : ℕ} {low : ℤ} {p i : ℕ} (d : Passed g bs at n c best low p i) where
     module _ (h : i < n) {s : ℤ} (es : s ≡ inner g (values c (drop p bs))) where
-      pub passed_better : {bits' : ℕ} → to_z w bits' ≡ s → lt_z s (to_z w bits) ≡ true → Passed g bs at n c w i bits' (p + 2 * c) (i + 1)
+      pub passed_better : {low' : ℤ} → low' ≡ s → lt_z s low ≡ true → Passed g bs at n c i low' (p + 2 * c) (i + 1)
       passed_better e t = record { long = d.long; ahead = ahead_better d.ahead (rw (count g) h) (score_there h d.place g d.long es) e t; place = next_place h d.place }
 
-      pub passed_same : lt_z s (to_z w bits) ≡ false → Passed g bs at n c w best bits (p + 2 * c) (i + 1)
+      pub passed_same : lt_z s low ≡ false → Passed g bs at n c best low (p + 2 * c) (i + 1)
       passed_same t = record { long = d.long; ahead = ahead_same d.ahead (rw (count g) h) (score_there h d.place g d.long es) t; place = next_place h d.place }
 
-    pub passed_end : n ≤ i → {z : ℤ} → z ≡ to_z w bits → ◌≡◌ {A = Least} (record { boat = best; score = z }) (least_of (all g bs at n c))
+    pub passed_end : n ≤ i → {z : ℤ} → z ≡ low → ◌≡◌ {A = Least} (record { boat = best; score = z }) (least_of (all g bs at n c))
     passed_end h ez = ahead_end d.ahead (rw (count g) h) ez
 
   -- ---- All scores

@@ -78,9 +78,9 @@ entry_moved (a ∷ x) (b ∷ y) k zero e h = refl
 entry_moved (a ∷ x) (b ∷ y) k (suc i) e h = entry_moved x y k i (omega arith) (omega arith)
 
 -- in a loop the first i of n scores are moved, and the least of them is known
-abbrev pub Rescored : (old : List ℤ) → (k : ℕ) → (products : List ℤ) → (n best bits i : ℕ) → (new : List ℤ) → Type 0
-Rescored old k products n best bits i new =
-    Filled old (add (take n old) (scale k (take n products))) i new × Ahead w64 (add (take n old) (scale k (take n products))) best bits i
+abbrev pub Rescored : (old : List ℤ) → (k : ℕ) → (products : List ℤ) → (n best : ℕ) → (low : ℤ) → (i : ℕ) → (new : List ℤ) → Type 0
+Rescored old k products n best low i new =
+    Filled old (add (take n old) (scale k (take n products))) i new × Ahead (add (take n old) (scale k (take n products))) best low i
 
 module _ {old : List ℤ} {k : ℕ} {products : List ℤ} {n : ℕ} (z : Rescorable old k products n) where
   -- the scores moved
@@ -103,7 +103,7 @@ module _ {old : List ℤ} {k : ℕ} {products : List ℤ} {n : ℕ} (z : Rescora
 
   -- ---- The loop
 
-  pub rescored_long : {best bits i : ℕ} {new : List ℤ} → Rescored old k products n best bits i new → length new ≡ length old
+  pub rescored_long : {best : ℕ} {low : ℤ} {i : ℕ} {new : List ℤ} → Rescored old k products n best low i new → length new ≡ length old
   rescored_long r = filled_long r.0 (rw count z.in_scores)
 
   -- a score that is not moved yet, with its product, keeps to the machine's numbers
@@ -113,21 +113,21 @@ module _ {old : List ℤ} {k : ℕ} {products : List ℤ} {n : ℕ} (z : Rescora
   score_there : {i : ℕ} {new : List ℤ} → Filled old moved i new → i < n → {s : ℤ} → s ≡ get_or new i (pos 0) +ℤ pos k *ℤ get_or products i (pos 0) → s ≡ get_or moved i (pos 0)
   score_there {i} f h es = es ∙ rw (filled_later f (rw count z.in_scores) (pos 0) i (omega arith)) (sym (moved_at i h))
 
-  pub rescored_start : {bits : ℕ} {s : ℤ} → s ≡ get_or old 0 (pos 0) +ℤ pos k *ℤ get_or products 0 (pos 0) → to_z w64 bits ≡ s → Rescored old k products n 0 bits 0 old
+  pub rescored_start : {low s : ℤ} → s ≡ get_or old 0 (pos 0) +ℤ pos k *ℤ get_or products 0 (pos 0) → low ≡ s → Rescored old k products n 0 low 0 old
   rescored_start es e =
       let f : Filled old moved 0 old = filled_start in
       (f, ahead_first (rw count z.some_boats) (e ∙ score_there f z.some_boats es))
 
-  module _ {best bits i : ℕ} {new : List ℤ} (r : Rescored old k products n best bits i new) where
+  module _ {best : ℕ} {low : ℤ} {i : ℕ} {new : List ℤ} (r : Rescored old k products n best low i new) where
     module _ (h : i < n) {s x : ℤ} (es : s ≡ get_or new i (pos 0) +ℤ pos k *ℤ get_or products i (pos 0)) (ex : x ≡ s) where
       stored : Filled old moved (i + 1) (set new i x)
       stored = filled_more r.0 (rw count z.in_scores) (pos 0) (rw count h) (ex ∙ score_there r.0 h es)
 
-      pub rescored_better : {bits' : ℕ} → to_z w64 bits' ≡ s → lt_z s (to_z w64 bits) ≡ true → Rescored old k products n i bits' (i + 1) (set new i x)
+      pub rescored_better : {low' : ℤ} → low' ≡ s → lt_z s low ≡ true → Rescored old k products n i low' (i + 1) (set new i x)
       rescored_better e t = (stored, ahead_better r.1 (rw count h) (score_there r.0 h es) e t)
 
-      pub rescored_same : lt_z s (to_z w64 bits) ≡ false → Rescored old k products n best bits (i + 1) (set new i x)
+      pub rescored_same : lt_z s low ≡ false → Rescored old k products n best low (i + 1) (set new i x)
       rescored_same t = (stored, ahead_same r.1 (rw count h) (score_there r.0 h es) t)
 
-    pub rescored_end : n ≤ i → (◌≡◌ {A = Least} (record { boat = best; score = to_z w64 bits }) (least_of moved)) × (new ≡ moved ++ drop n old)
+    pub rescored_end : n ≤ i → (◌≡◌ {A = Least} (record { boat = best; score = low }) (least_of moved)) × (new ≡ moved ++ drop n old)
     rescored_end h = (ahead_end r.1 (rw count h) refl, (let f = filled_end r.0 (rw count h) in rw count at f))

@@ -7,7 +7,7 @@ pub answer_listing-requires : goal.answer_listing-requires
 answer_listing-requires c = search (rules, listable_files)
 
 pub returns-in-Refused : goal.returns-in-Refused
-returns-in-Refused c = refusal_listed _ _ _ _ c.outcome-1.given.1 c.refused_listing.ensures
+returns-in-Refused c = refusal_listed _ _ _ _ c.in-Refused.is c.refused_listing.ensures
 
 pub returns-in-Answered : goal.returns-in-Answered
-returns-in-Answered c = outcome_listed _ _ _ _ c.outcome-in-Answered-1.given.1 c.answer_listing.ensures
+returns-in-Answered c = outcome_listed _ _ _ _ c.in-Answered.is c.answer_listing.ensures

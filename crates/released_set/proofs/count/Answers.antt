@@ -1,11 +1,10 @@
 -- `released_set::count` meets its contract; `Inv-loop` is what its loop keeps.
 use mathlib.Core.Path.{◌≡◌, sym, ◌∙◌}
-use mathlib.Core.Logic.{⊎_elim}
-use Prim.Native.Nat.{◌-◌}
 use native.Mathlib.Omega.{arith}
 use borrow.Author.Rules.{rules}
 use Rattle.released_set.proofs.Ranks.{counted_start, counted_used, counted_other, counted_few}
 use Rattle.released_set.proofs.count.Goals as goal
+use Rattle.released_set.proofs.count.Goals.{then-may_use, else-may_use}
 
 pub loop-i-init : goal.loop-i-init
 loop-i-init c = (search rules, counted_start)
@@ -17,8 +16,7 @@ pub loop-i-preserved : goal.loop-i-preserved
 loop-i-preserved c =
     let inv = c.loop-i.invariant.1 in (
       search rules,
-      ⊎_elim (λ w. rw w.1 (counted_used inv (sym w.0.taken ∙ c.may_use.ensures)))
-          (λ w. rw w.1 (counted_other inv (sym w.0.left ∙ c.may_use.ensures))) c.if-may_use.branch,
+      elim c.if-may_use.branch [ then-may_use w ↦ rw w.n-is (counted_used inv (sym w.if-may_use.true ∙ c.may_use.ensures)) | else-may_use w ↦ rw w.n-is (counted_other inv (sym w.if-may_use.false ∙ c.may_use.ensures)) ],
     )
 
 pub returns : goal.returns

@@ -1,7 +1,5 @@
 -- `released_set::count` meets its contract; `Inv-loop` is what its loop keeps.
 use Prim.Native.Nat.{◌-◌, ◌≤◌}
-use native.Mathlib.Omega.{arith}
-use borrow.Author.Rules.{rules}
 use Rattle.method.specs.ReleasedBoats.{usable}
 use Rattle.released_set.proofs.Ranks.{Counted}
 use Rattle.released_set.proofs.count.Given as goal

@@ -2,13 +2,12 @@
 -- A turn takes the share of boat i where the boat may be used.
 -- It ends: the boats that are left fall by one.
 use mathlib.Core.Path.{◌≡◌, sym, ◌∙◌}
-use mathlib.Core.Logic.{⊎_elim}
-use Prim.Native.Nat.{◌-◌}
 use lib.ListN.{length}
 use native.Mathlib.Omega.{arith}
 use borrow.Author.Rules.{rules}
 use Rattle.released_set.proofs.Ranks.{counted_few, gathering_start, gathering_used, gathering_other, gathering_end}
 use Rattle.released_set.proofs.gather.Goals as goal
+use Rattle.released_set.proofs.gather.Goals.{then-may_use, else-may_use}
 
 pub loop-i-init : goal.loop-i-init
 loop-i-init c = (search rules, gathering_start _ _ _ c.requires (search rules))
@@ -27,8 +26,7 @@ loop-i-preserved c =
     let l : length c.args.shares ≡ 256 = search rules in
     let inv = c.loop-i.invariant.1 in (
       search rules,
-      ⊎_elim (λ w. rw (w.1, w.2) (gathering_used _ _ _ c.requires l inv c.loop-i-test.true (sym w.0.taken ∙ c.may_use.ensures)))
-          (λ w. rw (w.1, w.2) (gathering_other _ _ _ c.requires l inv (sym w.0.left ∙ c.may_use.ensures))) c.if-may_use.branch,
+      elim c.if-may_use.branch [ then-may_use w ↦ rw (w.own-is, w.next-is) (gathering_used _ _ _ c.requires l inv c.loop-i-test.true (sym w.if-may_use.true ∙ c.may_use.ensures)) | else-may_use w ↦ rw (w.own-is, w.next-is) (gathering_other _ _ _ c.requires l inv (sym w.if-may_use.false ∙ c.may_use.ensures)) ],
     )
 
 pub returns : goal.returns

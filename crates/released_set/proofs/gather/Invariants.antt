@@ -2,8 +2,6 @@
 -- A turn takes the share of boat i where the boat may be used.
 -- It ends: the boats that are left fall by one.
 use Prim.Native.Nat.{◌-◌, ◌≤◌}
-use native.Mathlib.Omega.{arith}
-use borrow.Author.Rules.{rules}
 use Rattle.method.specs.ReleasedBoats.{usable}
 use Rattle.released_set.proofs.Ranks.{Gathering}
 use Rattle.released_set.proofs.gather.Given as goal

@@ -1,7 +1,6 @@
 -- `released_set::may_use` meets its contract.
 use borrow.Author.Tests.{not-true, not-false}
 use Rattle.method.specs.ReleasedBoats.{may_use}
-use borrow.Author.Rules.{rules}
 use Rattle.released_set.proofs.may_use.Goals as goal
 
 pub returns-then-not-set : goal.returns-then-not-set

@@ -2,12 +2,11 @@
 -- A turn gives slot i the next share where the boat may be used, else 0.
 -- It ends: the boats that are left fall by one.
 use mathlib.Core.Path.{sym, ◌∙◌}
-use mathlib.Core.Logic.{⊎_elim}
-use Prim.Native.Nat.{◌-◌}
 use native.Mathlib.Omega.{arith}
 use borrow.Author.Rules.{rules}
 use Rattle.released_set.proofs.Ranks.{counted_used, counted_other, counted_few, scattering_start, scattering_long, scattering_more, scattering_end}
 use Rattle.released_set.proofs.scatter.Goals as goal
+use Rattle.released_set.proofs.scatter.Goals.{then-used, else-used}
 
 pub loop-i-init : goal.loop-i-init
 loop-i-init c = (search rules, scattering_start)
@@ -26,8 +25,7 @@ loop-i-preserved c =
     let inv = c.loop-i.invariant.1 in
     let more = scattering_more inv c.requires.boats_in_bounds.1 c.loop-i-test.true c.may_use-used.ensures c.share_of.ensures in (
       search rules,
-      more (⊎_elim (λ w. rw w.1 (counted_used inv.counted (sym w.0.taken ∙ c.may_use-used.ensures)))
-          (λ w. rw w.1 (counted_other inv.counted (sym w.0.left ∙ c.may_use-used.ensures))) c.if-used.branch),
+      more (elim c.if-used.branch [ then-used w ↦ rw w.next-is (counted_used inv.counted (sym w.if-used.true ∙ c.may_use-used.ensures)) | else-used w ↦ rw w.next-is (counted_other inv.counted (sym w.if-used.false ∙ c.may_use-used.ensures)) ]),
     )
 
 pub shape_of-slots : goal.shape_of-slots

@@ -2,8 +2,6 @@
 -- A turn gives slot i the next share where the boat may be used, else 0.
 -- It ends: the boats that are left fall by one.
 use Prim.Native.Nat.{◌-◌, ◌≤◌}
-use native.Mathlib.Omega.{arith}
-use borrow.Author.Rules.{rules}
 use Rattle.method.specs.ReleasedBoats.{usable}
 use Rattle.released_set.proofs.Ranks.{Scattering}
 use Rattle.released_set.proofs.scatter.Given as goal

@@ -2,7 +2,6 @@
 use mathlib.Core.Path.{sym}
 use borrow.Author.Tests.{not-true, not-false}
 use Rattle.released_set.proofs.Refusing.{unlimited_refusal, none_refused, past_refused, set_serves}
-use borrow.Author.Rules.{rules}
 use Rattle.released_set.proofs.set_refusal.Goals as goal
 
 pub returns-then-not-set : goal.returns-then-not-set

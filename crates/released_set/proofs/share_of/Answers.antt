@@ -1,5 +1,4 @@
 -- `released_set::share_of` meets its contract.
-use borrow.Author.Rules.{rules}
 use Rattle.released_set.proofs.share_of.Goals as goal
 
 pub returns-then-used : goal.returns-then-used

@@ -1,12 +1,10 @@
 -- `scoring::least_product` meets its contract. The loop keeps `Scanned`: the least of the first i products and its boat are known, and it keeps to 32 bits.
 -- A turn looks at product i and keeps it where it is below the least so far.
 -- It ends: the boats that are left fall by one.
-use borrow.Author.Rules.{rules}
-use mathlib.Core.Logic.{⊎_elim}
 use mir.Facts.{to_z-of_z}
-use Prim.Native.Nat.{◌-◌}
 use native.Mathlib.Omega.{arith}
 use Rattle.scoring.proofs.ProductScan.{scanned_start, scanned_better, scanned_same, scanned_end, least_fits}
+use Rattle.scoring.proofs.least_product.Goals.{then-product-least, else-product-least}
 use Rattle.scoring.proofs.least_product.Goals as goal
 
 pub bounds-products-0 : goal.bounds-products-0
@@ -22,10 +20,10 @@ pub loop-i-preserved : goal.loop-i-preserved
 loop-i-preserved c =
     let d = c.loop-i.invariant in
     let h = c.loop-i-test.true in
-    ⊎_elim
-    (λ w. rw (w.1, w.2) (scanned_better c.requires.1 d h w.0.taken))
-    (λ w. rw (w.1, w.2) (scanned_same c.requires.1 d h w.0.left))
-    c.if-product-least.branch
+    elim c.if-product-least.branch [
+      | then-product-least w ↦ rw (w.boat-is, w.least-is) (scanned_better c.requires.1 d h w.if-product-least.true)
+      | else-product-least w ↦ rw (w.boat-is, w.least-is) (scanned_same c.requires.1 d h w.if-product-least.false)
+    ]
 
 pub overflow_cast-result : goal.overflow_cast-result
 overflow_cast-result c = least_fits c.requires.1 c.loop-i.invariant

@@ -1,6 +1,5 @@
 -- `scoring::moved_score` meets its contract.
 use Rattle.scoring.proofs.Rescores.{product_cast, change_fits, score_fits, score_read}
-use borrow.Author.Rules.{rules}
 use Rattle.scoring.proofs.moved_score.Goals as goal
 
 pub overflow_cast-result-2 : goal.overflow_cast-result-2

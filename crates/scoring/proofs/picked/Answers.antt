@@ -1,13 +1,12 @@
 -- `scoring::picked` meets its contract. The loop keeps `Looking`: no boat before i both holds shares and has the least score, so the boats from i on decide the pick.
 -- A turn looks at one boat: one that holds shares and has the least score is the pick, any other leaves the answer to those behind it.
 -- It ends: the boats that are left fall by one.
-use Prim.Native.Nat.{◌-◌}
 use native.Mathlib.Omega.{arith}
-use mathlib.Core.Logic.{⊎_elim}
 use mir.Syntax.{w64}
 use mir.Facts.{to_z-of_z}
 use borrow.Author.Rules.{rules}
 use Rattle.scoring.proofs.Picking.{boat_below, picks_holding, looking_start, looking_idle, looking_above, picks_found, picks_none, score_read}
+use Rattle.scoring.proofs.picked.Goals.{then-shares-i-ne0+else-scores-i, else-shares-i-ne0}
 use Rattle.scoring.proofs.picked.Goals as goal
 
 pub offset_bounds-shares-boat : goal.offset_bounds-shares-boat
@@ -40,11 +39,11 @@ returns-then-scores-i c =
 pub loop-i-preserved : goal.loop-i-preserved
 loop-i-preserved c =
     let h = c.loop-i-test.true in
-    let f = to_z-of_z {w = w64} {z = c.args.least.score} (search (rules, c.struct_told-1.given)) in
-    ⊎_elim
-    (λ w. looking_above c.requires.pickable c.requires.least_value c.loop-i.invariant h w.0.taken (rw (score_read c.requires.pickable _ h, f) at w.2.left))
-    (λ w. looking_idle c.requires.pickable c.requires.least_value c.loop-i.invariant h w.left)
-    c.if-shares-i-ne0.branch
+    let f = to_z-of_z {w = w64} {z = c.args.least.score} (search (rules, c.type_inv.least)) in
+    elim c.if-shares-i-ne0.branch [
+      | then-shares-i-ne0+else-scores-i w ↦ looking_above c.requires.pickable c.requires.least_value c.loop-i.invariant h w.if-shares-i-ne0.true (rw (score_read c.requires.pickable _ h, f) at w.if-scores-i.false)
+      | else-shares-i-ne0 w ↦ looking_idle c.requires.pickable c.requires.least_value c.loop-i.invariant h w.if-shares-i-ne0.false
+    ]
 
 pub returns : goal.returns
 returns c = picks_none c.requires.pickable c.requires.least_value c.loop-i.invariant c.loop-i-test.false

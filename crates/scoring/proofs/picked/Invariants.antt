@@ -2,8 +2,6 @@
 -- A turn looks at one boat: one that holds shares and has the least score is the pick, any other leaves the answer to those behind it.
 -- It ends: the boats that are left fall by one.
 use Prim.Native.Nat.{◌-◌}
-use native.Mathlib.Omega.{arith}
-use borrow.Author.Rules.{rules}
 use Rattle.scoring.proofs.Picking.{Looking}
 use Rattle.scoring.proofs.picked.Given as goal
 

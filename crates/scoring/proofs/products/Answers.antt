@@ -1,13 +1,12 @@
 -- `scoring::products` meets its contract. The loop keeps `Stored`: row i starts at the place kept, and the products of the rows before it are in the first i slots.
 -- A turn stores the product with row i.
 -- It ends: the boats that are left fall by one.
-use borrow.Author.Rules.{rules, sfits_of}
-use Prim.Native.Nat.{◌-◌}
+use borrow.Author.Rules.{sfits_of}
 use lib.Seq.{length-take-le}
 use native.Mathlib.Omega.{arith}
 use mir.Facts.{to_z-of_z}
 use Rattle.scoring.proofs.Passes.{row_span, row_range, stored_start, stored_more, stored_end, stored_long}
-use mir.Syntax.{w64}
+use mir.Syntax.{w32}
 use Rattle.scoring.proofs.products.Goals as goal
 
 pub loop-i-init : goal.loop-i-init
@@ -23,7 +22,7 @@ pub overflow_add-row : goal.overflow_add-row
 overflow_add-row c = omega (arith, row_span c.requires.grid c.loop-i-test.true c.loop-i.invariant.place)
 
 pub loop-i-preserved : goal.loop-i-preserved
-loop-i-preserved c = stored_more c.requires.grid c.loop-i.invariant c.requires.boats_in_bounds c.loop-i-test.true c.padded_inner.ensures (to_z-of_z {w = w64} (sfits_of c.padded_inner.type_inv))
+loop-i-preserved c = stored_more c.requires.grid c.loop-i.invariant c.requires.boats_in_bounds c.loop-i-test.true c.padded_inner.ensures (to_z-of_z {w = w32} {z = c.padded_inner.result} (sfits_of c.padded_inner.type_inv))
 
 pub shape_of-to : goal.shape_of-to
 shape_of-to c = stored_long c.requires.grid c.loop-i.invariant c.requires.boats_in_bounds

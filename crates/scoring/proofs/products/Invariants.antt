@@ -1,10 +1,8 @@
 -- `scoring::products` meets its contract. The loop keeps `Stored`: row i starts at the place kept, and the products of the rows before it are in the first i slots.
 -- A turn stores the product with row i.
 -- It ends: the boats that are left fall by one.
-use borrow.Author.Rules.{rules}
 use Prim.Native.Nat.{◌-◌}
 use lib.ListN.{take}
-use native.Mathlib.Omega.{arith}
 use Rattle.scoring.proofs.Passes.{Stored}
 use Rattle.scoring.proofs.products.Given as goal
 

@@ -1,9 +1,7 @@
 -- `scoring::rescored` meets its contract. The loop keeps `Rescored`: the first i scores are moved by k times their products, and the least of these and its boat are known.
 -- A turn moves score i and keeps it where it is below the least so far.
 -- It ends: the boats that are left fall by one.
-use borrow.Author.Rules.{rules}
 use Prim.Native.Nat.{◌-◌}
-use native.Mathlib.Omega.{arith}
 use Rattle.scoring.proofs.Rescores.{Rescored}
 use Rattle.scoring.proofs.rescored.Given as goal
 

@@ -1,0 +1,15 @@
+-- `csv_fleet_reader::read_fleet` meets its contract. The loop keeps `Reading`: table, line and values, followed through the bytes that are left, end as the definitions say, and the first n values are put.
+-- A turn reads one byte to a token, puts the value that the token ends, if any, and moves table and line by it.
+-- It ends: the bytes that are left fall by one.
+use borrow.Author.Rules.{rules}
+use native.Mathlib.Omega.{arith}
+use Prim.Native.Nat.{◌-◌}
+use lib.ListN.{length}
+use Rattle.csv_fleet_reader.proofs.Reading.{Reading}
+use Rattle.csv_fleet_reader.proofs.read_fleet.Given as goal
+
+abbrev pub invariant-loop-i : goal.invariant-loop-i
+invariant-loop-i l = Reading l.csv l.initial.rows l.separator l.table l.mode l.line l.n l.i l.rows
+
+abbrev pub decreases-loop-i : goal.decreases-loop-i
+decreases-loop-i l = length l.csv - l.i

@@ -1,0 +1,12 @@
+-- `exported_queue::store` meets its contract. The loop keeps the queue with its first i records replaced. A turn writes one record.
+-- It ends: the records that are left fall by one.
+use Prim.Native.Nat.{◌-◌, ◌≤◌}
+use mathlib.Core.Path.{◌≡◌}
+use Rattle.exported_queue.specs.Lists.{stored}
+use Rattle.exported_queue.proofs.store.Given as goal
+
+abbrev pub invariant-loop-i : goal.invariant-loop-i
+invariant-loop-i l = (l.i ≤ l.count) × (l.queue ≡ stored l.initial.queue l.outcome l.i)
+
+abbrev pub decreases-loop-i : goal.decreases-loop-i
+decreases-loop-i l = l.count - l.i
