@@ -1,6 +1,6 @@
 // Cards for C, written, checked, chosen and worked over: the functions of exported_cards under their C names, with the same contracts.
 //
-// Entries, which ask nothing of their caller: dofitrano_check_card, dofitrano_write_card, dofitrano_check_card_with, dofitrano_write_card_with, dofitrano_better_card, dofitrano_work_over.
+// Exports, which ask nothing of their caller: dofitrano_check_card, dofitrano_write_card, dofitrano_check_card_with, dofitrano_write_card_with, dofitrano_better_card, dofitrano_work_over.
 // A slice passes as a pointer and a length; include/dofitrano.h declares the functions and says what a caller in another language must see to.
 #![tactic(auto)]
 
@@ -23,7 +23,7 @@ use better_card_promise::Choice;
 use exported_types::{CardReply, Reply};
 use method::Released;
 
-// ENTRY. The card check for other languages: the reply of `check_card` for these files and this share list, and its slots afterwards.
+// The card check for other languages: the reply of `check_card` for these files and this share list, and its slots afterwards.
 #[unsafe(no_mangle)]
 pub extern "C" fn dofitrano_check_card(
     book: &[u8],
@@ -38,7 +38,7 @@ pub extern "C" fn dofitrano_check_card(
     exported_cards::dofitrano_check_card(book, sheet, card, shares)
 }
 
-// ENTRY. The card writer for other languages: the reply of `write_card` for these files and this buffer, and its bytes afterwards.
+// The card writer for other languages: the reply of `write_card` for these files and this buffer, and its bytes afterwards.
 #[unsafe(no_mangle)]
 pub extern "C" fn dofitrano_write_card(book: &[u8], sheet: &[u8], output: &mut [u8]) -> CardReply
     ensures value { result ≡ card_reply_of (filing (write_refusal book.now sheet.now (length output.old)) (run_answer (problem book.now sheet.now)) (length (run_card book.now sheet.now))) }
@@ -48,7 +48,7 @@ pub extern "C" fn dofitrano_write_card(book: &[u8], sheet: &[u8], output: &mut [
     exported_cards::dofitrano_write_card(book, sheet, output)
 }
 
-// ENTRY. The card check with a released set and a lent table for other languages: the reply of `check_card_with`, and the share list's slots afterwards.
+// The card check with a released set and a lent table for other languages: the reply of `check_card_with`, and the share list's slots afterwards.
 #[unsafe(no_mangle)]
 pub extern "C" fn dofitrano_check_card_with(
     book: &[u8],
@@ -67,7 +67,7 @@ pub extern "C" fn dofitrano_check_card_with(
     exported_cards::dofitrano_check_card_with(book, sheet, released, lent, table, card, shares)
 }
 
-// ENTRY. The card writer with a released set and a lent table for other languages: the reply of `write_card_with`, and the buffer's bytes afterwards.
+// The card writer with a released set and a lent table for other languages: the reply of `write_card_with`, and the buffer's bytes afterwards.
 #[unsafe(no_mangle)]
 pub extern "C" fn dofitrano_write_card_with(
     book: &[u8],
@@ -85,7 +85,7 @@ pub extern "C" fn dofitrano_write_card_with(
     exported_cards::dofitrano_write_card_with(book, sheet, released, lent, table, output)
 }
 
-// ENTRY. The better of two cards for other languages: which card, offset and length of its body and trailer, or the refusal, as `choose`
+// The better of two cards for other languages: which card, offset and length of its body and trailer, or the refusal, as `choose`
 // gives them.
 #[unsafe(no_mangle)]
 pub extern "C" fn dofitrano_better_card(
@@ -101,7 +101,7 @@ pub extern "C" fn dofitrano_better_card(
     exported_cards::dofitrano_better_card(book, sheet, first, second)
 }
 
-// ENTRY. A Spent search worked over and filed for other languages: the reply of `work_over`, and the buffer's bytes afterwards.
+// A Spent search worked over and filed for other languages: the reply of `work_over`, and the buffer's bytes afterwards.
 #[unsafe(no_mangle)]
 pub extern "C" fn dofitrano_work_over(
     book: &[u8],

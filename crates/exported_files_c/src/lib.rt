@@ -1,6 +1,6 @@
 // Files made from scale cells, sheets and books for C: the functions of exported_files under their C names, with the same contracts.
 //
-// Entries, which ask nothing of their caller: dofitrano_sheet_values, dofitrano_scale_sheet, dofitrano_other_edition, dofitrano_merge_books.
+// Exports, which ask nothing of their caller: dofitrano_sheet_values, dofitrano_scale_sheet, dofitrano_other_edition, dofitrano_merge_books.
 // A slice passes as a pointer and a length; include/dofitrano.h declares the functions and says what a caller in another language must see to.
 #![tactic(auto)]
 
@@ -22,7 +22,7 @@ use merged_book::Merged;
 use scale_cells::SheetValues;
 use scale_sheet::ScaleSheet;
 
-// ENTRY. The sheet values of scale cells for other languages: those of `sheet_values` for the cells of four lists.
+// The sheet values of scale cells for other languages: those of `sheet_values` for the cells of four lists.
 #[unsafe(no_mangle)]
 pub extern "C" fn dofitrano_sheet_values(
     book: &[u8],
@@ -37,7 +37,7 @@ pub extern "C" fn dofitrano_sheet_values(
     exported_files::dofitrano_sheet_values(book, kinds, first, second, units)
 }
 
-// ENTRY. The sheet of scale cells for other languages: that of `scale_sheet` for the cells of four lists.
+// The sheet of scale cells for other languages: that of `scale_sheet` for the cells of four lists.
 #[unsafe(no_mangle)]
 pub extern "C" fn dofitrano_scale_sheet(
     book: &[u8],
@@ -54,7 +54,7 @@ pub extern "C" fn dofitrano_scale_sheet(
     exported_files::dofitrano_scale_sheet(book, kinds, first, second, units, steps, tolerance)
 }
 
-// ENTRY. A sheet in its other edition for other languages: the reply of `other_edition` for this sheet and this output, and its bytes
+// A sheet in its other edition for other languages: the reply of `other_edition` for this sheet and this output, and its bytes
 // afterwards.
 #[unsafe(no_mangle)]
 pub extern "C" fn dofitrano_other_edition(sheet: &[u8], output: &mut [u8]) -> EditionReply
@@ -65,7 +65,7 @@ pub extern "C" fn dofitrano_other_edition(sheet: &[u8], output: &mut [u8]) -> Ed
     exported_files::dofitrano_other_edition(sheet, output)
 }
 
-// ENTRY. One fleet book from two for other languages: what `merge_books` gives back for these books and this buffer, and its bytes
+// One fleet book from two for other languages: what `merge_books` gives back for these books and this buffer, and its bytes
 // afterwards.
 #[unsafe(no_mangle)]
 pub extern "C" fn dofitrano_merge_books(first: &[u8], second: &[u8], output: &mut [u8]) -> Merged

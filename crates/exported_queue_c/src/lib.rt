@@ -1,6 +1,6 @@
 // The queue of sheets for C: the function of exported_queue under its C name, with the same contract.
 //
-// Entry, which asks nothing of its caller: dofitrano_run_queue.
+// Export, which asks nothing of its caller: dofitrano_run_queue.
 // A slice passes as a pointer and a length; include/dofitrano.h declares the functions and says what a caller in another language must see to.
 #![tactic(auto)]
 
@@ -10,7 +10,7 @@ ghost use Rattle.sheet_queue.specs.Promise.{QueueRight};
 
 use sheet_queue::SheetRecord;
 
-// ENTRY. The sheets of a queue, which stand back to back in one buffer, run on one allowance of steps: in each round every unfinished sheet,
+// The sheets of a queue, which stand back to back in one buffer, run on one allowance of steps: in each round every unfinished sheet,
 // in queue order, takes one step, until all have a verdict or the allowance is gone. Refuses the book (1 to 6), sheets that are not 1 to 16
 // or whose lengths do not total the buffer (44), an allowance below the number of sheets or above 5,760 (45), then the sheets one after the
 // other (11 to 17, 46), and fewer than 256 slots a sheet (21), and leaves every record and slot as it was; else gives 0, writes each record

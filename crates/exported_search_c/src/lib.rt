@@ -1,6 +1,6 @@
 // The search and its listing for C: the functions of exported_search under their C names, with the same contracts.
 //
-// Entries, which ask nothing of their caller: dofitrano_search, dofitrano_search_with, dofitrano_listing.
+// Exports, which ask nothing of their caller: dofitrano_search, dofitrano_search_with, dofitrano_listing.
 // A slice passes as a pointer and a length; include/dofitrano.h declares the functions and says what a caller in another language must see to.
 #![tactic(auto)]
 
@@ -17,7 +17,7 @@ ghost use Rattle.text.specs.Texts.{text_limit};
 use exported_types::Reply;
 use method::Released;
 
-// ENTRY. The search for other languages: the reply of `search` for these files and this share list, and its slots afterwards.
+// The search for other languages: the reply of `search` for these files and this share list, and its slots afterwards.
 #[unsafe(no_mangle)]
 pub extern "C" fn dofitrano_search(book: &[u8], sheet: &[u8], shares: &mut [u16]) -> Reply
     ensures value { result ≡ reply_of (outcome (search_refusal book.now sheet.now (length shares.old)) (run_answer (problem book.now sheet.now))) }
@@ -27,7 +27,7 @@ pub extern "C" fn dofitrano_search(book: &[u8], sheet: &[u8], shares: &mut [u16]
     exported_search::dofitrano_search(book, sheet, shares)
 }
 
-// ENTRY. The search with a released set and a lent table for other languages: the reply of `search_with`, and the share list's slots afterwards.
+// The search with a released set and a lent table for other languages: the reply of `search_with`, and the share list's slots afterwards.
 #[unsafe(no_mangle)]
 pub extern "C" fn dofitrano_search_with(
     book: &[u8],
@@ -45,7 +45,7 @@ pub extern "C" fn dofitrano_search_with(
     exported_search::dofitrano_search_with(book, sheet, released, lent, table, shares)
 }
 
-// ENTRY. The listing of a search for other languages, put into the first bytes of `output`: how many bytes it has. Later bytes are as
+// The listing of a search for other languages, put into the first bytes of `output`: how many bytes it has. Later bytes are as
 // they were. A buffer shorter than the listing is left as it was, and 0 is given back. No listing is empty or longer than 4,096 bytes.
 #[unsafe(no_mangle)]
 pub extern "C" fn dofitrano_listing(book: &[u8], sheet: &[u8], output: &mut [u8]) -> usize
