@@ -20,7 +20,8 @@ def read(path):
 def crates():
     """{crate: the crates of the repository that it names}."""
     lines = [line.split("#", 1)[0] for line in read("crates.txt").splitlines()]
-    names = {line.split(":")[0].strip(): line.split(":")[1].split() for line in lines if ":" in line}
+    # a name may have words behind it, as staticlib
+    names = {line.split(":")[0].split()[0]: line.split(":")[1].split() for line in lines if ":" in line}
     return {name: [used for used in uses if used in names] for name, uses in names.items()}
 
 

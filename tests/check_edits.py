@@ -6,8 +6,9 @@ crates/NAME/must-fail is tried in each gate, crates/NAME/edits by tools/edits. t
 
 Use: check_edits.py                 compare the tree with tests/edits.txt, and the edits' form
      check_edits.py --write         store the counts
-     check_edits.py --refused LOG   see in the output of rt ci that each edit of the gate was refused
-     check_edits.py --reasons DIR   list the edits whose logs in DIR (target/must-fail) do not name a fact first: safety, or what a callee requires
+     check_edits.py --refused LOG   see in the output of rt ci that each edit of the gate was refused, and that none was bad
+     check_edits.py --reasons LOG   list the edits that by this output of rt ci, rt must-fail or tools/edits were not refused at a fact first: safety,
+                                    or what a callee requires, or a name that is missing, or a limit of the prover
 """
 import glob
 import os
@@ -18,10 +19,12 @@ ROOT = os.path.join(os.path.dirname(os.path.abspath(__file__)), "..")
 COUNTS = os.path.join(ROOT, "tests", "edits.txt")
 TIERS = ("must-fail", "edits")
 
-# What the checker asks for so that code is safe and callees may be called; and what it says of the rest.
-SAFETY = re.compile(r"-requires(-\d+)?$|^(add|sub|mul|div|rem|neg|cast|shl|shr|array|slice|shared-slice|same-length)-?|-less$")
-MISSING = re.compile(r"is not in scope|can be named from here")
-ERROR = re.compile(r"^\S+: error: `([^`]+)`: (.*)$|it is not proved that what the function ensures holds when it returns \(`([^`]+)`\)", re.M)
+# The goals that the checker sets so that code is safe and callees may be called, and what it says of them; and what it says where a name is missing.
+SAFETY = re.compile(r"-requires(-\w+)*$|^(overflow|bounds|nonzero|shift|unreachable|float_to_int|range|add|sub|mul|div|rem|neg|cast|shl|shr|array|slice|shared-slice|same-length)\b"
+                    r"|^(overflow|bounds|nonzero|shift|range)_|-(less|decreases)$")
+SAFE_SAID = re.compile(r"it is not proved that (what `[^`]*` requires|index|the index|.* is below|.* fits|.* is not 0)")
+MISSING = re.compile(r"is not in scope|can be named from here|has no field|has no `|was not admitted|\(only ")
+REFUSED = re.compile(r"^rt: must-fail (\S+)\.edit: refused, as it must be(.*)$", re.M)
 
 
 def read(path):
@@ -109,29 +112,35 @@ def check():
 
 
 def refused(log):
-    """Sees that each edit of the gate was refused; gives the number of those that were not."""
-    tried = re.findall(r"^rt: must-fail (\S+): refused, as it must be", read(log), re.M)
+    """Sees that each edit of the gate was refused and that rt has no bad one; gives the number of faults."""
+    said = read(log)
+    tried = [edit for edit, _ in REFUSED.findall(said)]
     wanted = ["%s/%s" % parts(path) for path in tier("must-fail")]
-    missing = sorted(set(wanted) - set(tried))
-    for edit in missing:
-        print("edits: %s was not refused" % edit)
+    faults = ["%s was not refused" % edit for edit in sorted(set(wanted) - set(tried))]
+    verdict = re.search(r"^rt: ok;.*$", said, re.M)
+    bad = re.search(r"must-fail edits: [^;]*?, (\d+) bad", verdict[0]) if verdict else None
+    if not verdict:
+        faults.append("there is no line rt: ok")
+    if bad and int(bad[1]) or re.search(r"^rt: .*: BAD EDIT: ", said, re.M):
+        faults.append("rt has %s bad" % (bad[1] if bad else "some"))
+    for fault in faults:
+        print("edits: %s" % fault)
     print("edits: %d of %d of the gate refused" % (len(set(tried) & set(wanted)), len(wanted)))
-    return len(missing)
+    return len(faults)
 
 
-def reasons(folder):
-    """Lists the edits whose logs have no error at a fact, or one about safety or a missing name before it; gives the number of those that have none."""
+def reasons(log):
+    """Lists the edits that were not refused at a fact first; gives their number."""
+    found = REFUSED.findall(read(log))
     without = 0
-    logs = sorted(glob.glob(os.path.join(folder, "*", "*", ".log")))
-    for log in logs:
-        errors = [(name or returns, said) for name, said, returns in ERROR.findall(read(log)) if "was not admitted" not in said]
-        named = [name for name, _ in errors]
-        facts = [name for name, said in errors if not SAFETY.search(name) and not MISSING.search(said)]
-        if not facts:
+    for edit, said in found:
+        said = said.removeprefix(": ")
+        goal = re.search(r"\(`([^`]+)`\)|error: `([^`]+)`", said)
+        name = (goal[1] or goal[2]) if goal else ""
+        if not said or SAFETY.search(name) or SAFE_SAID.search(said) or MISSING.search(said):
             without += 1
-        if not facts or named[0] != facts[0]:
-            print("edits: %s fails first at %s; facts: %s" % ("/".join(log.split(os.sep)[-3:-1]), named[0] if named else "nothing", ", ".join(facts[:3]) or "none"))
-    print("edits: %d logs, %d without a fact" % (len(logs), without))
+            print("edits: %s: %s" % (edit, said or "no reason is said"))
+    print("edits: %d refused, %d not at a fact first" % (len(found), without))
     return without
 
 

@@ -1,7 +1,8 @@
 #!/usr/bin/env python3
 """Compares include/dofitrano.h with the code it declares: functions, the structs they give back, verdict numbers and sizes.
 
-The exported functions say which struct of C stands for which of the code, so a new function or struct needs nothing here.
+The exported functions say which struct of C stands for which of the code, so a new function or struct needs nothing here. Each hands its
+parameters, in their order, to the function of its name in the library behind it and gives what that gives.
 The refusal numbers of the header are compared by tests/check_refusals.py.
 """
 import os
@@ -25,7 +26,8 @@ def read(path):
 
 
 HEADER = read("include/dofitrano.h")
-EXPORTS = "".join(read("crates/%s/src/lib.rt" % part) for part in ("exported_search", "exported_queue", "exported_cards", "exported_files"))
+PARTS = ("exported_search", "exported_queue", "exported_cards", "exported_files")
+EXPORTS = "".join(read("crates/%s_c/src/lib.rt" % part) for part in PARTS)
 DEFINED = {name: int(value) for name, value in re.findall(r"#define (DOFITRANO_\w+) (\d+)", HEADER)}
 STRUCTS = {}  # a type of the code -> the struct of C that stands for it
 faults = []
@@ -49,7 +51,7 @@ def compare(what, wanted, found):
 
 def struct(rust, crate, c):
     """Compares a struct of the code with its struct of C, and those inside it."""
-    fields = re.search(r"#\[repr\(C\)\]\s*pub struct %s \{(.*?)\}" % rust, read("crates/%s/src/lib.rt" % crate), re.S)
+    fields = re.search(r"#\[repr\(C\)\]\s*(?:#\[derive\([\w, ]*\)\]\s*)?pub struct %s \{(.*?)\}" % rust, read("crates/%s/src/lib.rt" % crate), re.S)
     declared = re.search(r"typedef struct %s \{(.*?)\} %s;" % (c, c), HEADER, re.S)
     if not fields or not declared:
         faults.append("%s and %s: no struct of this name in the code or in the header" % (rust, c))
@@ -67,9 +69,15 @@ def struct(rust, crate, c):
             faults.append("%s: the field %s stands at the place of %s" % (c, c_name, name))
 
 
+def contracts(text):
+    """{a public function dofitrano_..: what stands between its name and its body, and the body}."""
+    found = re.findall(r'^pub (?:extern "C" )?fn (dofitrano_\w+)(\(.*?)^\{\n(.*?)^\}', text, re.M | re.S)
+    return {name: (" ".join(head.split()), " ".join(body.split())) for name, head, body in found}
+
+
 def main():
-    homes = dict(reversed(pair) for pair in re.findall(r"^use (\w+)::(\w+);", EXPORTS, re.M))
-    functions = re.findall(r'pub extern "C" fn (\w+)\((.*?)\)\s*->\s*(\w+)', EXPORTS, re.S)
+    homes = {name: crate for crate, names in re.findall(r"^use (\w+)::\{?([\w, ]+)\}?;", EXPORTS, re.M) for name in names.split(", ")}
+    functions = re.findall(r'#\[unsafe\(no_mangle\)\]\s*pub extern "C" fn (\w+)\((.*?)\)\s*->\s*(\w+)', EXPORTS, re.S)
     prototypes = {name: (gives, parameters) for gives, name, parameters in re.findall(r"^(\w+) (dofitrano_\w+)\(([^)]*)\);", HEADER, re.M)}
     compare("functions", sorted(name for name, _, _ in functions), sorted(prototypes))
     for name, parameters, gives in functions:
@@ -91,8 +99,14 @@ def main():
             wanted += c_types(kind)
         compare("%s: parameters" % name, wanted, found)
         compare("%s: gives back" % name, c_types(gives), [c_gives])
+    for part in PARTS:
+        exported, library = (contracts(read("crates/%s/src/lib.rt" % crate)) for crate in (part + "_c", part))
+        for name, (head, body) in exported.items():
+            handed = "%s::%s(%s)" % (part, name, ", ".join(re.findall(r"(\w+): ", head.split("ensures")[0])))
+            compare("%s: its body" % name, body, handed)
+            compare("%s: what %s says of it" % (name, part), library.get(name, ("",))[0], head)
     compare("structs", sorted(STRUCTS.values()), sorted(re.findall(r"typedef struct (\w+)", HEADER)))
-    verdicts = dict(re.findall(r"^verdict-number \(?(\w+).* = (\d+)$", read("crates/method/specs/Answers.antt"), re.M))
+    verdicts = dict(re.findall(r"^verdict_number \(?(\w+).* = (\d+)$", read("crates/method/specs/Answers.antt"), re.M))
     enum = re.search(r"enum dofitrano_verdict \{(.*?)\}", HEADER, re.S)[1]
     compare("verdicts", verdicts, {name.capitalize(): value for name, value in re.findall(r"DOFITRANO_(\w+) = (\d+)", enum)})
     for name, (path, text) in SIZES.items():

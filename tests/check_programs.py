@@ -30,14 +30,14 @@ PROGRAMS = {
     "mixedition": ("edition_folder::file_other", "test_rewriting", "name"),
 }
 
-MAIN = ('fn main() { let mut name = [0u8; 4095]; let asked = arguments::folder(b"%s", &mut name); '
-        'if asked.known { %s(file_io::first_bytes(&name, asked.len)); } }')
+MAIN = ('fn main(rt: HostRuntime) { let mut name = [0u8; 4095]; let asked = arguments::folder(&rt, b"%s", &mut name); '
+        'if asked.known { %s(&rt, file_io::first_bytes(&name, asked.len)); } }')
 
 # the programs that take a number before the folder, by the word that names it in the usage
 NUMBERS = {"mixqueue": "ALLOWANCE", "mixwork": "MOVES"}
 
-MAIN_WITH_NUMBER = ('fn main() { let mut name = [0u8; 4095]; let task = arguments::number_and_folder(b"%s", b"%s", &mut name); '
-                    'if task.known { %s(file_io::first_bytes(&name, task.len), task.number); } }')
+MAIN_WITH_NUMBER = ('fn main(rt: HostRuntime) { let mut name = [0u8; 4095]; let task = arguments::number_and_folder(&rt, b"%s", b"%s", &mut name); '
+                    'if task.known { %s(&rt, file_io::first_bytes(&name, task.len), task.number); } }')
 
 
 def main_of(program, function):
@@ -46,9 +46,9 @@ def main_of(program, function):
 
 
 def code(crate):
-    """The words of a program's source, without its comments."""
+    """The words of a program's source, without its comments and the line that each crate begins with."""
     with open(os.path.join(CRATES, crate, "src", "main.rt"), encoding="utf-8") as file:
-        return " ".join(word for line in file if not line.startswith("//") for word in line.split())
+        return " ".join(word for line in file if not line.startswith(("//", "#![tactic(auto)]")) for word in line.split())
 
 
 def rows(page):
@@ -89,7 +89,7 @@ def main():
         if code(program) != main_of(program, function):
             print("%s: crates/%s/src/main.rt is not one call of %s" % (program, program, function))
             faults += 1
-        if "%s(%s);" % (function, argument) not in code(test):
+        if "%s(rt, %s);" % (function, argument) not in code(test):
             print("%s: crates/%s/src/main.rt does not call %s" % (program, test, function))
             faults += 1
     print("programs: %d, faults: %d" % (len(PROGRAMS), faults))

@@ -16,37 +16,34 @@ FIELD, LINE, END = 256, 257, 258
 # a name for each, and the text
 TEXTS = {
     "plain": b"boat,hull\nAlka,352\n",
-    "no-line-end": b"boat,hull\nAlka,352",
-    "carriage-returns": b"boat,hull\r\nAlka,352\r\n",
-    "returns-alone": b"boat,hull\rAlka,352\r",
+    "no_line_end": b"boat,hull\nAlka,352",
+    "carriage_returns": b"boat,hull\r\nAlka,352\r\n",
+    "returns_alone": b"boat,hull\rAlka,352\r",
     "semicolons": b"boat;hull\nAlka;352\n",
     "tabs": b"boat\thull\nAlka\t352\n",
-    "comma-before-semicolon": b"boat;hull,mach\n",
-    "quoted-separator": b'"boat; any",hull\n',
-    "comma-in-quotes": b'"weight, kg";hull\n',
-    "doubled-quote": b'"5"" pump",""""\n',
-    "line-in-quotes": b'"Alka\nII",1\n',
-    "quote-inside": b'5" pump,1\n',
-    "empty-fields": b',,\n"",\n',
-    "blank-lines": b"a\n\nb\n\n",
-    "blank-first-line": b"\nboat;a\n",
-    "empty-quotes-first": b'""\r\nboat\ta\n',
-    "quote-inside-tabs": b'5" boat\ta\n',
-    "comma-in-later-quotes": b'boat;"a, m"\n',
+    "comma_before_semicolon": b"boat;hull,mach\n",
+    "quoted_separator": b'"boat; any",hull\n',
+    "comma_in_quotes": b'"weight, kg";hull\n',
+    "doubled_quote": b'"5"" pump",""""\n',
+    "line_in_quotes": b'"Alka\nII",1\n',
+    "quote_inside": b'5" pump,1\n',
+    "empty_fields": b',,\n"",\n',
+    "blank_lines": b"a\n\nb\n\n",
+    "blank_first_line": b"\nboat;a\n",
+    "empty_quotes_first": b'""\r\nboat\ta\n',
+    "quote_inside_tabs": b'5" boat\ta\n',
+    "comma_in_later_quotes": b'boat;"a, m"\n',
     "mark": b"\xef\xbb\xbfboat,hull\n",
-    "mark-and-quotes": b'\xef\xbb\xbf"boat, any";hull\n',
-    "other-letters": "Å,Ø\n".encode(),
+    "mark_and_quotes": b'\xef\xbb\xbf"boat, any";hull\n',
+    "other_letters": "Å,Ø\n".encode(),
     "empty": b"",
 }
 
 HEAD = """-- Texts and their tokens, of which those that say nothing are left out: the fields are those that Python's csv module reads.
 -- Made by tests/csv_examples.py.
-use mathlib.Core.Path.{_≡_, refl}
-use mathlib.Core.Bool.{cond}
-use mathlib.Core.List.{List, [], _∷_}
-use Prim.Native.Nat.{ℕ}
-use lib.Dec.{eqb}
-use Rattle·csv.specs.Tokens.{tokens, separator-from, separator, csv-tokens}
+use Rattle.std.proofs.Common.{refl}
+use Rattle.std.specs.Prelude.{◌≡◌, cond, List, [], ◌∷◌, ℕ, eqb}
+use Rattle.csv_bytes.specs.Tokens.{tokens, separator_from, separator, csv_tokens}
 
 said : List ℕ → List ℕ
 said [] = []
@@ -76,8 +73,8 @@ def listed(numbers):
 def made():
     out = HEAD
     for name, data in TEXTS.items():
-        out += "\n%s : said (csv-tokens %s) ≡ %s\n" % (name, "(%s)" % listed(data) if data else "[]", listed(fields(data)))
-        out += "unfolding said tokens separator-from separator csv-tokens\n%s = refl\n" % name
+        out += "\n%s : said (csv_tokens %s) ≡ %s\n" % (name, "(%s)" % listed(data) if data else "[]", listed(fields(data)))
+        out += "unfolding said tokens separator_from separator csv_tokens\n%s = refl\n" % name
     return out
 
 

@@ -19,7 +19,12 @@ LISTED = ("README.md", "CONTRIBUTING.md", "docs/trust.md")
 
 # A signature in specs/, with its depth and its name; and a type in src/.
 DECLARES = re.compile(r"^( *)(?:(?:unfoldable|abbrev|pub) )*(?:(?:record|data) )?([^\s(){}:]+)(?: [^:]*)? :")
-TYPE = re.compile(r"^(?:#\[repr\(C\)\]\n)?pub (?:struct|enum) (\w+) \{\n(?:.*\n)*?\}\n", re.M)
+TYPE = re.compile(r"^(?:#\[repr\(C\)\]\n)?(?:#\[derive\([^\n]*\)\]\n)?pub (?:struct|enum) (\w+) \{\n(?:.*\n)*?\}\n", re.M)
+
+
+def plain(name):
+    """A name as a text writes it: an operator without the marks where its arguments go."""
+    return name.strip("◌")
 
 
 def read(path):
@@ -40,10 +45,11 @@ class File:
 
     def use(self, line):
         """Takes in a `use` line."""
-        module, names, alias = re.match(r"(?:ghost )?use ([^\s{};]+?)(?:\.\{(.*)\})?(?: as ([^\s;]+))?;?$", line).groups()
+        module, names, alias = re.match(r"(?:pub )?(?:ghost )?use ([^\s{};]+?)(?:(?:\.|::)\{(.*)\})?(?: as ([^\s;]+))?;?$", line).groups()
         for name in names.split(", ") if names else []:
-            self.names[name] = self.names[name.strip("_")] = (module, name)
-        if "::" in module:
+            name, _, other = name.partition(" as ")
+            self.names[name] = self.names[plain(other or name)] = (module if "." in module else module + "::" + name, name)
+        if "::" in module and not names:
             self.names[module.split("::")[-1]] = (module, module.split("::")[-1])
         elif not names:
             self.aliases[alias or module.split(".")[-1]] = module
@@ -56,14 +62,14 @@ class File:
             if not line:
                 continue
             found = DECLARES.match(line)
-            if line.startswith("use "):
+            if line.startswith(("use ", "pub use ")):
                 self.use(line)
             elif line.startswith("module _"):
                 around, name, depth = line, None, 2
             elif found and (name is None or len(found[1]) <= depth):
                 name, depth = found[2], len(found[1])
                 self.definitions[name] = [1, (around if depth else "") + " " + line]
-                self.inside[name.strip("_")] = name
+                self.inside[plain(name)] = name
             elif name is not None:
                 self.definitions[name][0] += 1
                 self.definitions[name][1] += "\n" + line
@@ -77,7 +83,7 @@ class File:
             if line.startswith(("use ", "ghost use ")):
                 self.use(line)
         for found in TYPE.finditer(text):
-            body = re.sub(r" *//.*\n", "", found[0])
+            body = re.sub(r" *//.*\n|#\[derive.*\n", "", found[0])
             self.definitions[found[1]] = [body.count("\n"), re.sub(r"\w+:", "", body)]
 
 
@@ -88,8 +94,8 @@ def load(path):
 
 def file_of(module):
     """The file of a module of ours, or None for the kit's."""
-    found = re.match(r"Rattle·(\w+)(?:·specs\.specs|\.specs)\.(.*)$|(\w+)::", module)
-    if not found:
+    found = re.match(r"Rattle\.(\w+)\.specs\.(.*)$|(\w+)::", module)
+    if not found or not os.path.isdir(os.path.join(ROOT, "crates", found[1] or found[3])):
         return None
     if found[3] or found[2].startswith("declared"):
         return load("crates/%s/src/lib.rt" % (found[3] or found[1]))
@@ -99,14 +105,19 @@ def file_of(module):
 def used(file, words):
     """What a text of a file names: pairs of a module and a name, and definitions of the file itself."""
     words = re.sub(r"\(([^\s():]+(?: [^\s():]+)*) :", "(:", words)  # the names of parameters
-    for word in sorted(set(re.findall(r"&&|\[\]|[^\s(){};,&\[\]⌜⌝]+", words))):
+    for word in sorted(set(re.findall(r"&&|\[\]|[^\s(){};,&\[\]]+", words))):
         alias, _, last = word.rpartition(".")
-        if word in file.names:
-            yield file.names[word]
-        elif word in file.definitions or word in file.inside:
-            yield None, word
-        elif alias in file.aliases:
+        if alias in file.aliases:
             yield file.aliases[alias], last
+            continue
+        # what stands before the first dot is a value, whose fields stand behind it
+        for name in dict.fromkeys((word, word.split(".")[0])):
+            if name in file.names:
+                yield file.names[name]
+                break
+            if name in file.definitions or name in file.inside:
+                yield None, name
+                break
 
 
 def reach(file, words):
@@ -119,7 +130,7 @@ def reach(file, words):
             if target is None:
                 kit.setdefault(module, set()).add(name)
                 continue
-            if module and module.endswith(".the-variants"):
+            if module and module.endswith(".TheVariants"):
                 name = module.split(".")[-2]
             if name not in target.definitions:
                 name = target.inside.get(name, name)

@@ -1,10 +1,7 @@
 -- Texts and their tokens, of which those that say nothing are left out: the fields are those that Python's csv module reads.
 -- Made by tests/csv_examples.py.
-use mathlib.Core.Path.{◌≡◌, refl}
-use mathlib.Core.Bool.{cond}
-use mathlib.Core.List.{List, [], ◌∷◌}
-use Prim.Native.Nat.{ℕ}
-use lib.Dec.{eqb}
+use Rattle.std.proofs.Common.{refl}
+use Rattle.std.specs.Prelude.{◌≡◌, cond, List, [], ◌∷◌, ℕ, eqb}
 use Rattle.csv_bytes.specs.Tokens.{tokens, separator_from, separator, csv_tokens}
 
 said : List ℕ → List ℕ

@@ -1,4 +1,5 @@
-// Functions for programs in other languages: cards written, checked, chosen and worked over. Each is a thin exported function over an entry of another crate.
+// Functions for programs in other languages: cards written, checked, chosen and worked over. Each is a thin function over an entry of another crate;
+// exported_cards_c exports them for C.
 //
 // Entries, which ask nothing of their caller: dofitrano_check_card, dofitrano_write_card, dofitrano_check_card_with, dofitrano_write_card_with, dofitrano_better_card, dofitrano_work_over.
 // A slice passes as a pointer and a length; include/dofitrano.h declares the functions for C and says what a caller in another
@@ -26,8 +27,7 @@ use exported_types::{CardReply, Reply};
 use method::Released;
 
 // ENTRY. The card check for other languages: the reply of `check_card` for these files and this share list, and its slots afterwards.
-#[unsafe(no_mangle)]
-pub extern "C" fn dofitrano_check_card(
+pub fn dofitrano_check_card(
     book: &[u8],
     sheet: &[u8],
     card: &[u8],
@@ -42,8 +42,7 @@ pub extern "C" fn dofitrano_check_card(
 }
 
 // ENTRY. The card writer for other languages: the reply of `write_card` for these files and this buffer, and its bytes afterwards.
-#[unsafe(no_mangle)]
-pub extern "C" fn dofitrano_write_card(book: &[u8], sheet: &[u8], output: &mut [u8]) -> CardReply
+pub fn dofitrano_write_card(book: &[u8], sheet: &[u8], output: &mut [u8]) -> CardReply
     ensures value { result ≡ card_reply_of (filing (write_refusal book.now sheet.now (length output.old)) (run_answer (problem book.now sheet.now)) (length (run_card book.now sheet.now))) }
     ensures output_after { output.new ≡ slots_after (write_refusal book.now sheet.now (length output.old)) (run_card book.now sheet.now) output.old }
     ensures filing_right { FilingRight book.now sheet.now (filing (write_refusal book.now sheet.now (length output.old)) (run_answer (problem book.now sheet.now)) (length (run_card book.now sheet.now))) output.new }
@@ -53,8 +52,7 @@ pub extern "C" fn dofitrano_write_card(book: &[u8], sheet: &[u8], output: &mut [
 }
 
 // ENTRY. The card check with a released set and a lent table for other languages: the reply of `check_card_with`, and the share list's slots afterwards.
-#[unsafe(no_mangle)]
-pub extern "C" fn dofitrano_check_card_with(
+pub fn dofitrano_check_card_with(
     book: &[u8],
     sheet: &[u8],
     released: Released,
@@ -73,8 +71,7 @@ pub extern "C" fn dofitrano_check_card_with(
 }
 
 // ENTRY. The card writer with a released set and a lent table for other languages: the reply of `write_card_with`, and the buffer's bytes afterwards.
-#[unsafe(no_mangle)]
-pub extern "C" fn dofitrano_write_card_with(
+pub fn dofitrano_write_card_with(
     book: &[u8],
     sheet: &[u8],
     released: Released,
@@ -93,8 +90,7 @@ pub extern "C" fn dofitrano_write_card_with(
 
 // ENTRY. The better of two cards for other languages: which card, offset and length of its body and trailer, or the refusal, as `choose`
 // gives them.
-#[unsafe(no_mangle)]
-pub extern "C" fn dofitrano_better_card(
+pub fn dofitrano_better_card(
     book: &[u8],
     sheet: &[u8],
     first: &[u8],
@@ -108,8 +104,7 @@ pub extern "C" fn dofitrano_better_card(
 }
 
 // ENTRY. A Spent search worked over and filed for other languages: the reply of `work_over`, and the buffer's bytes afterwards.
-#[unsafe(no_mangle)]
-pub extern "C" fn dofitrano_work_over(
+pub fn dofitrano_work_over(
     book: &[u8],
     sheet: &[u8],
     released: Released,

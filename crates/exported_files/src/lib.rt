@@ -1,4 +1,5 @@
-// Functions for programs in other languages: files made from scale cells, sheets and books. Each is a thin exported function over an entry of another crate.
+// Functions for programs in other languages: files made from scale cells, sheets and books. Each is a thin function over an entry of another crate;
+// exported_files_c exports them for C.
 //
 // Entries, which ask nothing of their caller: dofitrano_sheet_values, dofitrano_scale_sheet, dofitrano_other_edition, dofitrano_merge_books.
 // A slice passes as a pointer and a length; include/dofitrano.h declares the functions for C and says what a caller in another
@@ -25,8 +26,7 @@ use scale_cells::SheetValues;
 use scale_sheet::ScaleSheet;
 
 // ENTRY. The sheet values of scale cells for other languages: those of `sheet_values` for the cells of four lists.
-#[unsafe(no_mangle)]
-pub extern "C" fn dofitrano_sheet_values(
+pub fn dofitrano_sheet_values(
     book: &[u8],
     kinds: &[u8],
     first: &[f64],
@@ -41,8 +41,7 @@ pub extern "C" fn dofitrano_sheet_values(
 }
 
 // ENTRY. The sheet of scale cells for other languages: that of `scale_sheet` for the cells of four lists.
-#[unsafe(no_mangle)]
-pub extern "C" fn dofitrano_scale_sheet(
+pub fn dofitrano_scale_sheet(
     book: &[u8],
     kinds: &[u8],
     first: &[f64],
@@ -60,8 +59,7 @@ pub extern "C" fn dofitrano_scale_sheet(
 
 // ENTRY. A sheet in its other edition for other languages: the reply of `other_edition` for this sheet and this output, and its bytes
 // afterwards.
-#[unsafe(no_mangle)]
-pub extern "C" fn dofitrano_other_edition(sheet: &[u8], output: &mut [u8]) -> EditionReply
+pub fn dofitrano_other_edition(sheet: &[u8], output: &mut [u8]) -> EditionReply
     ensures value { result ≡ edition_reply_of (rewriting (edition_refusal sheet.now (length output.old)) (other_number sheet.now) (length (other_edition sheet.now))) }
     ensures output_after { output.new ≡ slots_after (edition_refusal sheet.now (length output.old)) (other_edition sheet.now) output.old }
     ensures edition_right { EditionRight sheet.now (rewriting (edition_refusal sheet.now (length output.old)) (other_number sheet.now) (length (other_edition sheet.now))) output.new }
@@ -72,8 +70,7 @@ pub extern "C" fn dofitrano_other_edition(sheet: &[u8], output: &mut [u8]) -> Ed
 
 // ENTRY. One fleet book from two for other languages: what `merge_books` gives back for these books and this buffer, and its bytes
 // afterwards.
-#[unsafe(no_mangle)]
-pub extern "C" fn dofitrano_merge_books(first: &[u8], second: &[u8], output: &mut [u8]) -> Merged
+pub fn dofitrano_merge_books(first: &[u8], second: &[u8], output: &mut [u8]) -> Merged
     ensures value { result ≡ merging (merge_refusal first.now second.now (length output.old)) (length (merged_book first.now second.now)) }
     ensures output_after { output.new ≡ slots_after (merge_refusal first.now second.now (length output.old)) (merged_book first.now second.now) output.old }
     ensures merge_right { MergeRight first.now second.now result output.new }

@@ -1,5 +1,5 @@
 // The queue of sheets as a lent list of records, for programs in other languages: thin functions over the list, which call others on plain
-// numbers.
+// numbers. exported_queue_c exports the entry for C.
 //
 // Entry, which asks nothing of its caller: dofitrano_run_queue. A slice passes as a pointer and a length; include/dofitrano.h declares the
 // function for C and says what a caller in another language must see to.
@@ -85,8 +85,7 @@ fn store(queue: &mut [SheetRecord], outcome: Outcome, count: usize)
 // other (11 to 17, 46), and fewer than 256 slots a sheet (21), and leaves every record and slot as it was; else gives 0, writes each record
 // but its length, and fills the first of each sheet's 256 slots with its shares, one a boat. The clause gives the number, the records and
 // the slots, and says what holds of them (QueueRight).
-#[unsafe(no_mangle)]
-pub extern "C" fn dofitrano_run_queue(
+pub fn dofitrano_run_queue(
     queue: &mut [SheetRecord],
     book: &[u8],
     sheets: &[u8],

@@ -1,4 +1,5 @@
-// Functions for programs in other languages: the search and its listing. Each is a thin exported function over an entry of another crate.
+// Functions for programs in other languages: the search and its listing. Each is a thin function over an entry of another crate;
+// exported_search_c exports them for C.
 //
 // Entries, which ask nothing of their caller: dofitrano_search, dofitrano_search_with, dofitrano_listing.
 // A slice passes as a pointer and a length; include/dofitrano.h declares the functions for C and says what a caller in another
@@ -20,8 +21,7 @@ use exported_types::Reply;
 use method::Released;
 
 // ENTRY. The search for other languages: the reply of `search` for these files and this share list, and its slots afterwards.
-#[unsafe(no_mangle)]
-pub extern "C" fn dofitrano_search(book: &[u8], sheet: &[u8], shares: &mut [u16]) -> Reply
+pub fn dofitrano_search(book: &[u8], sheet: &[u8], shares: &mut [u16]) -> Reply
     ensures value { result ≡ reply_of (outcome (search_refusal book.now sheet.now (length shares.old)) (run_answer (problem book.now sheet.now))) }
     ensures shares_after { shares.new ≡ slots_after (search_refusal book.now sheet.now (length shares.old)) (run_iterate (problem book.now sheet.now)).shares shares.old }
     ensures outcome_right { OutcomeRight book.now sheet.now (outcome (search_refusal book.now sheet.now (length shares.old)) (run_answer (problem book.now sheet.now))) shares.new }
@@ -31,8 +31,7 @@ pub extern "C" fn dofitrano_search(book: &[u8], sheet: &[u8], shares: &mut [u16]
 }
 
 // ENTRY. The search with a released set and a lent table for other languages: the reply of `search_with`, and the share list's slots afterwards.
-#[unsafe(no_mangle)]
-pub extern "C" fn dofitrano_search_with(
+pub fn dofitrano_search_with(
     book: &[u8],
     sheet: &[u8],
     released: Released,
@@ -51,8 +50,7 @@ pub extern "C" fn dofitrano_search_with(
 
 // ENTRY. The listing of a search for other languages, put into the first bytes of `output`: how many bytes it has. Later bytes are as
 // they were. A buffer shorter than the listing is left as it was, and 0 is given back. No listing is empty or longer than 4,096 bytes.
-#[unsafe(no_mangle)]
-pub extern "C" fn dofitrano_listing(book: &[u8], sheet: &[u8], output: &mut [u8]) -> usize
+pub fn dofitrano_listing(book: &[u8], sheet: &[u8], output: &mut [u8]) -> usize
     ensures value { (result ≡ bytes_put (search_listing book.now sheet.now) output.old) × ((1 ≤ length (search_listing book.now sheet.now)) × (length (search_listing book.now sheet.now) ≤ text_limit)) }
     ensures output_after { output.new ≡ bytes_after (search_listing book.now sheet.now) output.old }
     ensures outcome_right { OutcomeRight book.now sheet.now (search_outcome book.now sheet.now) (search_shares book.now sheet.now) }

@@ -1,0 +1,77 @@
+// Files made from scale cells, sheets and books for C: the functions of exported_files under their C names, with the same contracts.
+//
+// Exports, which ask nothing of their caller: dofitrano_sheet_values, dofitrano_scale_sheet, dofitrano_other_edition, dofitrano_merge_books.
+// A slice passes as a pointer and a length; include/dofitrano.h declares the functions and says what a caller in another language must see to.
+#![tactic(auto)]
+
+ghost use Rattle.std.specs.Prelude.{◌≡◌, length};
+ghost use Rattle.method.specs.Answers.{slots_after};
+ghost use Rattle.exported_types.specs.Replies.{edition_reply_of};
+ghost use Rattle.scale_cells.specs.Cells.{sheet_values};
+ghost use Rattle.scale_cells.specs.Promise.{ConversionRight};
+ghost use Rattle.scale_sheet.specs.Sheets.{scale_sheet};
+ghost use Rattle.scale_sheet.specs.Promise.{SheetRight};
+ghost use Rattle.scale_cell_lists.specs.Lists.{flat_cells};
+ghost use Rattle.editions.specs.Rewriting.{other_number, other_edition, edition_refusal, rewriting};
+ghost use Rattle.editions.specs.Promise.{EditionRight};
+ghost use Rattle.merged_book.specs.Merging.{merged_book, merge_refusal, merging};
+ghost use Rattle.merged_book.specs.Promise.{MergeRight};
+
+use exported_types::EditionReply;
+use merged_book::Merged;
+use scale_cells::SheetValues;
+use scale_sheet::ScaleSheet;
+
+// The sheet values of scale cells for other languages: those of `sheet_values` for the cells of four lists.
+#[unsafe(no_mangle)]
+pub extern "C" fn dofitrano_sheet_values(
+    book: &[u8],
+    kinds: &[u8],
+    first: &[f64],
+    second: &[f64],
+    units: &[u32],
+) -> SheetValues
+    ensures value { result ≡ sheet_values book.now (flat_cells kinds.now first.now second.now units.now) }
+    ensures conversion_right { ConversionRight book.now (flat_cells kinds.now first.now second.now units.now) result }
+{
+    exported_files::dofitrano_sheet_values(book, kinds, first, second, units)
+}
+
+// The sheet of scale cells for other languages: that of `scale_sheet` for the cells of four lists.
+#[unsafe(no_mangle)]
+pub extern "C" fn dofitrano_scale_sheet(
+    book: &[u8],
+    kinds: &[u8],
+    first: &[f64],
+    second: &[f64],
+    units: &[u32],
+    steps: u32,
+    tolerance: u32,
+) -> ScaleSheet
+    ensures value { result ≡ scale_sheet book.now (flat_cells kinds.now first.now second.now units.now) steps tolerance }
+    ensures sheet_right { SheetRight book.now (flat_cells kinds.now first.now second.now units.now) steps tolerance result }
+{
+    exported_files::dofitrano_scale_sheet(book, kinds, first, second, units, steps, tolerance)
+}
+
+// A sheet in its other edition for other languages: the reply of `other_edition` for this sheet and this output, and its bytes
+// afterwards.
+#[unsafe(no_mangle)]
+pub extern "C" fn dofitrano_other_edition(sheet: &[u8], output: &mut [u8]) -> EditionReply
+    ensures value { result ≡ edition_reply_of (rewriting (edition_refusal sheet.now (length output.old)) (other_number sheet.now) (length (other_edition sheet.now))) }
+    ensures output_after { output.new ≡ slots_after (edition_refusal sheet.now (length output.old)) (other_edition sheet.now) output.old }
+    ensures edition_right { EditionRight sheet.now (rewriting (edition_refusal sheet.now (length output.old)) (other_number sheet.now) (length (other_edition sheet.now))) output.new }
+{
+    exported_files::dofitrano_other_edition(sheet, output)
+}
+
+// One fleet book from two for other languages: what `merge_books` gives back for these books and this buffer, and its bytes
+// afterwards.
+#[unsafe(no_mangle)]
+pub extern "C" fn dofitrano_merge_books(first: &[u8], second: &[u8], output: &mut [u8]) -> Merged
+    ensures value { result ≡ merging (merge_refusal first.now second.now (length output.old)) (length (merged_book first.now second.now)) }
+    ensures output_after { output.new ≡ slots_after (merge_refusal first.now second.now (length output.old)) (merged_book first.now second.now) output.old }
+    ensures merge_right { MergeRight first.now second.now result output.new }
+{
+    exported_files::dofitrano_merge_books(first, second, output)
+}
