@@ -5,7 +5,7 @@
 ghost use Rattle.std.specs.Prelude.{◌≡◌, ◌≤◌, length};
 ghost use Rattle.arguments.specs.Numbers.{no_number, is_figure, number_in};
 
-use libc::STDERR_FILENO;
+use std::env::{Env, FillError};
 
 // Whether the arguments ask for a folder, and how many bytes its name has.
 #[derive(Clone, Copy)]
@@ -14,13 +14,31 @@ pub struct Asked {
     pub len: usize,
 }
 
+// Writes bytes on standard error.
+fn tell(rt: &HostRuntime, bytes: &[u8]) {
+    let _ = rt.stderr().write_all(bytes);
+}
+
+// Whether the program has an argument of this number.
+fn has(rt: &HostRuntime, i: usize) -> bool {
+    let mut none = [0u8; 0];
+    !matches!(rt.arg(i, &mut none), Err(FillError::NotPresent))
+}
+
+// Puts an argument at the start of a buffer: its length, 0 where it is not there or longer than the buffer.
+fn argument(rt: &HostRuntime, i: usize, buffer: &mut [u8]) -> usize
+    ensures { result ≤ length buffer.new }
+{
+    rt.arg(i, buffer).unwrap_or(0)
+}
+
 // Says on standard error how a program is called.
-fn usage(program: &[u8]) -> Asked
+fn usage(rt: &HostRuntime, program: &[u8]) -> Asked
     ensures { result.len ≡ 0 }
 {
-    io::write_all(STDERR_FILENO, b"usage: ");
-    io::write_all(STDERR_FILENO, program);
-    io::write_all(STDERR_FILENO, b" [FOLDER]\n");
+    tell(rt, b"usage: ");
+    tell(rt, program);
+    tell(rt, b" [FOLDER]\n");
     Asked {
         known: false,
         len: 0,
@@ -29,25 +47,24 @@ fn usage(program: &[u8]) -> Asked
 
 // Puts the name of the folder into a buffer. Where there are two arguments or more, or one that is empty, begins with a minus or is
 // longer than the buffer, standard error has the usage, and no folder is known. Left free: `known`, the bytes of the name and those behind it.
-pub fn folder(program: &[u8], name: &mut [u8]) -> Asked
+pub fn folder(rt: &HostRuntime, program: &[u8], name: &mut [u8]) -> Asked
     ensures { result.len ≤ length name.new }
 {
-    let count = os::arg_count();
-    if count < 2 {
+    if !has(rt, 1) {
         return Asked {
             known: true,
             len: 0,
         };
     }
-    if 2 < count {
-        return usage(program);
+    if has(rt, 2) {
+        return usage(rt, program);
     }
-    let len = os::arg(1, name);
+    let len = argument(rt, 1, name);
     if len == 0 {
-        return usage(program);
+        return usage(rt, program);
     }
     if name[0] == b'-' {
-        return usage(program);
+        return usage(rt, program);
     }
     Asked { known: true, len }
 }
@@ -116,14 +133,14 @@ pub struct Task {
 }
 
 // Says on standard error how a program is called that takes a number, which `word` names.
-fn usage_of(program: &[u8], word: &[u8]) -> Task
+fn usage_of(rt: &HostRuntime, program: &[u8], word: &[u8]) -> Task
     ensures { result.len ≡ 0 }
 {
-    io::write_all(STDERR_FILENO, b"usage: ");
-    io::write_all(STDERR_FILENO, program);
-    io::write_all(STDERR_FILENO, b" ");
-    io::write_all(STDERR_FILENO, word);
-    io::write_all(STDERR_FILENO, b" [FOLDER]\n");
+    tell(rt, b"usage: ");
+    tell(rt, program);
+    tell(rt, b" ");
+    tell(rt, word);
+    tell(rt, b" [FOLDER]\n");
     Task {
         known: false,
         number: 0,
@@ -132,9 +149,9 @@ fn usage_of(program: &[u8], word: &[u8]) -> Task
 }
 
 // The number of the first argument, which has at most 10 bytes.
-fn first_number() -> Number {
+fn first_number(rt: &HostRuntime) -> Number {
     let mut figures = [0u8; 10];
-    let n = os::arg(1, &mut figures);
+    let n = argument(rt, 1, &mut figures);
     number_in(&figures[..n])
 }
 
@@ -142,33 +159,32 @@ fn first_number() -> Number {
 // second. Where there is no argument or a third, where the first is no number of 32 bits in at most 10 decimal figures, or where the second is
 // empty, begins with a minus or is longer than the buffer, standard error has the usage, and nothing is known. Left free: `known`, the number,
 // the bytes of the name and those behind it.
-pub fn number_and_folder(program: &[u8], word: &[u8], name: &mut [u8]) -> Task
+pub fn number_and_folder(rt: &HostRuntime, program: &[u8], word: &[u8], name: &mut [u8]) -> Task
     ensures { result.len ≤ length name.new }
 {
-    let count = os::arg_count();
-    if count < 2 {
-        return usage_of(program, word);
+    if !has(rt, 1) {
+        return usage_of(rt, program, word);
     }
-    if 3 < count {
-        return usage_of(program, word);
+    if has(rt, 3) {
+        return usage_of(rt, program, word);
     }
-    let asked = first_number();
+    let asked = first_number(rt);
     if !asked.known {
-        return usage_of(program, word);
+        return usage_of(rt, program, word);
     }
-    if count == 2 {
+    if !has(rt, 2) {
         return Task {
             known: true,
             number: asked.value,
             len: 0,
         };
     }
-    let len = os::arg(2, name);
+    let len = argument(rt, 2, name);
     if len == 0 {
-        return usage_of(program, word);
+        return usage_of(rt, program, word);
     }
     if name[0] == b'-' {
-        return usage_of(program, word);
+        return usage_of(rt, program, word);
     }
     Task {
         known: true,

@@ -8,41 +8,49 @@ ghost use Rattle.card_format.specs.Checks.{check_refusal};
 ghost use Rattle.better_card_promise.specs.Choices.{numbered};
 
 // Says what is known of the refusal of one of two cards, of which this number is wrong.
-fn tell_card(book: &[u8], sheet: &[u8], first: &[u8], second: &[u8], wrong: u32, refusal: u32)
+fn tell_card(
+    rt: &HostRuntime,
+    book: &[u8],
+    sheet: &[u8],
+    first: &[u8],
+    second: &[u8],
+    wrong: u32,
+    refusal: u32,
+)
     requires { check_refusal book.now sheet.now (numbered wrong first.now second.now) 256 ≡ refusal }
 {
     if wrong == 2 {
-        refusal_output::tell_card(b"second.wcd", book, sheet, second, refusal);
+        refusal_output::tell_card(rt, b"second.wcd", book, sheet, second, refusal);
         return;
     }
-    refusal_output::tell_card(b"first.wcd", book, sheet, first, refusal);
+    refusal_output::tell_card(rt, b"first.wcd", book, sheet, first, refusal);
 }
 
 // Files the better of first.wcd and second.wcd, for fleet.wbk and sheet.wsh of a folder, there as better.wcd without front text, and
 // prints its listing. The current folder has no name. Where a file is refused or the card cannot be written, an older better.wcd
 // stays as it was, and standard error says so, with what is known of a refusal and of which file it is.
-pub fn file_better(folder: &[u8]) {
+pub fn file_better(rt: &HostRuntime, folder: &[u8]) {
     let mut book = [0u8; 40001];
     let mut sheet = [0u8; 40001];
     let mut first = [0u8; 40001];
     let mut second = [0u8; 40001];
-    let n = file_io::read_in(folder, b"fleet.wbk", &mut book);
-    let m = file_io::read_in(folder, b"sheet.wsh", &mut sheet);
-    let k = file_io::read_in(folder, b"first.wcd", &mut first);
-    let l = file_io::read_in(folder, b"second.wcd", &mut second);
+    let n = file_io::read_in(rt, folder, b"fleet.wbk", &mut book);
+    let m = file_io::read_in(rt, folder, b"sheet.wsh", &mut sheet);
+    let k = file_io::read_in(rt, folder, b"first.wcd", &mut first);
+    let l = file_io::read_in(rt, folder, b"second.wcd", &mut second);
     let fleet = file_io::first_bytes(&book, n);
     let asked = file_io::first_bytes(&sheet, m);
     let one = file_io::first_bytes(&first, k);
     let other = file_io::first_bytes(&second, l);
     let chosen = better_listing::better_text(fleet, asked, one, other);
     let choice = chosen.choice;
-    refusal_output::tell_detail(fleet, asked, choice.refusal);
-    tell_card(fleet, asked, one, other, chosen.wrong, choice.refusal);
+    refusal_output::tell_detail(rt, fleet, asked, choice.refusal);
+    tell_card(rt, fleet, asked, one, other, chosen.wrong, choice.refusal);
     let part = better_card::part_of(one, other, choice);
     let path = paths::path_in(folder, b"better.wcd");
     let bytes = path.bytes;
     let name = file_io::first_bytes(&bytes, path.len);
-    if file_io::replace_or_leave(name, part, choice.len) {
-        file_io::print(chosen.text);
+    if file_io::replace_or_leave(rt, name, part, choice.len) {
+        file_io::print(rt, chosen.text);
     }
 }

@@ -29,17 +29,17 @@ fn number_of(given: Rewritten) -> u32
 // refuses it. The current folder has no name. Where the sheet is refused or other.wsh cannot be written, an older one stays as it was, and
 // standard error says so, with what is known of a refusal. One byte more is read than a file may have, so that a longer file is refused and
 // not cut.
-pub fn file_other(folder: &[u8]) {
+pub fn file_other(rt: &HostRuntime, folder: &[u8]) {
     let mut sheet = [0u8; 40001];
-    let n = file_io::read_in(folder, b"sheet.wsh", &mut sheet);
+    let n = file_io::read_in(rt, folder, b"sheet.wsh", &mut sheet);
     let mut output = [0u8; 40000];
     let given = other_edition::other_edition(&sheet[..n], &mut output);
     let refusal = number_of(given);
-    file_io::tell_text(edition_text::known_detail(&sheet[..n], refusal));
+    file_io::tell_text(rt, edition_text::known_detail(&sheet[..n], refusal));
     let path = paths::path_in(folder, b"other.wsh");
     let bytes = path.bytes;
     let name = file_io::first_bytes(&bytes, path.len);
-    if file_io::replace_or_leave(name, &output, size_of(given)) {
-        file_io::print(edition_text::edition_line(given));
+    if file_io::replace_or_leave(rt, name, &output, size_of(given)) {
+        file_io::print(rt, edition_text::edition_line(given));
     }
 }

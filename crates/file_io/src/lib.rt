@@ -3,16 +3,21 @@
 #![tactic(auto)]
 
 ghost use Rattle.std.specs.Prelude.{◌≡◌, ◌≤◌, take};
-ghost use Rattle.io.specs.Counts.{IsPrefixLen};
 ghost use Rattle.text.specs.Texts.{text_limit};
+ghost use Rattle.file_io.specs.Counts.{IsPrefixLen};
 
-use libc::{ENOENT, STDERR_FILENO, STDOUT_FILENO};
+use std::fs::{File, OpenOptions, Permissions};
+use std::io::{ErrorKind, Read, Write};
+use std::os::unix::fs::{OpenOptionsExt, PermissionsExt};
+use std::random::RandomSource;
+use std::str::from_utf8;
+use std::{fs, io};
 use text::Text;
 
 // Writes a file's name and what is wrong with it on standard error.
-pub fn tell(path: &[u8], fault: &[u8]) {
-    io::write_all(STDERR_FILENO, path);
-    io::write_all(STDERR_FILENO, fault);
+pub fn tell(rt: &HostRuntime, path: &[u8], fault: &[u8]) {
+    let _ = rt.stderr().write_all(path);
+    let _ = rt.stderr().write_all(fault);
 }
 
 // The first `n` bytes, or all where there are fewer.
@@ -27,9 +32,24 @@ pub fn first_bytes(bytes: &[u8], n: usize) -> &[u8]
 }
 
 // Whether a file that was read from has no more bytes: false where there are more or a read fails.
-fn at_end(fd: i32) -> bool {
+fn at_end(file: &mut File) -> bool {
     let mut more = [0u8; 1];
-    libc::read(fd, &mut more) == 0
+    matches!(file.read(&mut more), Ok(0))
+}
+
+// Reads until the buffer is full, the file ends or a read fails: how many bytes are at the start of the buffer.
+fn read_full(file: &mut File, buffer: &mut [u8]) -> usize
+    ensures { IsPrefixLen result buffer.new }
+{
+    let mut done = 0;
+    while done < buffer.len() {
+        let n = file.read(&mut buffer[done..]).unwrap_or(0);
+        if n == 0 {
+            break;
+        }
+        done += n;
+    }
+    done
 }
 
 // What was read of a file: whether it was there to be read, and how many of its bytes are in the buffer.
@@ -39,32 +59,38 @@ pub struct Content {
     pub len: usize,
 }
 
-// Says on standard error that a file was not opened, by the number that the system then gives.
-fn tell_unopened(path: &[u8]) {
-    if os::errno() == ENOENT {
-        tell(path, b": not found in this folder\n");
+// Opens a file to be read. The library opens paths of UTF-8 alone: any other cannot be opened.
+pub fn opened(rt: &HostRuntime, path: &[u8]) -> io::Result<File> {
+    match from_utf8(path) {
+        Ok(text) => File::open(rt, text),
+        Err(_) => Err(io::Error::from(ErrorKind::InvalidInput)),
+    }
+}
+
+// Says on standard error that a file was not opened, by what the system then answers.
+fn tell_unopened(rt: &HostRuntime, path: &[u8], error: io::Error) {
+    if error.kind() == ErrorKind::NotFound {
+        tell(rt, path, b": not found in this folder\n");
     } else {
-        tell(path, b": could not be opened\n");
+        tell(rt, path, b": could not be opened\n");
     }
 }
 
 // Reads an open file into a buffer and closes it. One with more bytes than the buffer fills it. A file whose reading fails on the way is
 // not there and counts as empty. Left free: which bytes are read, those of the buffer behind the count, and all of them after a read that
 // failed.
-fn content_at(fd: i32, buffer: &mut [u8]) -> Content
+fn content_at(mut file: File, buffer: &mut [u8]) -> Content
     ensures { IsPrefixLen result.len buffer.new }
 {
-    let n = io::read_full(fd, buffer);
+    let n = read_full(&mut file, buffer);
     if n < buffer.len() {
-        if !at_end(fd) {
-            libc::close(fd);
+        if !at_end(&mut file) {
             return Content {
                 there: false,
                 len: 0,
             };
         }
     }
-    libc::close(fd);
     Content {
         there: true,
         len: n,
@@ -73,145 +99,204 @@ fn content_at(fd: i32, buffer: &mut [u8]) -> Content
 
 // Reads a file into a buffer. One that cannot be opened, or whose reading fails on the way, is not there and counts as empty, and standard
 // error says so.
-pub fn content_of(path: &[u8], buffer: &mut [u8]) -> Content
+pub fn content_of(rt: &HostRuntime, path: &[u8], buffer: &mut [u8]) -> Content
     ensures { IsPrefixLen result.len buffer.new }
 {
-    let fd = os::open_read(path);
-    if fd < 0 {
-        tell_unopened(path);
-        return Content {
-            there: false,
-            len: 0,
-        };
+    match opened(rt, path) {
+        Ok(file) => {
+            let content = content_at(file, buffer);
+            if !content.there {
+                tell(rt, path, b": could not be read whole\n");
+            }
+            content
+        }
+        Err(error) => {
+            tell_unopened(rt, path, error);
+            Content {
+                there: false,
+                len: 0,
+            }
+        }
     }
-    let content = content_at(fd, buffer);
-    if !content.there {
-        tell(path, b": could not be read whole\n");
-    }
-    content
 }
 
 // The same, for a caller to whom a file that is not there is an empty one: how many of its bytes are in the buffer.
-pub fn read_file(path: &[u8], buffer: &mut [u8]) -> usize
+pub fn read_file(rt: &HostRuntime, path: &[u8], buffer: &mut [u8]) -> usize
     ensures { IsPrefixLen result buffer.new }
 {
-    content_of(path, buffer).len
+    content_of(rt, path, buffer).len
 }
 
 // Both of a file in a folder. The current folder has no name.
-pub fn content_in(folder: &[u8], name: &[u8], buffer: &mut [u8]) -> Content
+pub fn content_in(rt: &HostRuntime, folder: &[u8], name: &[u8], buffer: &mut [u8]) -> Content
     ensures { IsPrefixLen result.len buffer.new }
 {
     let path = paths::path_in(folder, name);
     let bytes = path.bytes;
     let len = path.len;
-    content_of(first_bytes(&bytes, len), buffer)
+    content_of(rt, first_bytes(&bytes, len), buffer)
 }
 
-pub fn read_in(folder: &[u8], name: &[u8], buffer: &mut [u8]) -> usize
+pub fn read_in(rt: &HostRuntime, folder: &[u8], name: &[u8], buffer: &mut [u8]) -> usize
     ensures { IsPrefixLen result buffer.new }
 {
-    content_in(folder, name, buffer).len
+    content_in(rt, folder, name, buffer).len
 }
 
 // The same of a file that need not be there: standard error says nothing.
-pub fn found_in(folder: &[u8], name: &[u8], buffer: &mut [u8]) -> Content
+pub fn found_in(rt: &HostRuntime, folder: &[u8], name: &[u8], buffer: &mut [u8]) -> Content
     ensures { IsPrefixLen result.len buffer.new }
 {
     let path = paths::path_in(folder, name);
     let bytes = path.bytes;
     let len = path.len;
-    let fd = os::open_read(first_bytes(&bytes, len));
-    if fd < 0 {
-        return Content {
+    match opened(rt, first_bytes(&bytes, len)) {
+        Ok(file) => content_at(file, buffer),
+        Err(_) => Content {
             there: false,
             len: 0,
-        };
+        },
     }
-    content_at(fd, buffer)
 }
 
-// Writes a new file whole, lets everybody read it, and closes it. Whether all of that was done.
-fn write_whole(fd: i32, content: &[u8]) -> bool {
-    let written = io::write_all(fd, content);
-    let readable = libc::fchmod(fd, 0o644) == 0;
-    let kept = libc::fsync(fd) == 0;
-    let closed = libc::close(fd) == 0;
+// Puts letters that the system draws in the place of these bytes, of which there are at most six.
+fn put_letters(rt: &HostRuntime, places: &mut [u8]) {
+    let mut drawn = [0u8; 6];
+    let _ = rt.fill_bytes(&mut drawn);
+    for (place, n) in places.iter_mut().zip(drawn.iter()) {
+        *place = b'a' + *n % 26;
+    }
+}
+
+// Makes a file that only its owner reads, under a name that none has.
+fn new_file(rt: &HostRuntime, path: &[u8]) -> io::Result<File> {
+    match from_utf8(path) {
+        Ok(text) => OpenOptions::new()
+            .read(true)
+            .write(true)
+            .create_new(true)
+            .mode(0o600)
+            .open(rt, text),
+        Err(_) => Err(io::Error::from(ErrorKind::InvalidInput)),
+    }
+}
+
+// How many names are tried for a new file.
+const MOST_TRIES: usize = 238328;
+
+// Makes a new file, which `temporary` names but for its last six letters, and puts them there.
+fn create_temporary(rt: &HostRuntime, temporary: &mut [u8]) -> io::Result<File> {
+    if temporary.len() < 6 {
+        return Err(io::Error::from(ErrorKind::InvalidInput));
+    }
+    let start = temporary.len() - 6;
+    for _ in 0..MOST_TRIES {
+        put_letters(rt, &mut temporary[start..]);
+        match new_file(rt, temporary) {
+            Ok(file) => return Ok(file),
+            Err(error) => {
+                if error.kind() != ErrorKind::AlreadyExists {
+                    return Err(error);
+                }
+            }
+        }
+    }
+    Err(io::Error::from(ErrorKind::AlreadyExists))
+}
+
+// Writes a new file whole, lets everybody read it, and closes it. Whether all of that was done but for the closing, whose fault is not told.
+fn write_whole(mut file: File, content: &[u8]) -> bool {
+    let written = file.write_all(content).is_ok();
+    let readable = file.set_permissions(Permissions::from_mode(0o644)).is_ok();
+    let kept = file.sync_all().is_ok();
     if !written {
         return false;
     }
     if !readable {
         return false;
     }
-    if !kept {
-        return false;
+    kept
+}
+
+// Gives a file another name, in the place of a file that has it. Whether it did.
+fn rename(rt: &HostRuntime, from: &[u8], to: &[u8]) -> bool {
+    match (from_utf8(from), from_utf8(to)) {
+        (Ok(old), Ok(new)) => fs::rename(rt, old, new).is_ok(),
+        _ => false,
     }
-    closed
+}
+
+// Removes a file. What fails there is not told.
+fn remove(rt: &HostRuntime, path: &[u8]) {
+    if let Ok(text) = from_utf8(path) {
+        let _ = fs::remove_file(rt, text);
+    }
 }
 
 // Puts a file in the place of `path` by way of a new one, which `temporary` names but for its last six letters.
-fn replace_by(path: &[u8], temporary: &mut [u8], content: &[u8]) -> bool {
-    let fd = os::create_temp(temporary);
-    if fd < 0 {
-        return false;
-    }
-    if write_whole(fd, content) {
-        if os::rename(temporary, path) == 0 {
-            return true;
+fn replace_by(rt: &HostRuntime, path: &[u8], temporary: &mut [u8], content: &[u8]) -> bool {
+    match create_temporary(rt, temporary) {
+        Ok(file) => {
+            if write_whole(file, content) {
+                if rename(rt, temporary, path) {
+                    return true;
+                }
+            }
+            remove(rt, temporary);
+            false
         }
+        Err(_) => false,
     }
-    os::unlink(temporary);
-    false
 }
 
 // Puts a file of this content in the place of `path`, and answers whether it did. It is written under another name in the same
 // folder and then renamed, so that on a fault an older file stays as it was.
-pub fn replace_file(path: &[u8], content: &[u8]) -> bool {
+pub fn replace_file(rt: &HostRuntime, path: &[u8], content: &[u8]) -> bool {
     let temporary = paths::temporary_path(path);
     let mut bytes = temporary.bytes;
     let len = temporary.len;
-    replace_by(path, &mut bytes[..len], content)
+    replace_by(rt, path, &mut bytes[..len], content)
 }
 
 // The same, and standard error says where the file could not be put there.
-pub fn replace_or_tell(path: &[u8], content: &[u8]) -> bool {
-    if replace_file(path, content) {
+pub fn replace_or_tell(rt: &HostRuntime, path: &[u8], content: &[u8]) -> bool {
+    if replace_file(rt, path, content) {
         return true;
     }
-    tell(path, b": could not be written\n");
+    tell(rt, path, b": could not be written\n");
     false
 }
 
 // The same for the first `len` bytes of a buffer, which the work of a program wrote: none where it is refused. Then nothing is put there, and
 // standard error says that an older file is as it was. Whether there is a listing to print.
-pub fn replace_or_leave(path: &[u8], buffer: &[u8], len: usize) -> bool {
+pub fn replace_or_leave(rt: &HostRuntime, path: &[u8], buffer: &[u8], len: usize) -> bool {
     if len == 0 {
-        tell(path, b" is as it was\n");
+        tell(rt, path, b" is as it was\n");
         return true;
     }
-    replace_or_tell(path, first_bytes(buffer, len))
+    replace_or_tell(rt, path, first_bytes(buffer, len))
 }
 
 // Says on standard error that a file in a folder is as it was.
-pub fn tell_kept(folder: &[u8], name: &[u8]) {
+pub fn tell_kept(rt: &HostRuntime, folder: &[u8], name: &[u8]) {
     let path = paths::path_in(folder, name);
     let bytes = path.bytes;
-    tell(first_bytes(&bytes, path.len), b" is as it was\n");
+    tell(rt, first_bytes(&bytes, path.len), b" is as it was\n");
 }
 
 // Prints a text. Where standard output does not take all of it, standard error says so.
-pub fn print(t: Text)
+pub fn print(rt: &HostRuntime, t: Text)
     requires { t.len ≤ text_limit }
 {
     let bytes = t.bytes;
     let len = t.len;
-    if !io::write_all(STDOUT_FILENO, &bytes[..len]) {
-        tell(b"standard output", b": could not be written whole\n");
+    if rt.write_all(&bytes[..len]).is_err() {
+        tell(rt, b"standard output", b": could not be written whole\n");
     }
 }
 
 // Writes a text on standard error.
-pub fn tell_text(t: Text) {
+pub fn tell_text(rt: &HostRuntime, t: Text) {
     let bytes = t.bytes;
-    tell(first_bytes(&bytes, t.len), b"");
+    tell(rt, first_bytes(&bytes, t.len), b"");
 }

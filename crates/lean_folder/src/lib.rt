@@ -11,16 +11,18 @@ use numbered_files::{name_of, read_named, tell_of};
 use text::Text;
 
 // Names the file that refuses a report before any sheet or card is read.
-fn tell_start(folder: &[u8], cards: usize, refusal: u32) {
+fn tell_start(rt: &HostRuntime, folder: &[u8], cards: usize, refusal: u32) {
     if refusal == 58 {
         if cards == 0 {
             tell_of(
+                rt,
                 folder,
                 name_of(b"card", 0, b".wcd"),
                 b": could not be opened\n",
             );
         } else {
             tell_of(
+                rt,
                 folder,
                 name_of(b"card", leaning::MOST_CARDS, b".wcd"),
                 b": there are more than 64 cards\n",
@@ -30,6 +32,7 @@ fn tell_start(folder: &[u8], cards: usize, refusal: u32) {
     }
     if refusal != 0 {
         tell_of(
+            rt,
             folder,
             Text::empty().with_bytes(b"fleet.wbk"),
             b": this book is refused\n",
@@ -38,11 +41,12 @@ fn tell_start(folder: &[u8], cards: usize, refusal: u32) {
 }
 
 // Names the sheet or the card that is refused, the card for the numbers 31 to 39.
-fn tell_refused(folder: &[u8], before: usize, refusal: u32)
+fn tell_refused(rt: &HostRuntime, folder: &[u8], before: usize, refusal: u32)
     requires { before ≤ most_cards }
 {
     if refusal < 31 {
         tell_of(
+            rt,
             folder,
             name_of(b"sheet", before, b".wsh"),
             b": this sheet is refused\n",
@@ -51,6 +55,7 @@ fn tell_refused(folder: &[u8], before: usize, refusal: u32)
     }
     if refusal <= 39 {
         tell_of(
+            rt,
             folder,
             name_of(b"card", before, b".wcd"),
             b": this card is refused\n",
@@ -58,6 +63,7 @@ fn tell_refused(folder: &[u8], before: usize, refusal: u32)
         return;
     }
     tell_of(
+        rt,
         folder,
         name_of(b"sheet", before, b".wsh"),
         b": this sheet is refused\n",
@@ -66,33 +72,33 @@ fn tell_refused(folder: &[u8], before: usize, refusal: u32)
 
 // Reads the sheet and the card behind `before` others, and checks the card. Of each file one byte more is read than it may have, so that a
 // longer file is refused and not cut.
-fn check_pair(folder: &[u8], book: &[u8], before: usize, slots: &mut [u16]) -> u32
+fn check_pair(rt: &HostRuntime, folder: &[u8], book: &[u8], before: usize, slots: &mut [u16]) -> u32
     requires { before ≤ most_cards }
     ensures { SomePair book.now before slots.old result slots.new }
 {
     let mut sheet = [0u8; 40001];
     let mut filed = [0u8; 40001];
-    let m = read_named(folder, name_of(b"sheet", before, b".wsh"), &mut sheet);
-    let l = read_named(folder, name_of(b"card", before, b".wcd"), &mut filed);
+    let m = read_named(rt, folder, name_of(b"sheet", before, b".wsh"), &mut sheet);
+    let l = read_named(rt, folder, name_of(b"card", before, b".wcd"), &mut filed);
     lean_cards::lean_card(book, &sheet[..m], &filed[..l], before, slots)
 }
 
 // Reads and checks the cards one by one, up to the first that is refused, which standard error names. The book and the number of cards come
 // before them.
-fn check_pairs(folder: &[u8], book: &[u8], cards: usize, slots: &mut [u16]) -> u32
+fn check_pairs(rt: &HostRuntime, folder: &[u8], book: &[u8], cards: usize, slots: &mut [u16]) -> u32
     requires { card_slots * most_cards ≤ length slots.old }
     ensures { SomeChecked book.now cards result slots.new }
 {
     let start = lean_cards::lean_start(book, cards);
     if start != 0 {
-        tell_start(folder, cards, start);
+        tell_start(rt, folder, cards, start);
         return start;
     }
     let mut k = 0;
     while k < cards {
-        let refusal = check_pair(folder, book, k, slots);
+        let refusal = check_pair(rt, folder, book, k, slots);
         if refusal != 0 {
-            tell_refused(folder, k, refusal);
+            tell_refused(rt, folder, k, refusal);
             return refusal;
         }
         k += 1;
@@ -101,19 +107,19 @@ fn check_pairs(folder: &[u8], book: &[u8], cards: usize, slots: &mut [u16]) -> u
 }
 
 // The report of a book and of the cards of a folder.
-fn report_of(folder: &[u8], book: &[u8], cards: usize) -> Text
+fn report_of(rt: &HostRuntime, folder: &[u8], book: &[u8], cards: usize) -> Text
     ensures { SomeReport book.now cards result }
 {
     let mut slots = [0u16; leaning::MOST_SLOTS];
-    let refusal = check_pairs(folder, book, cards, &mut slots);
+    let refusal = check_pairs(rt, folder, book, cards, &mut slots);
     lean_listing::lean_text(book, refusal, cards, &slots)
 }
 
 // Prints which boats the cards of a folder rest on: card1.wcd checked with sheet1.wsh against fleet.wbk, and so on up to a card that cannot
 // be opened; of more than 64 the 65th is the last that is tried. The current folder has no name. A sheet that cannot be opened counts as empty. Standard error names the file that is refused.
-pub fn list_boats(folder: &[u8]) {
+pub fn list_boats(rt: &HostRuntime, folder: &[u8]) {
     let mut book = [0u8; 40001];
-    let n = file_io::read_in(folder, b"fleet.wbk", &mut book);
-    let cards = numbered_files::count_in(folder, b"card", b".wcd", leaning::MOST_CARDS + 1);
-    file_io::print(report_of(folder, &book[..n], cards));
+    let n = file_io::read_in(rt, folder, b"fleet.wbk", &mut book);
+    let cards = numbered_files::count_in(rt, folder, b"card", b".wcd", leaning::MOST_CARDS + 1);
+    file_io::print(rt, report_of(rt, folder, &book[..n], cards));
 }

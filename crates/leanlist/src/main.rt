@@ -1,10 +1,10 @@
 // leanlist: prints how many cards rest on each boat and which boat most cards of each stretch of 12 rest on, of fleet.wbk, card1.wcd with sheet1.wsh and so on, files of the folder that its argument names, or of the current one.
 #![tactic(auto)]
 
-fn main() {
+fn main(rt: HostRuntime) {
     let mut name = [0u8; 4095];
-    let asked = arguments::folder(b"leanlist", &mut name);
+    let asked = arguments::folder(&rt, b"leanlist", &mut name);
     if asked.known {
-        lean_folder::list_boats(file_io::first_bytes(&name, asked.len));
+        lean_folder::list_boats(&rt, file_io::first_bytes(&name, asked.len));
     }
 }

@@ -3,17 +3,17 @@
 
 #![tactic(auto)]
 // Says on standard error what is wrong with a file of a folder.
-fn tell_of(folder: &[u8], name: &[u8], fault: &[u8]) {
+fn tell_of(rt: &HostRuntime, folder: &[u8], name: &[u8], fault: &[u8]) {
     let path = paths::path_in(folder, name);
     let bytes = path.bytes;
-    file_io::tell(file_io::first_bytes(&bytes, path.len), fault);
+    file_io::tell(rt, file_io::first_bytes(&bytes, path.len), fault);
 }
 
 // Says on standard error which of two books is refused, by the number that refuses the first and the number that refuses the merge: one
 // of 1 to 6 is the second's where the first has none.
-fn tell_refused(folder: &[u8], first: u32, refusal: u32) {
+fn tell_refused(rt: &HostRuntime, folder: &[u8], first: u32, refusal: u32) {
     if first != 0 {
-        tell_of(folder, b"fleet.wbk", b": this book is refused\n");
+        tell_of(rt, folder, b"fleet.wbk", b": this book is refused\n");
         return;
     }
     if refusal == 0 {
@@ -22,25 +22,25 @@ fn tell_refused(folder: &[u8], first: u32, refusal: u32) {
     if 6 < refusal {
         return;
     }
-    tell_of(folder, b"bought.wbk", b": this book is refused\n");
+    tell_of(rt, folder, b"bought.wbk", b": this book is refused\n");
 }
 
 // Files one book from fleet.wbk and bought.wbk of a folder there as merged.wbk, without front text, and prints its boats and columns. The
 // current folder has no name. Where the books are refused or the merged one cannot be written, an older merged.wbk stays as it was, and
 // standard error says so. Of each book one byte more is read than it may have, so that a longer file is refused and not cut.
-pub fn file_merged(folder: &[u8]) {
+pub fn file_merged(rt: &HostRuntime, folder: &[u8]) {
     let mut first = [0u8; 40001];
     let mut second = [0u8; 40001];
-    let n = file_io::read_in(folder, b"fleet.wbk", &mut first);
-    let m = file_io::read_in(folder, b"bought.wbk", &mut second);
+    let n = file_io::read_in(rt, folder, b"fleet.wbk", &mut first);
+    let m = file_io::read_in(rt, folder, b"bought.wbk", &mut second);
     let mut output = [0u8; merged_book::MOST_BYTES];
     let listed = merge_listing::merge_text(&first[..n], &second[..m], &mut output);
     let merged = listed.merged;
-    tell_refused(folder, listed.first, merged.refusal);
+    tell_refused(rt, folder, listed.first, merged.refusal);
     let path = paths::path_in(folder, b"merged.wbk");
     let bytes = path.bytes;
     let name = file_io::first_bytes(&bytes, path.len);
-    if file_io::replace_or_leave(name, &output, merged.len) {
-        file_io::print(listed.text);
+    if file_io::replace_or_leave(rt, name, &output, merged.len) {
+        file_io::print(rt, listed.text);
     }
 }

@@ -2,10 +2,10 @@
 // prints its listing.
 #![tactic(auto)]
 
-fn main() {
+fn main(rt: HostRuntime) {
     let mut name = [0u8; 4095];
-    let asked = arguments::folder(b"mixbetter", &mut name);
+    let asked = arguments::folder(&rt, b"mixbetter", &mut name);
     if asked.known {
-        better_folder::file_better(file_io::first_bytes(&name, asked.len));
+        better_folder::file_better(&rt, file_io::first_bytes(&name, asked.len));
     }
 }

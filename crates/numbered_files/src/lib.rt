@@ -6,8 +6,8 @@
 #![tactic(auto)]
 
 ghost use Rattle.std.specs.Prelude.{◌≤◌, length};
-ghost use Rattle.io.specs.Counts.{IsPrefixLen};
 ghost use Rattle.text.specs.Texts.{Holds};
+ghost use Rattle.file_io.specs.Counts.{IsPrefixLen};
 ghost use Rattle.numbered_files.specs.Names.{numbered_name, most_files};
 
 use text::Text;
@@ -23,34 +23,29 @@ pub fn name_of(word: &[u8], before: usize, ending: &[u8]) -> Text
 }
 
 // Says on standard error what is wrong with a file of a folder.
-pub fn tell_of(folder: &[u8], name: Text, fault: &[u8]) {
+pub fn tell_of(rt: &HostRuntime, folder: &[u8], name: Text, fault: &[u8]) {
     let bytes = name.bytes;
     let path = paths::path_in(folder, file_io::first_bytes(&bytes, name.len));
     let place = path.bytes;
-    file_io::tell(file_io::first_bytes(&place, path.len), fault);
+    file_io::tell(rt, file_io::first_bytes(&place, path.len), fault);
 }
 
 // Whether a file of a folder can be opened.
-fn opens(folder: &[u8], name: Text) -> bool {
+fn opens(rt: &HostRuntime, folder: &[u8], name: Text) -> bool {
     let bytes = name.bytes;
     let path = paths::path_in(folder, file_io::first_bytes(&bytes, name.len));
     let place = path.bytes;
-    let fd = os::open_read(file_io::first_bytes(&place, path.len));
-    if fd < 0 {
-        return false;
-    }
-    libc::close(fd);
-    true
+    file_io::opened(rt, file_io::first_bytes(&place, path.len)).is_ok()
 }
 
 // How many files of a folder can be opened, number 1 first, up to one that cannot; no more than `most` are tried.
-pub fn count_in(folder: &[u8], word: &[u8], ending: &[u8], most: usize) -> usize
+pub fn count_in(rt: &HostRuntime, folder: &[u8], word: &[u8], ending: &[u8], most: usize) -> usize
     requires { (most ≤ most_files) × (length word.now ≤ 8) × (length ending.now ≤ 8) }
     ensures { result ≤ most }
 {
     let mut k = 0;
     while k < most {
-        if !opens(folder, name_of(word, k, ending)) {
+        if !opens(rt, folder, name_of(word, k, ending)) {
             return k;
         }
         k += 1;
@@ -59,9 +54,9 @@ pub fn count_in(folder: &[u8], word: &[u8], ending: &[u8], most: usize) -> usize
 }
 
 // Reads a file of a folder: how many of its bytes are in the buffer.
-pub fn read_named(folder: &[u8], name: Text, buffer: &mut [u8]) -> usize
+pub fn read_named(rt: &HostRuntime, folder: &[u8], name: Text, buffer: &mut [u8]) -> usize
     ensures { IsPrefixLen result buffer.new }
 {
     let bytes = name.bytes;
-    file_io::read_in(folder, file_io::first_bytes(&bytes, name.len), buffer)
+    file_io::read_in(rt, folder, file_io::first_bytes(&bytes, name.len), buffer)
 }

@@ -5,7 +5,7 @@
 
 #![tactic(auto)]
 // Says that fleet.csv is not what this book was made from, where there is one.
-pub fn tell_book(csv: &[u8], book: &[u8]) {
+pub fn tell_book(rt: &HostRuntime, csv: &[u8], book: &[u8]) {
     if book.len() == 0 {
         return;
     }
@@ -13,13 +13,14 @@ pub fn tell_book(csv: &[u8], book: &[u8]) {
         return;
     }
     file_io::tell(
+        rt,
         b"fleet.csv",
         b" is not what fleet.wbk was made from: run mixbook\n",
     );
 }
 
 // Says that sheet.csv is not what this sheet was made from, with fleet.csv, where there is one.
-fn tell_sheet(fleet: &[u8], csv: &[u8], sheet: &[u8]) {
+fn tell_sheet(rt: &HostRuntime, fleet: &[u8], csv: &[u8], sheet: &[u8]) {
     if sheet.len() == 0 {
         return;
     }
@@ -27,41 +28,49 @@ fn tell_sheet(fleet: &[u8], csv: &[u8], sheet: &[u8]) {
         return;
     }
     file_io::tell(
+        rt,
         b"sheet.csv",
         b" is not what sheet.wsh was made from: run mixsheet\n",
     );
 }
 
 // Says it of a book in a folder, where fleet.csv is there, which is read into this buffer.
-fn tell_book_in(folder: &[u8], book: &[u8], csv: &mut [u8]) {
-    let content = file_io::found_in(folder, b"fleet.csv", csv);
+fn tell_book_in(rt: &HostRuntime, folder: &[u8], book: &[u8], csv: &mut [u8]) {
+    let content = file_io::found_in(rt, folder, b"fleet.csv", csv);
     if content.there {
-        tell_book(file_io::first_bytes(csv, content.len), book);
+        tell_book(rt, file_io::first_bytes(csv, content.len), book);
     }
 }
 
 // Says it of a book that was read in a folder, where fleet.csv is there.
-pub fn tell_old_book(folder: &[u8], book: &[u8]) {
+pub fn tell_old_book(rt: &HostRuntime, folder: &[u8], book: &[u8]) {
     let mut csv = [0u8; 200001];
-    tell_book_in(folder, book, &mut csv);
+    tell_book_in(rt, folder, book, &mut csv);
 }
 
 // Says both of a book and a sheet in a folder, where the CSVs are there, which are read into these buffers.
-fn tell_both_in(folder: &[u8], book: &[u8], sheet: &[u8], fleet: &mut [u8], csv: &mut [u8]) {
-    let first = file_io::found_in(folder, b"fleet.csv", fleet);
-    let second = file_io::found_in(folder, b"sheet.csv", csv);
+fn tell_both_in(
+    rt: &HostRuntime,
+    folder: &[u8],
+    book: &[u8],
+    sheet: &[u8],
+    fleet: &mut [u8],
+    csv: &mut [u8],
+) {
+    let first = file_io::found_in(rt, folder, b"fleet.csv", fleet);
+    let second = file_io::found_in(rt, folder, b"sheet.csv", csv);
     let read = file_io::first_bytes(fleet, first.len);
     if first.there {
-        tell_book(read, book);
+        tell_book(rt, read, book);
     }
     if second.there {
-        tell_sheet(read, file_io::first_bytes(csv, second.len), sheet);
+        tell_sheet(rt, read, file_io::first_bytes(csv, second.len), sheet);
     }
 }
 
 // Says both of a book and a sheet that were read in a folder, where the CSVs are there.
-pub fn tell_old(folder: &[u8], book: &[u8], sheet: &[u8]) {
+pub fn tell_old(rt: &HostRuntime, folder: &[u8], book: &[u8], sheet: &[u8]) {
     let mut fleet = [0u8; 200001];
     let mut csv = [0u8; 39001];
-    tell_both_in(folder, book, sheet, &mut fleet, &mut csv);
+    tell_both_in(rt, folder, book, sheet, &mut fleet, &mut csv);
 }

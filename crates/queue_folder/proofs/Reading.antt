@@ -7,7 +7,7 @@ use native.Mathlib.Omega.{arith}
 use borrow.Rule.Slice.PartMut.{mid_of, put_mid, same_len_mid, take_put}
 use lib.ListN.{length, take, drop, set, replicate, length-append, length-set, length-drop, length-replicate}
 use lib.Seq.{take-suc-set, take-add, take_at, drop_at, length-take-le}
-use Rattle.io.specs.Counts.{IsPrefixLen}
+use Rattle.file_io.specs.Counts.{IsPrefixLen}
 use Rattle.text.specs.declared.Text.{Text}
 use Rattle.text.specs.Texts.{Holds}
 use Rattle.sheet_queue.specs.Queue.{sheets_of}

@@ -22,17 +22,17 @@ pub struct Sheets {
 }
 
 // Reads the sheet behind `before` others into a buffer from `at` on.
-fn read_sheet(folder: &[u8], before: usize, at: usize, buffer: &mut [u8]) -> usize
+fn read_sheet(rt: &HostRuntime, folder: &[u8], before: usize, at: usize, buffer: &mut [u8]) -> usize
     requires { (before < most_read) × (at + sheet_bytes ≤ length buffer.old) }
     ensures { ReadBehind at buffer.old result buffer.new }
 {
     let end = at + SHEET_BYTES;
     let name = name_of(b"sheet", before, b".wsh");
-    numbered_files::read_named(folder, name, &mut buffer[at..end])
+    numbered_files::read_named(rt, folder, name, &mut buffer[at..end])
 }
 
 // Reads so many sheets, back to back.
-fn read_sheets(folder: &[u8], count: usize, buffer: &mut [u8]) -> Sheets
+fn read_sheets(rt: &HostRuntime, folder: &[u8], count: usize, buffer: &mut [u8]) -> Sheets
     requires { (count ≤ most_read) × (680017 ≤ length buffer.old) }
     ensures some_sheets { SomeSheets count result buffer.new }
     ensures buffer_len_unchanged { length buffer.new ≡ length buffer.old }
@@ -41,7 +41,7 @@ fn read_sheets(folder: &[u8], count: usize, buffer: &mut [u8]) -> Sheets
     let mut at = 0;
     let mut k = 0;
     while k < count {
-        let n = read_sheet(folder, k, at, buffer);
+        let n = read_sheet(rt, folder, k, at, buffer);
         lengths[k] = n as u32;
         at += n;
         k += 1;
@@ -50,42 +50,47 @@ fn read_sheets(folder: &[u8], count: usize, buffer: &mut [u8]) -> Sheets
 }
 
 // Says what is wrong with the sheet behind `before` others.
-fn tell_sheet(folder: &[u8], before: usize, fault: &[u8])
+fn tell_sheet(rt: &HostRuntime, folder: &[u8], before: usize, fault: &[u8])
     requires { before ≤ most_read }
 {
-    tell_of(folder, name_of(b"sheet", before, b".wsh"), fault);
+    tell_of(rt, folder, name_of(b"sheet", before, b".wsh"), fault);
 }
 
 // Says that the book is refused.
-fn tell_book(folder: &[u8]) {
+fn tell_book(rt: &HostRuntime, folder: &[u8]) {
     let name = Text::empty().with_bytes(b"fleet.wbk");
-    tell_of(folder, name, b": this book is refused\n");
+    tell_of(rt, folder, name, b": this book is refused\n");
 }
 
 // Names what the printed number refuses: where it refuses a sheet, the one behind those that are accepted.
-fn tell_refused(folder: &[u8], count: usize, refusal: u32, accepted: usize)
+fn tell_refused(rt: &HostRuntime, folder: &[u8], count: usize, refusal: u32, accepted: usize)
     requires { accepted ≤ most_read }
 {
     if refusal == 0 {
         return;
     }
     if refusal <= 6 {
-        tell_book(folder);
+        tell_book(rt, folder);
         return;
     }
     if refusal == 45 {
-        file_io::tell(b"ALLOWANCE", b": not from the number of sheets to 5760\n");
+        file_io::tell(
+            rt,
+            b"ALLOWANCE",
+            b": not from the number of sheets to 5760\n",
+        );
         return;
     }
     if refusal != 44 {
-        tell_sheet(folder, accepted, b": this sheet is refused\n");
+        tell_sheet(rt, folder, accepted, b": this sheet is refused\n");
         return;
     }
     if count == 0 {
-        tell_sheet(folder, 0, b": could not be opened\n");
+        tell_sheet(rt, folder, 0, b": could not be opened\n");
         return;
     }
     tell_sheet(
+        rt,
         folder,
         sheet_queue::MOST_SHEETS,
         b": there are more than 16 sheets\n",
@@ -93,32 +98,39 @@ fn tell_refused(folder: &[u8], count: usize, refusal: u32, accepted: usize)
 }
 
 // The listing of a book and of the first sheets of a folder, which are read into this buffer, on an allowance.
-fn queue_in(folder: &[u8], book: &[u8], count: usize, allowance: u32, buffer: &mut [u8]) -> Text
+fn queue_in(
+    rt: &HostRuntime,
+    folder: &[u8],
+    book: &[u8],
+    count: usize,
+    allowance: u32,
+    buffer: &mut [u8],
+) -> Text
     requires { (count ≤ most_read) × (680017 ≤ length buffer.old) }
     ensures { SomeQueue book.now count allowance result }
 {
-    let read = read_sheets(folder, count, buffer);
+    let read = read_sheets(rt, folder, count, buffer);
     let sheets = file_io::first_bytes(buffer, read.len);
     let lengths = read.lengths;
     let listed = queue_listing::queue_text(book, &lengths[..count], sheets, allowance);
-    tell_refused(folder, count, listed.refusal, listed.accepted);
+    tell_refused(rt, folder, count, listed.refusal, listed.accepted);
     listed.text
 }
 
 // The same with a buffer that serves any sheets: only this function sees its size.
-fn queue_of(folder: &[u8], book: &[u8], count: usize, allowance: u32) -> Text
+fn queue_of(rt: &HostRuntime, folder: &[u8], book: &[u8], count: usize, allowance: u32) -> Text
     requires { count ≤ most_read }
     ensures { SomeQueue book.now count allowance result }
 {
     let mut buffer = [0u8; SHEET_BYTES * MOST_READ];
-    queue_in(folder, book, count, allowance, &mut buffer)
+    queue_in(rt, folder, book, count, allowance, &mut buffer)
 }
 
 // Runs sheet1.wsh, sheet2.wsh and so on of a folder, up to one that cannot be opened, against fleet.wbk on one allowance of steps, and prints
 // a line a sheet. The current folder has no name. Standard error names what is refused.
-pub fn list_queue(folder: &[u8], allowance: u32) {
+pub fn list_queue(rt: &HostRuntime, folder: &[u8], allowance: u32) {
     let mut book = [0u8; 40001];
-    let n = file_io::read_in(folder, b"fleet.wbk", &mut book);
-    let count = numbered_files::count_in(folder, b"sheet", b".wsh", MOST_READ);
-    file_io::print(queue_of(folder, &book[..n], count, allowance));
+    let n = file_io::read_in(rt, folder, b"fleet.wbk", &mut book);
+    let count = numbered_files::count_in(rt, folder, b"sheet", b".wsh", MOST_READ);
+    file_io::print(rt, queue_of(rt, folder, &book[..n], count, allowance));
 }

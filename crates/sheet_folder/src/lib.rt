@@ -5,65 +5,65 @@
 use csv_sheet::Made;
 
 // Says on standard error what is wrong with the CSVs. A fault of the fleet's has the line that mixbook has for it.
-fn tell_fault(fleet: &[u8], csv: &[u8], made: Made) {
+fn tell_fault(rt: &HostRuntime, fleet: &[u8], csv: &[u8], made: Made) {
     let fault = made.fault;
     if fault == csv_sheet::FLEET {
         let mut output = [0u8; 40000];
         let book = csv_book::csv_book(fleet, &mut output);
-        file_io::tell_text(csv_book_text::fleet_fault(fleet, book));
+        file_io::tell_text(rt, csv_book_text::fleet_fault(fleet, book));
         return;
     }
-    file_io::tell_text(csv_sheet_text::sheet_fault(fleet, csv, made));
+    file_io::tell_text(rt, csv_sheet_text::sheet_fault(fleet, csv, made));
 }
 
 // Files the sheet of two CSVs in a folder as sheet.wsh, and prints its columns, factors, steps, tolerance and front text.
-fn file_made(folder: &[u8], fleet: &[u8], csv: &[u8]) {
+fn file_made(rt: &HostRuntime, folder: &[u8], fleet: &[u8], csv: &[u8]) {
     let mut output = [0u8; 40000];
     let made = csv_sheet::csv_sheet(fleet, csv, &mut output);
     if made.fault != 0 {
-        tell_fault(fleet, csv, made);
-        file_io::tell_kept(folder, b"sheet.wsh");
+        tell_fault(rt, fleet, csv, made);
+        file_io::tell_kept(rt, folder, b"sheet.wsh");
         return;
     }
     let path = paths::path_in(folder, b"sheet.wsh");
     let bytes = path.bytes;
     let name = file_io::first_bytes(&bytes, path.len);
-    if file_io::replace_or_tell(name, file_io::first_bytes(&output, made.len)) {
-        file_io::print(csv_sheet_text::sheet_lines(made));
+    if file_io::replace_or_tell(rt, name, file_io::first_bytes(&output, made.len)) {
+        file_io::print(rt, csv_sheet_text::sheet_lines(made));
     }
 }
 
 // Says that fleet.csv is not what the fleet.wbk of a folder was made from, where there is one.
-fn tell_old_book(folder: &[u8], fleet: &[u8]) {
+fn tell_old_book(rt: &HostRuntime, folder: &[u8], fleet: &[u8]) {
     let mut book = [0u8; 40001];
-    let content = file_io::found_in(folder, b"fleet.wbk", &mut book);
+    let content = file_io::found_in(rt, folder, b"fleet.wbk", &mut book);
     let n = content.len;
-    old_files::tell_book(fleet, &book[..n]);
+    old_files::tell_book(rt, fleet, &book[..n]);
 }
 
 // Files the sheet of fleet.csv and sheet.csv of a folder there, and says where fleet.wbk is not of that fleet.csv. The CSVs are read into these buffers.
-fn file_read(folder: &[u8], fleet: &mut [u8], csv: &mut [u8]) {
-    let first = file_io::content_in(folder, b"fleet.csv", fleet);
-    let second = file_io::content_in(folder, b"sheet.csv", csv);
+fn file_read(rt: &HostRuntime, folder: &[u8], fleet: &mut [u8], csv: &mut [u8]) {
+    let first = file_io::content_in(rt, folder, b"fleet.csv", fleet);
+    let second = file_io::content_in(rt, folder, b"sheet.csv", csv);
     let read = file_io::first_bytes(fleet, first.len);
     if !first.there {
-        file_io::tell_kept(folder, b"sheet.wsh");
+        file_io::tell_kept(rt, folder, b"sheet.wsh");
         return;
     }
-    tell_old_book(folder, read);
+    tell_old_book(rt, folder, read);
     if !second.there {
-        file_io::tell_kept(folder, b"sheet.wsh");
+        file_io::tell_kept(rt, folder, b"sheet.wsh");
         return;
     }
-    file_made(folder, read, file_io::first_bytes(csv, second.len));
+    file_made(rt, folder, read, file_io::first_bytes(csv, second.len));
 }
 
 // Makes the sheet of fleet.csv and sheet.csv in a folder, files it there as sheet.wsh and prints its lines. The current folder has no
 // name. Where a CSV is missing or has a fault, or the sheet cannot be written, an older sheet.wsh stays as it was, and standard error says
 // what is wrong. After a fault of a CSV it also says that sheet.wsh is as it was. It says too where a fleet.wbk was not made from fleet.csv.
 // One byte more is read than a CSV may have, so that a longer one is refused and not cut.
-pub fn file_sheet(folder: &[u8]) {
+pub fn file_sheet(rt: &HostRuntime, folder: &[u8]) {
     let mut fleet = [0u8; 200001];
     let mut csv = [0u8; 39001];
-    file_read(folder, &mut fleet, &mut csv);
+    file_read(rt, folder, &mut fleet, &mut csv);
 }

@@ -5,21 +5,21 @@
 use test_buffers::{between, u16_at};
 
 // Prints what is left in the lent number and what is handed back, then the choice as numbers.
-fn chosen<'a>(book: &[u8], sheet: &[u8], first: &'a [u8], second: &'a [u8]) {
+fn chosen<'a>(rt: &HostRuntime, book: &[u8], sheet: &[u8], first: &'a [u8], second: &'a [u8]) {
     let mut number = 77;
     let part = better_card::better_card(book, sheet, first, second, &mut number);
-    test_printing::line(b"number", number as u64);
-    test_printing::line(b"bytes", part.len() as u64);
-    test_printing::line(b"sum", test_buffers::checksum(part));
+    test_printing::line(rt, b"number", number as u64);
+    test_printing::line(rt, b"bytes", part.len() as u64);
+    test_printing::line(rt, b"sum", test_buffers::checksum(part));
     let choice = better_card::choose(book, sheet, first, second);
-    test_printing::line(b"refusal", choice.refusal as u64);
-    test_printing::line(b"card", choice.card as u64);
-    test_printing::line(b"offset", choice.offset as u64);
-    test_printing::line(b"length", choice.len as u64);
+    test_printing::line(rt, b"refusal", choice.refusal as u64);
+    test_printing::line(rt, b"card", choice.card as u64);
+    test_printing::line(rt, b"offset", choice.offset as u64);
+    test_printing::line(rt, b"length", choice.len as u64);
 }
 
 // The case at `start`: four lengths of 2 bytes each, then the four files. Gives back where the next case starts.
-fn case(cases: &[u8], start: usize) -> usize {
+fn case(rt: &HostRuntime, cases: &[u8], start: usize) -> usize {
     let at = start % 1000000;
     let book = at + 8;
     let sheet = book + u16_at(cases, at) as usize;
@@ -27,6 +27,7 @@ fn case(cases: &[u8], start: usize) -> usize {
     let second = first + u16_at(cases, at + 4) as usize;
     let end = second + u16_at(cases, at + 6) as usize;
     chosen(
+        rt,
         between(cases, book, sheet),
         between(cases, sheet, first),
         between(cases, first, second),
@@ -36,18 +37,18 @@ fn case(cases: &[u8], start: usize) -> usize {
 }
 
 // Each case of a file.
-fn each(cases: &[u8], count: u64) {
+fn each(rt: &HostRuntime, cases: &[u8], count: u64) {
     let mut at = 0;
     let mut number = 0;
     while number < count {
-        test_printing::line(b"case", number);
-        at = case(cases, at);
+        test_printing::line(rt, b"case", number);
+        at = case(rt, cases, at);
         number += 1;
     }
 }
 
-fn main() {
+fn main(rt: HostRuntime) {
     let mut cases = [0u8; 68000];
-    let n = file_io::read_file(b"pairs.dat", &mut cases);
-    each(&cases[..n], 375);
+    let n = file_io::read_file(&rt, b"pairs.dat", &mut cases);
+    each(&rt, &cases[..n], 375);
 }

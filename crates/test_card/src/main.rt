@@ -5,20 +5,21 @@
 use test_samples::Part;
 
 // Checks a card with a list of 10 slots that hold 7, and prints the list.
-fn checked(book: &[u8], sheet: &[u8], filed: &[u8]) {
+fn checked(rt: &HostRuntime, book: &[u8], sheet: &[u8], filed: &[u8]) {
     let mut slots = [7u16; 10];
-    test_printing::outcome(card::check_card(book, sheet, filed, &mut slots));
-    test_printing::slots(&slots, 10);
+    test_printing::outcome(rt, card::check_card(book, sheet, filed, &mut slots));
+    test_printing::slots(rt, &slots, 10);
 }
 
 // The card of two files in a buffer of `room` bytes, written, checked, damaged and checked.
-fn run(book: &[u8], sheet: &[u8], room: usize, seed: &mut u64) {
+fn run(rt: &HostRuntime, book: &[u8], sheet: &[u8], room: usize, seed: &mut u64) {
     let mut buffer = [9u8; 80];
-    let len = test_card_printing::written(book, sheet, &mut buffer, room);
-    test_printing::line(b"sum", test_buffers::checksum(&buffer));
-    checked(book, sheet, test_buffers::between(&buffer, 0, len));
+    let len = test_card_printing::written(rt, book, sheet, &mut buffer, room);
+    test_printing::line(rt, b"sum", test_buffers::checksum(&buffer));
+    checked(rt, book, sheet, test_buffers::between(&buffer, 0, len));
     let part = test_samples::damage(&mut buffer, len, seed);
     checked(
+        rt,
         book,
         sheet,
         test_buffers::between(&buffer, part.start, part.end),
@@ -26,10 +27,10 @@ fn run(book: &[u8], sheet: &[u8], room: usize, seed: &mut u64) {
 }
 
 // One drawn case. One buffer in six may be too short.
-fn one(seed: &mut u64, number: u64) {
+fn one(rt: &HostRuntime, seed: &mut u64, number: u64) {
     let mut book = [0u8; 256];
     let mut sheet = [0u8; 128];
-    test_printing::line(b"case", number);
+    test_printing::line(rt, b"case", number);
     let plan = test_samples::draw_plan(seed);
     let placed = test_samples::put_book(&mut book, seed, plan);
     let rows = placed.rows;
@@ -39,6 +40,7 @@ fn one(seed: &mut u64, number: u64) {
     let short = test_samples::draw(seed, 6);
     let room = if short == 0 { 44 } else { 80 };
     run(
+        rt,
         test_buffers::between(&book, 0, end),
         test_buffers::between(&sheet, 0, m),
         room,
@@ -46,11 +48,11 @@ fn one(seed: &mut u64, number: u64) {
     );
 }
 
-fn main() {
+fn main(rt: HostRuntime) {
     let mut seed = 8;
     let mut number = 0;
     while number < 2000 {
-        one(&mut seed, number);
+        one(&rt, &mut seed, number);
         number += 1;
     }
 }

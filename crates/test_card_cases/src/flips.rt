@@ -16,7 +16,15 @@ fn refusal(found: Searched) -> u64 {
 const BITS: [u8; 8] = [1, 2, 4, 8, 16, 32, 64, 128];
 
 // Checks the card in a buffer's first `len` bytes with one byte changed, and puts the byte back.
-fn flip(book: &[u8], sheet: &[u8], filed: &mut [u8], len: usize, at: usize, mask: u8)
+fn flip(
+    rt: &HostRuntime,
+    book: &[u8],
+    sheet: &[u8],
+    filed: &mut [u8],
+    len: usize,
+    at: usize,
+    mask: u8,
+)
     ensures { filed.new ≡ filed.old }
 {
     if at < filed.len() {
@@ -24,31 +32,31 @@ fn flip(book: &[u8], sheet: &[u8], filed: &mut [u8], len: usize, at: usize, mask
         filed[at] = x ^ mask;
         let mut slots = [7u16; 4];
         let found = card::check_card(book, sheet, between(filed, 0, len), &mut slots);
-        test_printing::number(refusal(found));
+        test_printing::number(rt, refusal(found));
         filed[at] = x;
     }
 }
 
 // The 8 bits of one byte, a line.
-fn flip_byte(book: &[u8], sheet: &[u8], filed: &mut [u8], len: usize, at: usize)
+fn flip_byte(rt: &HostRuntime, book: &[u8], sheet: &[u8], filed: &mut [u8], len: usize, at: usize)
     ensures { filed.new ≡ filed.old }
 {
-    test_printing::word(b"flip");
+    test_printing::word(rt, b"flip");
     let mut i = 0;
     while i < 8 {
-        flip(book, sheet, filed, len, at, BITS[i]);
+        flip(rt, book, sheet, filed, len, at, BITS[i]);
         i += 1;
     }
-    test_printing::word(b"\n");
+    test_printing::word(rt, b"\n");
 }
 
 // Every byte of the card.
-pub fn flips(book: &[u8], sheet: &[u8], filed: &mut [u8], len: usize)
+pub fn flips(rt: &HostRuntime, book: &[u8], sheet: &[u8], filed: &mut [u8], len: usize)
     ensures { filed.new ≡ filed.old }
 {
     let mut at = 0;
     while at < len {
-        flip_byte(book, sheet, filed, len, at);
+        flip_byte(rt, book, sheet, filed, len, at);
         at += 1;
     }
 }

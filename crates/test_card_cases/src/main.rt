@@ -10,27 +10,27 @@ use test_buffers::between;
 use test_tables::field;
 
 // A case for the fleet book and the sheet of its line, of the kind behind J.
-fn case_for(line: &[u8], book: &[u8], sheet: &[u8]) {
+fn case_for(rt: &HostRuntime, line: &[u8], book: &[u8], sheet: &[u8]) {
     match field(line, b'J', 0) {
-        0 => marked::marked(test_tables::name(line), book, sheet),
-        1 => marked::refused_sheet(book, sheet),
-        _ => marked::short_list(book, sheet),
+        0 => marked::marked(rt, test_tables::name(line), book, sheet),
+        1 => marked::refused_sheet(rt, book, sheet),
+        _ => marked::short_list(rt, book, sheet),
     }
 }
 
-fn case(line: &[u8]) {
+fn case(rt: &HostRuntime, line: &[u8]) {
     let mut book = [0u8; 40];
     let mut sheet = [0u8; 40];
     let n = inputs::put_fleet(&mut book, line);
     let m = inputs::put_sheet(&mut sheet, line);
-    case_for(line, between(&book, 0, n), between(&sheet, 0, m));
+    case_for(rt, line, between(&book, 0, n), between(&sheet, 0, m));
 }
 
 // Each line of a table.
-fn each_case(table: &[u8]) {
+fn each_case(rt: &HostRuntime, table: &[u8]) {
     let mut at = 0;
     while at < table.len() {
-        case(test_tables::line(table, at));
+        case(rt, test_tables::line(table, at));
         at = test_tables::next_line(table, at);
     }
 }
@@ -38,8 +38,9 @@ fn each_case(table: &[u8]) {
 // Two calls that are refused, and the nine marked sheets that have a card.
 // Letters: J the kind of case, F the fleet, H its columns, X and Y the target, M the sheet's steps, D its tolerance. Left out are
 // those of fleet P, the target (1,1), 9 steps and the tolerance 1.
-fn main() {
+fn main(rt: HostRuntime) {
     each_case(
+        &rt,
         b"sheet of no steps: J1 M0
 list of two slots: J2
 a:

@@ -8,14 +8,17 @@ use method::Searched;
 use test_buffers::{between, u16_at};
 
 // Prints the lines of one number, with a name and with one of 106 bytes, where there is one.
-fn of(book: &[u8], sheet: &[u8], card: &[u8], number: u32) {
+fn of(rt: &HostRuntime, book: &[u8], sheet: &[u8], card: &[u8], number: u32) {
     let text = card_details::card_detail(b"card.wcd", book, sheet, card, number);
     if text.len != 0 {
-        test_printing::line(b"of", number as u64);
-        file_io::print(text);
+        test_printing::line(rt, b"of", number as u64);
+        file_io::print(rt, text);
         let name =
             b"nnnnnnnnnnnnnnnnnnnnnnnnnnnnnnnnnnnnnnnnnnnnnnnnnnnnnnnnnnnnnnnnnnnnnnnnnnnnnnnnnnnnnnnnnnnnnnnnnnname.wcd";
-        file_io::print(card_details::card_detail(name, book, sheet, card, number));
+        file_io::print(
+            rt,
+            card_details::card_detail(name, book, sheet, card, number),
+        );
     }
 }
 
@@ -29,11 +32,11 @@ fn refusal_of(book: &[u8], sheet: &[u8], card: &[u8]) -> u32 {
 }
 
 // Prints the number that refuses a book, a sheet and a card, and the lines of all numbers.
-fn told(book: &[u8], sheet: &[u8], card: &[u8]) {
-    test_printing::line(b"refusal", refusal_of(book, sheet, card) as u64);
+fn told(rt: &HostRuntime, book: &[u8], sheet: &[u8], card: &[u8]) {
+    test_printing::line(rt, b"refusal", refusal_of(book, sheet, card) as u64);
     let mut number = 0;
     while number < 60 {
-        of(book, sheet, card, number);
+        of(rt, book, sheet, card, number);
         number += 1;
     }
 }
@@ -47,13 +50,14 @@ fn length_at(cases: &[u8], at: usize) -> usize
 }
 
 // The case at `start`: three bytes of length for the book, the sheet and the card, then the three. Gives back where the next case starts.
-fn case(cases: &[u8], start: usize) -> usize {
+fn case(rt: &HostRuntime, cases: &[u8], start: usize) -> usize {
     let at = start % 4000000;
     let book = at + 9;
     let sheet = book + length_at(cases, at);
     let card = sheet + length_at(cases, at + 3);
     let end = card + length_at(cases, at + 6);
     told(
+        rt,
         between(cases, book, sheet),
         between(cases, sheet, card),
         between(cases, card, end),
@@ -62,23 +66,23 @@ fn case(cases: &[u8], start: usize) -> usize {
 }
 
 // Each case of a file.
-fn each(cases: &[u8], count: u64) {
+fn each(rt: &HostRuntime, cases: &[u8], count: u64) {
     let mut at = 0;
     let mut number = 0;
     while number < count {
-        test_printing::line(b"case", number);
-        at = case(cases, at);
+        test_printing::line(rt, b"case", number);
+        at = case(rt, cases, at);
         number += 1;
     }
 }
 
 // Each case of cases.dat, which is read into this buffer.
-fn run(buffer: &mut [u8]) {
-    let n = file_io::read_file(b"cases.dat", buffer);
-    each(file_io::first_bytes(buffer, n), 400);
+fn run(rt: &HostRuntime, buffer: &mut [u8]) {
+    let n = file_io::read_file(rt, b"cases.dat", buffer);
+    each(rt, file_io::first_bytes(buffer, n), 400);
 }
 
-fn main() {
+fn main(rt: HostRuntime) {
     let mut cases = [0u8; 134000];
-    run(&mut cases);
+    run(&rt, &mut cases);
 }

@@ -8,24 +8,24 @@ ghost use Rattle.test_card_printing.specs.Written.{written_length, written_bytes
 use card_format::Written;
 
 // What the writer gives back; its length.
-pub fn print_written(written: Written) -> usize
+pub fn print_written(rt: &HostRuntime, written: Written) -> usize
     ensures { result ≡ written_size written }
 {
     match written {
         Written::Refused(n) => {
-            test_printing::refused(n);
+            test_printing::refused(rt, n);
             0
         }
         Written::Filed(a, len) => {
-            test_printing::answer(a);
-            test_printing::line(b"bytes", len as u64);
+            test_printing::answer(rt, a);
+            test_printing::line(rt, b"bytes", len as u64);
             len
         }
     }
 }
 
 // Writes the card of two files to the first `room` bytes of a buffer, prints what the writer gives back, and gives back its length.
-pub fn written(book: &[u8], sheet: &[u8], buffer: &mut [u8], room: usize) -> usize
+pub fn written(rt: &HostRuntime, book: &[u8], sheet: &[u8], buffer: &mut [u8], room: usize) -> usize
     ensures value { result ≡ written_length book.now sheet.now room (length buffer.old) }
     ensures buffer_after { buffer.new ≡ written_bytes book.now sheet.now room buffer.old }
 {
@@ -33,5 +33,8 @@ pub fn written(book: &[u8], sheet: &[u8], buffer: &mut [u8], room: usize) -> usi
         return 0;
     }
     let start = 0;
-    print_written(written_card::write_card(book, sheet, &mut buffer[start..room]))
+    print_written(
+        rt,
+        written_card::write_card(book, sheet, &mut buffer[start..room]),
+    )
 }

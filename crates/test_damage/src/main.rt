@@ -5,12 +5,12 @@
 use test_samples::Part;
 
 // Lists the files in parts of two buffers.
-fn run(book: &[u8], a: Part, sheet: &[u8], b: Part) {
+fn run(rt: &HostRuntime, book: &[u8], a: Part, sheet: &[u8], b: Part) {
     let listed = search_listing::search_listing(
         test_buffers::between(book, a.start, a.end),
         test_buffers::between(sheet, b.start, b.end),
     );
-    file_io::print(listed.text);
+    file_io::print(rt, listed.text);
 }
 
 // Damages a file that ends at `end`, where it is the one to damage.
@@ -22,10 +22,10 @@ fn damaged(buffer: &mut [u8], end: usize, seed: &mut u64, chosen: bool) -> Part 
 }
 
 // One drawn case.
-fn one(seed: &mut u64, number: u64) {
+fn one(rt: &HostRuntime, seed: &mut u64, number: u64) {
     let mut book = [0u8; 256];
     let mut sheet = [0u8; 128];
-    test_printing::line(b"case", number);
+    test_printing::line(rt, b"case", number);
     let plan = test_samples::draw_plan(seed);
     let placed = test_samples::put_book(&mut book, seed, plan);
     let rows = placed.rows;
@@ -35,14 +35,14 @@ fn one(seed: &mut u64, number: u64) {
     let kind = test_samples::draw(seed, 2);
     let a = damaged(&mut book, end, seed, kind == 0);
     let b = damaged(&mut sheet, m, seed, kind != 0);
-    run(&book, a, &sheet, b);
+    run(rt, &book, a, &sheet, b);
 }
 
-fn main() {
+fn main(rt: HostRuntime) {
     let mut seed = 7;
     let mut number = 0;
     while number < 3000 {
-        one(&mut seed, number);
+        one(&rt, &mut seed, number);
         number += 1;
     }
 }

@@ -7,20 +7,24 @@ ghost use Rattle.std.specs.Prelude.{◌<◌};
 use test_buffers::{between, u16_at};
 
 // Prints the line of one number, where there is one.
-fn of(book: &[u8], sheet: &[u8], number: u32) {
+fn of(rt: &HostRuntime, book: &[u8], sheet: &[u8], number: u32) {
     let text = refusal_details::detail(book, sheet, number);
     if text.len != 0 {
-        test_printing::line(b"of", number as u64);
-        file_io::print(text);
+        test_printing::line(rt, b"of", number as u64);
+        file_io::print(rt, text);
     }
 }
 
 // Prints the number that refuses a book and a sheet, and the lines of all numbers.
-fn told(book: &[u8], sheet: &[u8]) {
-    test_printing::line(b"refusal", validation::files_refusal(book, sheet) as u64);
+fn told(rt: &HostRuntime, book: &[u8], sheet: &[u8]) {
+    test_printing::line(
+        rt,
+        b"refusal",
+        validation::files_refusal(book, sheet) as u64,
+    );
     let mut number = 0;
     while number < 60 {
-        of(book, sheet, number);
+        of(rt, book, sheet, number);
         number += 1;
     }
 }
@@ -34,33 +38,33 @@ fn length_at(cases: &[u8], at: usize) -> usize
 }
 
 // The case at `start`: three bytes of length for the book and three for the sheet, then both. Gives back where the next case starts.
-fn case(cases: &[u8], start: usize) -> usize {
+fn case(rt: &HostRuntime, cases: &[u8], start: usize) -> usize {
     let at = start % 4000000;
     let book = at + 6;
     let sheet = book + length_at(cases, at);
     let end = sheet + length_at(cases, at + 3);
-    told(between(cases, book, sheet), between(cases, sheet, end));
+    told(rt, between(cases, book, sheet), between(cases, sheet, end));
     end
 }
 
 // Each case of a file.
-fn each(cases: &[u8], count: u64) {
+fn each(rt: &HostRuntime, cases: &[u8], count: u64) {
     let mut at = 0;
     let mut number = 0;
     while number < count {
-        test_printing::line(b"case", number);
-        at = case(cases, at);
+        test_printing::line(rt, b"case", number);
+        at = case(rt, cases, at);
         number += 1;
     }
 }
 
 // Each case of cases.dat, which is read into this buffer.
-fn run(buffer: &mut [u8]) {
-    let n = file_io::read_file(b"cases.dat", buffer);
-    each(file_io::first_bytes(buffer, n), 400);
+fn run(rt: &HostRuntime, buffer: &mut [u8]) {
+    let n = file_io::read_file(rt, b"cases.dat", buffer);
+    each(rt, file_io::first_bytes(buffer, n), 400);
 }
 
-fn main() {
+fn main(rt: HostRuntime) {
     let mut cases = [0u8; 330000];
-    run(&mut cases);
+    run(&rt, &mut cases);
 }

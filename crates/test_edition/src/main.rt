@@ -20,53 +20,66 @@ fn refusal(found: Searched) -> u64 {
 }
 
 // Checks a card with a list of 20 slots that hold 7, and prints the list.
-fn checked(book: &[u8], sheet: &[u8], filed: &[u8]) {
+fn checked(rt: &HostRuntime, book: &[u8], sheet: &[u8], filed: &[u8]) {
     let mut slots = [7u16; 20];
-    test_printing::outcome(card::check_card(book, sheet, filed, &mut slots));
-    test_printing::slots(&slots, 20);
+    test_printing::outcome(rt, card::check_card(book, sheet, filed, &mut slots));
+    test_printing::slots(rt, &slots, 20);
 }
 
 // Prints the number of a card in a buffer's first `len` bytes, with another verdict and another last letter.
-fn forged(book: &[u8], sheet: &[u8], filed: &mut [u8], len: usize, verdict: u64, letter: u64) {
+fn forged(
+    rt: &HostRuntime,
+    book: &[u8],
+    sheet: &[u8],
+    filed: &mut [u8],
+    len: usize,
+    verdict: u64,
+    letter: u64,
+) {
     let mut slots = [7u16; 20];
     test_buffers::put_number(filed, test_buffers::less(len, 32), verdict, 2);
     test_buffers::put_number(filed, test_buffers::less(len, 1), letter, 1);
-    test_printing::number(refusal(card::check_card(
-        book,
-        sheet,
-        between(filed, 0, len),
-        &mut slots,
-    )));
+    test_printing::number(
+        rt,
+        refusal(card::check_card(book, sheet, between(filed, 0, len), &mut slots)),
+    );
 }
 
 // The same with every verdict of one edition.
-fn forged_edition(book: &[u8], sheet: &[u8], filed: &mut [u8], len: usize, letter: u64) {
-    test_printing::word(b"forged");
-    forged(book, sheet, filed, len, 1, letter);
-    forged(book, sheet, filed, len, 2, letter);
-    forged(book, sheet, filed, len, 3, letter);
-    test_printing::word(b"\n");
+fn forged_edition(
+    rt: &HostRuntime,
+    book: &[u8],
+    sheet: &[u8],
+    filed: &mut [u8],
+    len: usize,
+    letter: u64,
+) {
+    test_printing::word(rt, b"forged");
+    forged(rt, book, sheet, filed, len, 1, letter);
+    forged(rt, book, sheet, filed, len, 2, letter);
+    forged(rt, book, sheet, filed, len, 3, letter);
+    test_printing::word(rt, b"\n");
 }
 
 // A card that was filed before WCD2, as it is and with other verdicts and letters. The line names its book, sheet and card.
-fn filed_before(line: &[u8]) {
+fn filed_before(rt: &HostRuntime, line: &[u8]) {
     let mut book = [0u8; 4096];
     let mut sheet = [0u8; 256];
     let mut filed = [0u8; 1060];
-    test_printing::title(test_tables::name(line));
-    let n = file_io::read_file(test_tables::word(line, b'B'), &mut book);
-    let m = file_io::read_file(test_tables::word(line, b'S'), &mut sheet);
-    let len = file_io::read_file(test_tables::word(line, b'C'), &mut filed);
-    checked(&book[..n], &sheet[..m], &filed[..len]);
-    forged_edition(&book[..n], &sheet[..m], &mut filed, len, WCD2);
-    forged_edition(&book[..n], &sheet[..m], &mut filed, len, WCD1);
+    test_printing::title(rt, test_tables::name(line));
+    let n = file_io::read_file(rt, test_tables::word(line, b'B'), &mut book);
+    let m = file_io::read_file(rt, test_tables::word(line, b'S'), &mut sheet);
+    let len = file_io::read_file(rt, test_tables::word(line, b'C'), &mut filed);
+    checked(rt, &book[..n], &sheet[..m], &filed[..len]);
+    forged_edition(rt, &book[..n], &sheet[..m], &mut filed, len, WCD2);
+    forged_edition(rt, &book[..n], &sheet[..m], &mut filed, len, WCD1);
 }
 
 // Each line of a table.
-fn each(table: &[u8]) {
+fn each(rt: &HostRuntime, table: &[u8]) {
     let mut at = 0;
     while at < table.len() {
-        filed_before(test_tables::line(table, at));
+        filed_before(rt, test_tables::line(table, at));
         at = test_tables::next_line(table, at);
     }
 }
@@ -118,19 +131,19 @@ fn tolerance_at(border: u64, kind: u64) -> u64 {
 }
 
 // The card of two files, written, with other verdicts and letters, and then as a WCD1 card damaged.
-fn run(book: &[u8], sheet: &[u8], seed: &mut u64) {
+fn run(rt: &HostRuntime, book: &[u8], sheet: &[u8], seed: &mut u64) {
     let mut buffer = [9u8; 80];
-    let len = test_card_printing::written(book, sheet, &mut buffer, 80);
-    test_printing::line(b"sum", test_buffers::checksum(&buffer));
-    checked(book, sheet, between(&buffer, 0, len));
-    forged_edition(book, sheet, &mut buffer, len, WCD2);
-    forged_edition(book, sheet, &mut buffer, len, WCD1);
+    let len = test_card_printing::written(rt, book, sheet, &mut buffer, 80);
+    test_printing::line(rt, b"sum", test_buffers::checksum(&buffer));
+    checked(rt, book, sheet, between(&buffer, 0, len));
+    forged_edition(rt, book, sheet, &mut buffer, len, WCD2);
+    forged_edition(rt, book, sheet, &mut buffer, len, WCD1);
     let part = test_samples::damage(&mut buffer, len, seed);
-    checked(book, sheet, between(&buffer, part.start, part.end));
+    checked(rt, book, sheet, between(&buffer, part.start, part.end));
 }
 
 // One drawn case.
-fn one(seed: &mut u64, number: u64) {
+fn one(rt: &HostRuntime, seed: &mut u64, number: u64) {
     let mut book = [0u8; 256];
     let mut sheet = [0u8; 128];
     let plan = test_samples::draw_plan(seed);
@@ -141,15 +154,16 @@ fn one(seed: &mut u64, number: u64) {
     let kind = test_samples::draw(seed, 5);
     let limit = border(between(&book, 0, end), &mut sheet, m);
     let tolerance = tolerance_at(limit, kind);
-    test_printing::line(b"case", number);
-    test_printing::line(b"tolerance", tolerance);
+    test_printing::line(rt, b"case", number);
+    test_printing::line(rt, b"tolerance", tolerance);
     test_buffers::put_number(&mut sheet, test_buffers::less(m, 8), tolerance, 4);
-    run(between(&book, 0, end), between(&sheet, 0, m), seed);
+    run(rt, between(&book, 0, end), between(&sheet, 0, m), seed);
 }
 
 // The cards of data/. Letters: B the book, S the sheet, C the card.
-fn all_filed_before() {
+fn all_filed_before(rt: &HostRuntime) {
     each(
+        rt,
         b"a: Bp.wbk Sa.wsh Ca.wcd
 b: Bp.wbk Sb.wsh Cb.wcd
 c: Bp.wbk Sc.wsh Cc.wcd
@@ -167,12 +181,12 @@ tie: Btie.wbk Stie.wsh Ctie.wcd
     );
 }
 
-fn main() {
-    all_filed_before();
+fn main(rt: HostRuntime) {
+    all_filed_before(&rt);
     let mut seed = 27;
     let mut number = 0;
     while number < 1000 {
-        one(&mut seed, number);
+        one(&rt, &mut seed, number);
         number += 1;
     }
 }

@@ -13,26 +13,27 @@ pub fn none() -> Released {
 }
 
 // What a search gives where neither the set nor the table is handed in, in short.
-fn unread(book: &[u8], sheet: &[u8], table: &[u16]) {
+fn unread(rt: &HostRuntime, book: &[u8], sheet: &[u8], table: &[u16]) {
     let mut slots = [7u16; 256];
     let result = search::search_with(book, sheet, none(), false, table, &mut slots);
-    test_printing::word(b"unread");
+    test_printing::word(rt, b"unread");
     match result {
         Searched::Refused(n) => {
-            test_printing::number(n as u64);
-            test_printing::word(b" 0 0 0\n");
+            test_printing::number(rt, n as u64);
+            test_printing::word(rt, b" 0 0 0\n");
         }
         Searched::Answered(a) => {
-            test_printing::number(0);
-            test_printing::number(a.steps as u64);
-            test_printing::number(a.weight as u64);
-            test_printing::line(b"", a.distance);
+            test_printing::number(rt, 0);
+            test_printing::number(rt, a.steps as u64);
+            test_printing::number(rt, a.weight as u64);
+            test_printing::line(rt, b"", a.distance);
         }
     }
 }
 
 // The search and its card: what both give back, the slots, and a sum over the card's buffer. Gives back the card's length.
 fn found(
+    rt: &HostRuntime,
     book: &[u8],
     sheet: &[u8],
     set: Released,
@@ -42,31 +43,51 @@ fn found(
     filed: &mut [u8],
 ) -> usize {
     let mut slots = [7u16; 256];
-    test_printing::outcome(search::search_with(book, sheet, set, lent, table, &mut slots));
-    test_printing::slots(&slots, boats % 65536 + 1);
-    let n = test_card_printing::print_written(written_card::write_card_with(
-        book, sheet, set, lent, table, filed,
-    ));
-    test_printing::line(b"sum", test_buffers::checksum(filed));
+    test_printing::outcome(
+        rt,
+        search::search_with(book, sheet, set, lent, table, &mut slots),
+    );
+    test_printing::slots(rt, &slots, boats % 65536 + 1);
+    let n = test_card_printing::print_written(
+        rt,
+        written_card::write_card_with(book, sheet, set, lent, table, filed),
+    );
+    test_printing::line(rt, b"sum", test_buffers::checksum(filed));
     n
 }
 
 // The number that refuses a card, 0 where it is accepted.
-fn refusal(book: &[u8], sheet: &[u8], set: Released, lent: bool, table: &[u16], filed: &[u8]) {
+fn refusal(
+    rt: &HostRuntime,
+    book: &[u8],
+    sheet: &[u8],
+    set: Released,
+    lent: bool,
+    table: &[u16],
+    filed: &[u8],
+) {
     let mut slots = [7u16; 256];
     match card::check_card_with(book, sheet, set, lent, table, filed, &mut slots) {
-        Searched::Refused(n) => test_printing::number(n as u64),
-        Searched::Answered(_) => test_printing::number(0),
+        Searched::Refused(n) => test_printing::number(rt, n as u64),
+        Searched::Answered(_) => test_printing::number(rt, 0),
     }
 }
 
 // The card of a table under it, under it without its last share, under another table and under none.
-fn checked(book: &[u8], sheet: &[u8], table: &[u16], cut: &[u16], other: &[u16], filed: &[u8]) {
-    test_printing::word(b"under");
-    refusal(book, sheet, none(), true, table, filed);
-    refusal(book, sheet, none(), true, cut, filed);
-    refusal(book, sheet, none(), true, other, filed);
-    refusal(book, sheet, none(), false, table, filed);
+fn checked(
+    rt: &HostRuntime,
+    book: &[u8],
+    sheet: &[u8],
+    table: &[u16],
+    cut: &[u16],
+    other: &[u16],
+    filed: &[u8],
+) {
+    test_printing::word(rt, b"under");
+    refusal(rt, book, sheet, none(), true, table, filed);
+    refusal(rt, book, sheet, none(), true, cut, filed);
+    refusal(rt, book, sheet, none(), true, other, filed);
+    refusal(rt, book, sheet, none(), false, table, filed);
 }
 
 // The card of a search without a set: its length.
@@ -78,20 +99,29 @@ fn put_whole(book: &[u8], sheet: &[u8], lent: bool, table: &[u16], output: &mut 
 }
 
 // Everything with a table: the search, its card, the card checked, and the card of a search without a table.
-pub fn under(book: &[u8], sheet: &[u8], table: &[u16], cut: &[u16], other: &[u16], boats: usize) {
+pub fn under(
+    rt: &HostRuntime,
+    book: &[u8],
+    sheet: &[u8],
+    table: &[u16],
+    cut: &[u16],
+    other: &[u16],
+    boats: usize,
+) {
     let mut filed = [9u8; 1060];
     let mut plain = [9u8; 1060];
-    let n = found(book, sheet, none(), true, table, boats, &mut filed);
-    unread(book, sheet, table);
-    checked(book, sheet, table, cut, other, between(&filed, 0, n));
+    let n = found(rt, book, sheet, none(), true, table, boats, &mut filed);
+    unread(rt, book, sheet, table);
+    checked(rt, book, sheet, table, cut, other, between(&filed, 0, n));
     let m = put_whole(book, sheet, false, table, &mut plain);
-    refusal(book, sheet, none(), true, table, between(&plain, 0, m));
-    test_printing::word(b"\n");
+    refusal(rt, book, sheet, none(), true, table, between(&plain, 0, m));
+    test_printing::word(rt, b"\n");
 }
 
 // Everything with a set: the search, its card, the card under the set, under another and under none, and the card of the whole of `all`, a book
 // with the same released rows.
 pub fn among(
+    rt: &HostRuntime,
     book: &[u8],
     all: &[u8],
     sheet: &[u8],
@@ -103,12 +133,12 @@ pub fn among(
 ) {
     let mut filed = [9u8; 1060];
     let mut whole = [9u8; 1060];
-    let n = found(book, sheet, set, lent, table, boats, &mut filed);
-    test_printing::word(b"among");
-    refusal(book, sheet, set, lent, table, between(&filed, 0, n));
-    refusal(book, sheet, other, lent, table, between(&filed, 0, n));
-    refusal(all, sheet, none(), lent, table, between(&filed, 0, n));
+    let n = found(rt, book, sheet, set, lent, table, boats, &mut filed);
+    test_printing::word(rt, b"among");
+    refusal(rt, book, sheet, set, lent, table, between(&filed, 0, n));
+    refusal(rt, book, sheet, other, lent, table, between(&filed, 0, n));
+    refusal(rt, all, sheet, none(), lent, table, between(&filed, 0, n));
     let m = put_whole(all, sheet, lent, table, &mut whole);
-    refusal(book, sheet, set, lent, table, between(&whole, 0, m));
-    test_printing::word(b"\n");
+    refusal(rt, book, sheet, set, lent, table, between(&whole, 0, m));
+    test_printing::word(rt, b"\n");
 }

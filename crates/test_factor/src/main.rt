@@ -44,14 +44,14 @@ fn tolerance_for(book: &[u8], sheet: &[u8], seed: &mut u64) -> u64 {
 }
 
 // What the search gives of two files: what its verdict carries, and the listing.
-fn found(book: &[u8], sheet: &[u8]) {
+fn found(rt: &HostRuntime, book: &[u8], sheet: &[u8]) {
     let mut shares = [7u16; 256];
     let result = search::search(book, sheet, &mut shares);
     if let Searched::Answered(a) = result {
         let v = a.verdict;
-        test_printing::carried(v);
+        test_printing::carried(rt, v);
     }
-    file_io::print(search_listing::search_listing(book, sheet).text);
+    file_io::print(rt, search_listing::search_listing(book, sheet).text);
 }
 
 // The number that refuses a card, 0 where it is accepted.
@@ -63,42 +63,60 @@ fn refusal(res: Searched) -> u64 {
 }
 
 // The numbers of a card by three sheets.
-fn checked(book: &[u8], plain: &[u8], sheet: &[u8], other: &[u8], filed: &[u8]) {
+fn checked(rt: &HostRuntime, book: &[u8], plain: &[u8], sheet: &[u8], other: &[u8], filed: &[u8]) {
     let mut slots = [7u16; 256];
-    test_printing::word(b"checked");
-    test_printing::number(refusal(card::check_card(book, plain, filed, &mut slots)));
-    test_printing::number(refusal(card::check_card(book, sheet, filed, &mut slots)));
-    test_printing::number(refusal(card::check_card(book, other, filed, &mut slots)));
-    test_printing::word(b"\n");
+    test_printing::word(rt, b"checked");
+    test_printing::number(
+        rt,
+        refusal(card::check_card(book, plain, filed, &mut slots)),
+    );
+    test_printing::number(
+        rt,
+        refusal(card::check_card(book, sheet, filed, &mut slots)),
+    );
+    test_printing::number(
+        rt,
+        refusal(card::check_card(book, other, filed, &mut slots)),
+    );
+    test_printing::word(rt, b"\n");
 }
 
 // Which of two cards is the better by a sheet.
-fn chosen(book: &[u8], sheet: &[u8], first: &[u8], second: &[u8]) {
+fn chosen(rt: &HostRuntime, book: &[u8], sheet: &[u8], first: &[u8], second: &[u8]) {
     let choice = better_card::choose(book, sheet, first, second);
-    test_printing::word(b"better");
-    test_printing::number(choice.refusal as u64);
-    test_printing::number(choice.card as u64);
-    test_printing::number(choice.offset as u64);
-    test_printing::number(choice.len as u64);
-    test_printing::word(b"\n");
+    test_printing::word(rt, b"better");
+    test_printing::number(rt, choice.refusal as u64);
+    test_printing::number(rt, choice.card as u64);
+    test_printing::number(rt, choice.offset as u64);
+    test_printing::number(rt, choice.len as u64);
+    test_printing::word(rt, b"\n");
 }
 
 // Two cards, each by the three sheets, and the better of them by two.
-fn judged(book: &[u8], plain: &[u8], sheet: &[u8], other: &[u8], first: &[u8], second: &[u8]) {
-    checked(book, plain, sheet, other, first);
-    checked(book, plain, sheet, other, second);
-    chosen(book, sheet, first, second);
-    chosen(book, plain, second, first);
+fn judged(
+    rt: &HostRuntime,
+    book: &[u8],
+    plain: &[u8],
+    sheet: &[u8],
+    other: &[u8],
+    first: &[u8],
+    second: &[u8],
+) {
+    checked(rt, book, plain, sheet, other, first);
+    checked(rt, book, plain, sheet, other, second);
+    chosen(rt, book, sheet, first, second);
+    chosen(rt, book, plain, second, first);
 }
 
 // The cards of a search with factors and of one without.
-fn cards(book: &[u8], plain: &[u8], sheet: &[u8], other: &[u8]) {
+fn cards(rt: &HostRuntime, book: &[u8], plain: &[u8], sheet: &[u8], other: &[u8]) {
     let mut first = [9u8; 1060];
     let mut second = [9u8; 1060];
-    let n = test_card_printing::written(book, sheet, &mut first, 1060);
-    test_printing::line(b"sum", test_buffers::checksum(&first));
-    let m = test_card_printing::written(book, plain, &mut second, 1060);
+    let n = test_card_printing::written(rt, book, sheet, &mut first, 1060);
+    test_printing::line(rt, b"sum", test_buffers::checksum(&first));
+    let m = test_card_printing::written(rt, book, plain, &mut second, 1060);
     judged(
+        rt,
         book,
         plain,
         sheet,
@@ -114,15 +132,23 @@ fn put_tolerance(sheet: &mut [u8], end: usize, tolerance: u64) {
 }
 
 // Lists a sheet, damaged.
-fn damaged(book: &[u8], sheet: &[u8], seed: &mut u64) {
+fn damaged(rt: &HostRuntime, book: &[u8], sheet: &[u8], seed: &mut u64) {
     let mut changed = [0u8; 256];
     let end = test_buffers::put_bytes(&mut changed, 0, sheet);
     let part = test_samples::damage(&mut changed, end, seed);
-    found(book, between(&changed, part.start, part.end));
+    found(rt, book, between(&changed, part.start, part.end));
 }
 
 // A sheet with a table and two drawn released sets, then a book with other rows for the boats that are not released.
-fn with_sets(book: &[u8], sheet: &[u8], seed: &mut u64, plan: Plan, rows: usize, table: &[u16]) {
+fn with_sets(
+    rt: &HostRuntime,
+    book: &[u8],
+    sheet: &[u8],
+    seed: &mut u64,
+    plan: Plan,
+    rows: usize,
+    table: &[u16],
+) {
     let mut other = [0u8; 40001];
     let boats = (plan.boats % 65536) as usize;
     let set = sets::draw_set(seed, boats);
@@ -130,8 +156,9 @@ fn with_sets(book: &[u8], sheet: &[u8], seed: &mut u64, plan: Plan, rows: usize,
     let lent = test_samples::draw(seed, 2) == 0;
     let end = test_buffers::put_bytes(&mut other, 0, book);
     sets::put_others(&mut other, seed, plan, rows, set);
-    lent::among(book, book, sheet, set, another, lent, table, boats);
+    lent::among(rt, book, book, sheet, set, another, lent, table, boats);
     lent::among(
+        rt,
         between(&other, 0, end),
         book,
         sheet,
@@ -144,13 +171,22 @@ fn with_sets(book: &[u8], sheet: &[u8], seed: &mut u64, plan: Plan, rows: usize,
 }
 
 // A sheet with two drawn tables of shares, and one of them with released sets.
-fn with_terms(book: &[u8], sheet: &[u8], seed: &mut u64, plan: Plan, rows: usize, choices: u64) {
+fn with_terms(
+    rt: &HostRuntime,
+    book: &[u8],
+    sheet: &[u8],
+    seed: &mut u64,
+    plan: Plan,
+    rows: usize,
+    choices: u64,
+) {
     let mut table = [0u16; 361];
     let mut other = [0u16; 361];
     let n = tables::put_table(&mut table, seed, choices);
     let m = tables::put_table(&mut other, seed, choices);
     let boats = (plan.boats % 65536) as usize;
     lent::under(
+        rt,
         book,
         sheet,
         tables::first(&table, n),
@@ -158,11 +194,12 @@ fn with_terms(book: &[u8], sheet: &[u8], seed: &mut u64, plan: Plan, rows: usize
         tables::first(&other, m),
         boats,
     );
-    with_sets(book, sheet, seed, plan, rows, tables::first(&table, n));
+    with_sets(rt, book, sheet, seed, plan, rows, tables::first(&table, n));
 }
 
 // A sheet without factors and two with them: everything that is done with one of these two.
 fn tried(
+    rt: &HostRuntime,
     book: &[u8],
     plain: &[u8],
     sheet: &[u8],
@@ -172,14 +209,22 @@ fn tried(
     rows: usize,
     choices: u64,
 ) {
-    found(book, sheet);
-    cards(book, plain, sheet, other);
-    with_terms(book, sheet, seed, plan, rows, choices);
-    damaged(book, sheet, seed);
+    found(rt, book, sheet);
+    cards(rt, book, plain, sheet, other);
+    with_terms(rt, book, sheet, seed, plan, rows, choices);
+    damaged(rt, book, sheet, seed);
 }
 
 // A book, and its sheet without factors and of tolerance 0: two sheets with factors are made of it, and all three get a tolerance.
-fn sheets(book: &[u8], bare: &[u8], seed: &mut u64, plan: Plan, rows: usize, choices: u64) {
+fn sheets(
+    rt: &HostRuntime,
+    book: &[u8],
+    bare: &[u8],
+    seed: &mut u64,
+    plan: Plan,
+    rows: usize,
+    choices: u64,
+) {
     let mut plain = [0u8; 256];
     let mut sheet = [0u8; 256];
     let mut other = [0u8; 256];
@@ -191,6 +236,7 @@ fn sheets(book: &[u8], bare: &[u8], seed: &mut u64, plan: Plan, rows: usize, cho
     put_tolerance(&mut sheet, n, tolerance);
     put_tolerance(&mut other, k, tolerance);
     tried(
+        rt,
         book,
         between(&plain, 0, m),
         between(&sheet, 0, n),
@@ -203,15 +249,16 @@ fn sheets(book: &[u8], bare: &[u8], seed: &mut u64, plan: Plan, rows: usize, cho
 }
 
 // One drawn case; the tables have as many shares as one of `choices` says.
-fn one(seed: &mut u64, number: u64, plan: Plan, choices: u64) {
+fn one(rt: &HostRuntime, seed: &mut u64, number: u64, plan: Plan, choices: u64) {
     let mut book = [0u8; 40001];
     let mut plain = [0u8; 256];
-    test_printing::line(b"case", number);
+    test_printing::line(rt, b"case", number);
     let placed = test_samples::put_book(&mut book, seed, plan);
     let rows = placed.rows;
     let end = placed.end;
     let m = test_samples::put_sheet(&mut plain, seed, plan, &book, rows, 0);
     sheets(
+        rt,
         between(&book, 0, end),
         between(&plain, 0, m),
         seed,
@@ -233,17 +280,17 @@ fn wide(boats: u64, scale: u64, steps: u64) -> Plan {
 }
 
 // Books of 64 columns.
-fn wide_cases(seed: &mut u64) {
+fn wide_cases(rt: &HostRuntime, seed: &mut u64) {
     let mut number = 0;
     while number < 30 {
-        one(seed, number, wide(6, 20, 8), 20);
+        one(rt, seed, number, wide(6, 20, 8), 20);
         number += 1;
     }
-    one(seed, number, wide(256, 2000, 12), 20);
+    one(rt, seed, number, wide(256, 2000, 12), 20);
 }
 
 // Books of 9 to 40 boats, whose sets have more than one byte.
-fn larger_cases(seed: &mut u64) {
+fn larger_cases(rt: &HostRuntime, seed: &mut u64) {
     let mut number = 0;
     while number < 40 {
         let boats = test_samples::draw(seed, 32) % 32 + 9;
@@ -254,13 +301,13 @@ fn larger_cases(seed: &mut u64) {
             steps: 9,
             front: 2,
         };
-        one(seed, number, plan, 20);
+        one(rt, seed, number, plan, 20);
         number += 1;
     }
 }
 
 // Sheets of 360 steps with long tables.
-fn long_cases(seed: &mut u64) {
+fn long_cases(rt: &HostRuntime, seed: &mut u64) {
     let mut number = 0;
     while number < 6 {
         let plan = Plan {
@@ -270,21 +317,21 @@ fn long_cases(seed: &mut u64) {
             steps: 360,
             front: 1,
         };
-        one(seed, number, plan, 2);
+        one(rt, seed, number, plan, 2);
         number += 1;
     }
 }
 
-fn main() {
-    marked::marked();
+fn main(rt: HostRuntime) {
+    marked::marked(&rt);
     let mut seed = 25;
     let mut number = 0;
     while number < 700 {
         let plan = test_samples::draw_plan(&mut seed);
-        one(&mut seed, number, plan, 20);
+        one(&rt, &mut seed, number, plan, 20);
         number += 1;
     }
-    wide_cases(&mut seed);
-    larger_cases(&mut seed);
-    long_cases(&mut seed);
+    wide_cases(&rt, &mut seed);
+    larger_cases(&rt, &mut seed);
+    long_cases(&rt, &mut seed);
 }

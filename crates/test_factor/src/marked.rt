@@ -19,14 +19,23 @@ fn put_sheet(buffer: &mut [u8], value: u64, steps: u64, tolerance: u64) -> usize
 }
 
 // A sheet with the first shares of a table.
-fn case(name: &[u8], table: &[u16], count: usize, value: u64, steps: u64, tolerance: u64) {
+fn case(
+    rt: &HostRuntime,
+    name: &[u8],
+    table: &[u16],
+    count: usize,
+    value: u64,
+    steps: u64,
+    tolerance: u64,
+) {
     let mut book = [0u8; 64];
     let mut sheet = [0u8; 64];
     let counted = [1u16, 2, 3];
     let n = put_book(&mut book);
     let m = put_sheet(&mut sheet, value, steps, tolerance);
-    test_printing::title(name);
+    test_printing::title(rt, name);
     crate::lent::under(
+        rt,
         between(&book, 0, n),
         between(&sheet, 0, m),
         first(table, count),
@@ -37,43 +46,51 @@ fn case(name: &[u8], table: &[u16], count: usize, value: u64, steps: u64, tolera
 }
 
 // The runs, of which tests/test_exact.py has the numbers.
-fn runs() {
+fn runs(rt: &HostRuntime) {
     let ones = [1u16, 1, 1];
     let greatest = [2u16, 3];
     let falling = [2u16, 1, 1];
     let counted = [1u16, 2, 3];
-    case(b"table 1 1 1", &ones, 3, 1, 9, 0);
-    case(b"table 2 3", &greatest, 2, 1, 9, 1);
-    case(b"table 2 1 1", &falling, 3, 1, 9, 3);
-    case(b"table 2 1 1, 2 steps", &falling, 3, 1, 2, 2);
-    case(b"table 2", &falling, 1, 5, 9, 1);
-    case(b"table 1 2 3", &counted, 3, 1, 9, 1);
-    case(b"table 1 2", &counted, 2, 1, 9, 1);
+    case(rt, b"table 1 1 1", &ones, 3, 1, 9, 0);
+    case(rt, b"table 2 3", &greatest, 2, 1, 9, 1);
+    case(rt, b"table 2 1 1", &falling, 3, 1, 9, 3);
+    case(rt, b"table 2 1 1, 2 steps", &falling, 3, 1, 2, 2);
+    case(rt, b"table 2", &falling, 1, 5, 9, 1);
+    case(rt, b"table 1 2 3", &counted, 3, 1, 9, 1);
+    case(rt, b"table 1 2", &counted, 2, 1, 9, 1);
 }
 
 // Tables that are refused, and one that is not.
-fn refused() {
+fn refused(rt: &HostRuntime) {
     let zeros = [1u16, 0];
     let three = [3u16];
     let early = [1u16, 3];
     let later = [1u16, 1, 3];
-    case(b"table of no share", &zeros, 0, 1, 9, 1);
-    case(b"table 1 0", &zeros, 2, 1, 9, 1);
-    case(b"table 3", &three, 1, 1, 9, 1);
-    case(b"table 1 3", &early, 2, 1, 9, 1);
-    case(b"table 1 1 3", &later, 3, 1, 9, 1);
+    case(rt, b"table of no share", &zeros, 0, 1, 9, 1);
+    case(rt, b"table 1 0", &zeros, 2, 1, 9, 1);
+    case(rt, b"table 3", &three, 1, 1, 9, 1);
+    case(rt, b"table 1 3", &early, 2, 1, 9, 1);
+    case(rt, b"table 1 1 3", &later, 3, 1, 9, 1);
 }
 
 // A table of so many shares of one of the kinds that are drawn.
-fn long(name: &[u8], kind: u64, count: usize) {
+fn long(rt: &HostRuntime, name: &[u8], kind: u64, count: usize) {
     let mut table = [0u16; 361];
     let mut seed = 1;
     test_terms::tables::put_shares(&mut table, &mut seed, kind, count, 361);
-    case(name, &table, count, 1, 9, 1);
+    case(rt, name, &table, count, 1, 9, 1);
 }
 
 // The sheet of target (1,1) with a set whose bytes are zeros but for one, with no table or the table 2 1.
-fn case_among(name: &[u8], k: usize, byte: u8, lent: bool, steps: u64, tolerance: u64) {
+fn case_among(
+    rt: &HostRuntime,
+    name: &[u8],
+    k: usize,
+    byte: u8,
+    lent: bool,
+    steps: u64,
+    tolerance: u64,
+) {
     let mut book = [0u8; 64];
     let mut sheet = [0u8; 64];
     let table = [2u16, 1];
@@ -86,8 +103,9 @@ fn case_among(name: &[u8], k: usize, byte: u8, lent: bool, steps: u64, tolerance
         limited: true,
         boats,
     };
-    test_printing::title(name);
+    test_printing::title(rt, name);
     crate::lent::among(
+        rt,
         all,
         all,
         between(&sheet, 0, m),
@@ -100,27 +118,27 @@ fn case_among(name: &[u8], k: usize, byte: u8, lent: bool, steps: u64, tolerance
 }
 
 // Sets of one byte that is not 0.
-fn sets() {
-    case_among(b"boats 1 and 2", 0, 6, false, 2, 1);
-    case_among(b"boats 1 and 2, table 2 1", 0, 6, true, 9, 2);
-    case_among(b"boat 0", 0, 1, false, 9, 1);
-    case_among(b"boat 2", 0, 4, false, 9, 10);
-    case_among(b"all boats", 0, 7, false, 9, 1);
-    case_among(b"no boat", 0, 0, false, 9, 1);
-    case_among(b"boats 2 and 3", 0, 12, false, 9, 1);
-    case_among(b"boat 8", 1, 1, false, 9, 1);
-    case_among(b"boat 255", 31, 128, false, 9, 1);
+fn sets(rt: &HostRuntime) {
+    case_among(rt, b"boats 1 and 2", 0, 6, false, 2, 1);
+    case_among(rt, b"boats 1 and 2, table 2 1", 0, 6, true, 9, 2);
+    case_among(rt, b"boat 0", 0, 1, false, 9, 1);
+    case_among(rt, b"boat 2", 0, 4, false, 9, 10);
+    case_among(rt, b"all boats", 0, 7, false, 9, 1);
+    case_among(rt, b"no boat", 0, 0, false, 9, 1);
+    case_among(rt, b"boats 2 and 3", 0, 12, false, 9, 1);
+    case_among(rt, b"boat 8", 1, 1, false, 9, 1);
+    case_among(rt, b"boat 255", 31, 128, false, 9, 1);
 }
 
 // All of them.
-pub fn marked() {
-    runs();
-    refused();
-    long(b"table of 360 times 1", 0, 360);
-    long(b"table of 361 times 1", 0, 361);
-    long(b"table of 1 to 360", 1, 360);
-    long(b"table of 2 and 2 to 360", 7, 360);
-    long(b"table of 2 to 360", 3, 359);
-    long(b"table of 2 to 361", 3, 360);
-    sets();
+pub fn marked(rt: &HostRuntime) {
+    runs(rt);
+    refused(rt);
+    long(rt, b"table of 360 times 1", 0, 360);
+    long(rt, b"table of 361 times 1", 0, 361);
+    long(rt, b"table of 1 to 360", 1, 360);
+    long(rt, b"table of 2 and 2 to 360", 7, 360);
+    long(rt, b"table of 2 to 360", 3, 359);
+    long(rt, b"table of 2 to 361", 3, 360);
+    sets(rt);
 }

@@ -4,8 +4,9 @@
 // has those of the sheet behind a semicolon.
 
 // Fleet books: length, letters and counts on both sides of their limits. A good one has 3 boats and 2 columns.
-pub fn books() {
+pub fn books(rt: &HostRuntime) {
     crate::each_case(
+        rt,
         b"book length 0: N1 C1 K2 L0
 book length 11: N1 C1 K2 L11
 book length 12: N1 C1 K2 L12
@@ -34,8 +35,9 @@ book of 65535 columns: N1 C65535 K2 L14
 }
 
 // Their back counts and bodies, and books with two faults.
-pub fn book_bodies() {
+pub fn book_bodies(rt: &HostRuntime) {
     crate::each_case(
+        rt,
         b"book back 0: K0
 book back 11: K11
 book back 12: K12
@@ -64,8 +66,9 @@ book letters and value: W0 P2 V2001
 }
 
 // Sheets: the same, for a fleet book of 3 columns, or of as many as Q says.
-pub fn sheets() {
+pub fn sheets(rt: &HostRuntime) {
     crate::each_case(
+        rt,
         b"sheet length 0: L0
 sheet length 15: L15
 sheet length 16: L16
@@ -99,8 +102,9 @@ sheet of 65 columns for 65: C65 Q65 K130 L146
 }
 
 // Their back counts and bodies, and sheets with two faults.
-pub fn sheet_bodies() {
+pub fn sheet_bodies(rt: &HostRuntime) {
     crate::each_case(
+        rt,
         b"sheet back 0: K0
 sheet back 5: K5
 sheet back 6: K6
@@ -130,8 +134,9 @@ sheet steps and value: S0 P2 V2001
 }
 
 // Sheets with factors, of 3 columns unless C says otherwise: length, letters, counts and back count.
-pub fn factored_sheets() {
+pub fn factored_sheets(rt: &HostRuntime) {
     crate::each_case(
+        rt,
         b"sheet with factors length 15: W843600727 K9 F65793 L15
 sheet with factors length 16: W843600727 K9 F65793 L16
 sheet with factors length 24: W843600727 K9 F65793 L24
@@ -165,8 +170,9 @@ sheet with factors front just before the body: A W843600727 K9 F65793 L27 P11
 }
 
 // Their factors on both sides of the limits, and two faults.
-pub fn factors() {
+pub fn factors(rt: &HostRuntime) {
     crate::each_case(
+        rt,
         b"sheet factors 0 0 0: W843600727 K9 L25 F0
 sheet factors 1 0 0: W843600727 K9 L25 F1
 sheet factors 0 0 1: W843600727 K9 L25 F65536
@@ -194,8 +200,9 @@ sheet value and factors: W843600727 K9 L25 F0 P9 V2001
 }
 
 // A fleet book of 2 columns and a sheet for it.
-pub fn both() {
+pub fn both(rt: &HostRuntime) {
     crate::each_case(
+        rt,
         b"both accepted: ; C2 K4 L20
 both empty: L0; L0
 book accepted, sheet empty: ; L0

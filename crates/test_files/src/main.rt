@@ -5,7 +5,6 @@
 
 mod cases;
 
-use libc::STDOUT_FILENO;
 use test_buffers::{between, less};
 use test_tables::field;
 
@@ -73,53 +72,53 @@ fn refusal(line: &[u8], value: u64) -> u32 {
 }
 
 // Ends a line of the output.
-fn print_refusal(number: u32) {
-    io::write_all(STDOUT_FILENO, b": ");
-    io::print_decimal(STDOUT_FILENO, number as u64);
-    io::write_all(STDOUT_FILENO, b"\n");
+fn print_refusal(rt: &HostRuntime, number: u32) {
+    let _ = rt.write_all(b": ");
+    let _ = rt.print(number as u64);
+    let _ = rt.write_all(b"\n");
 }
 
 // A line of the output for one value of the list.
-fn value_case(line: &[u8], value: u64) {
-    io::write_all(STDOUT_FILENO, test_tables::name(line));
-    io::write_all(STDOUT_FILENO, b" ");
-    io::print_decimal(STDOUT_FILENO, value);
-    print_refusal(refusal(line, value));
+fn value_case(rt: &HostRuntime, line: &[u8], value: u64) {
+    let _ = rt.write_all(test_tables::name(line));
+    let _ = rt.write_all(b" ");
+    let _ = rt.print(value);
+    print_refusal(rt, refusal(line, value));
 }
 
 // A case for each value of the list.
-fn value_cases(line: &[u8]) {
+fn value_cases(rt: &HostRuntime, line: &[u8]) {
     let mut i = 0;
     while i < 7 {
-        value_case(line, VALUES[i]);
+        value_case(rt, line, VALUES[i]);
         i += 1;
     }
 }
 
-fn case(line: &[u8]) {
+fn case(rt: &HostRuntime, line: &[u8]) {
     if test_tables::find(line, 0, b'A') < line.len() {
-        value_cases(line);
+        value_cases(rt, line);
         return;
     }
-    io::write_all(STDOUT_FILENO, test_tables::name(line));
-    print_refusal(refusal(line, field(line, b'V', 0)));
+    let _ = rt.write_all(test_tables::name(line));
+    print_refusal(rt, refusal(line, field(line, b'V', 0)));
 }
 
 // Each line of a table.
-pub fn each_case(table: &[u8]) {
+pub fn each_case(rt: &HostRuntime, table: &[u8]) {
     let mut at = 0;
     while at < table.len() {
-        case(test_tables::line(table, at));
+        case(rt, test_tables::line(table, at));
         at = test_tables::next_line(table, at);
     }
 }
 
-fn main() {
-    cases::books();
-    cases::book_bodies();
-    cases::sheets();
-    cases::sheet_bodies();
-    cases::factored_sheets();
-    cases::factors();
-    cases::both();
+fn main(rt: HostRuntime) {
+    cases::books(&rt);
+    cases::book_bodies(&rt);
+    cases::sheets(&rt);
+    cases::sheet_bodies(&rt);
+    cases::factored_sheets(&rt);
+    cases::factors(&rt);
+    cases::both(&rt);
 }

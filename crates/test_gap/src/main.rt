@@ -208,48 +208,48 @@ fn with_book(totals: Totals, found: Found) -> Totals {
 }
 
 // A line of what was found.
-fn report(found: Found, steps: u32, diameter: u64) {
-    test_printing::word(b"K");
-    test_printing::number(steps as u64);
-    test_printing::word(b" D2");
-    test_printing::number(diameter);
-    test_printing::word(b" t");
-    test_printing::number(found.step as u64);
-    test_printing::word(b" W");
-    test_printing::number(found.weight as u64);
-    test_printing::word(b" G");
-    test_printing::number(found.gap);
-    test_printing::word(b" ratio");
-    test_printing::number(found.ratio);
+fn report(rt: &HostRuntime, found: Found, steps: u32, diameter: u64) {
+    test_printing::word(rt, b"K");
+    test_printing::number(rt, steps as u64);
+    test_printing::word(rt, b" D2");
+    test_printing::number(rt, diameter);
+    test_printing::word(rt, b" t");
+    test_printing::number(rt, found.step as u64);
+    test_printing::word(rt, b" W");
+    test_printing::number(rt, found.weight as u64);
+    test_printing::word(rt, b" G");
+    test_printing::number(rt, found.gap);
+    test_printing::word(rt, b" ratio");
+    test_printing::number(rt, found.ratio);
     if found.every {
-        test_printing::word(b" every");
+        test_printing::word(rt, b" every");
     }
     if !found.some {
-        test_printing::word(b" none");
+        test_printing::word(rt, b" none");
     }
-    test_printing::word(b"\n");
+    test_printing::word(rt, b"\n");
 }
 
 // The totals.
-fn summary(totals: Totals) {
-    test_printing::line(b"books", totals.books);
-    test_printing::line(b"some step keeps to the bound", totals.some);
-    test_printing::line(b"every step does", totals.every);
-    test_printing::line(b"greatest ratio", totals.ratio);
+fn summary(rt: &HostRuntime, totals: Totals) {
+    test_printing::line(rt, b"books", totals.books);
+    test_printing::line(rt, b"some step keeps to the bound", totals.some);
+    test_printing::line(rt, b"every step does", totals.every);
+    test_printing::line(rt, b"greatest ratio", totals.ratio);
 }
 
 // Follows the method on a book and a sheet, and reports.
-fn followed(book: &[u8], sheet: &[u8], totals: Totals) -> Totals {
+fn followed(rt: &HostRuntime, book: &[u8], sheet: &[u8], totals: Totals) -> Totals {
     let refusal = validation::files_refusal(book, sheet);
     if refusal != 0 {
-        test_printing::refused(refusal);
+        test_printing::refused(rt, refusal);
         return totals;
     }
     let layout = iteration::layout_of(book, sheet);
     let d = diameter(book, sheet, layout);
     let start = State::fresh(book, sheet, layout);
     let found = follow(start, book, sheet, layout, d);
-    report(found, files::steps(sheet), d);
+    report(rt, found, files::steps(sheet), d);
     with_book(totals, found)
 }
 
@@ -265,7 +265,7 @@ fn put_limits(buffer: &mut [u8], at: usize, seed: &mut u64, count: u64) {
 }
 
 // One drawn book and sheet; the values of every fifth book are at the limits.
-fn one(seed: &mut u64, number: u64, plan: Plan, totals: Totals) -> Totals {
+fn one(rt: &HostRuntime, seed: &mut u64, number: u64, plan: Plan, totals: Totals) -> Totals {
     let mut book = [0u8; 40001];
     let mut sheet = [0u8; 40001];
     let placed = test_samples::put_book(&mut book, seed, plan);
@@ -276,6 +276,7 @@ fn one(seed: &mut u64, number: u64, plan: Plan, totals: Totals) -> Totals {
     put_limits(&mut book, rows, seed, count);
     let m = test_samples::put_sheet(&mut sheet, seed, plan, &book, rows, 0);
     followed(
+        rt,
         test_buffers::between(&book, 0, end),
         test_buffers::between(&sheet, 0, m),
         totals,
@@ -307,7 +308,7 @@ fn longest(scale: u64) -> Plan {
     }
 }
 
-fn main() {
+fn main(rt: HostRuntime) {
     let mut seed = 9;
     let mut number = 0;
     let mut totals = Totals {
@@ -318,10 +319,10 @@ fn main() {
     };
     while number < 600 {
         let plan = draw_plan(&mut seed, number);
-        totals = one(&mut seed, number, plan, totals);
+        totals = one(&rt, &mut seed, number, plan, totals);
         number += 1;
     }
-    totals = one(&mut seed, number, longest(1), totals);
-    totals = one(&mut seed, number + 1, longest(10), totals);
-    summary(totals);
+    totals = one(&rt, &mut seed, number, longest(1), totals);
+    totals = one(&rt, &mut seed, number + 1, longest(10), totals);
+    summary(&rt, totals);
 }

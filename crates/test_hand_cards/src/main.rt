@@ -67,14 +67,14 @@ fn put_card(file: &mut [u8], line: &[u8]) -> usize {
 }
 
 // Checks a card with a list of 4 slots that hold 7, and prints the list.
-fn checked(book: &[u8], sheet: &[u8], filed: &[u8]) {
+fn checked(rt: &HostRuntime, book: &[u8], sheet: &[u8], filed: &[u8]) {
     let mut slots = [7u16; 4];
-    test_printing::outcome(card::check_card(book, sheet, filed, &mut slots));
-    test_printing::slots(&slots, 4);
+    test_printing::outcome(rt, card::check_card(book, sheet, filed, &mut slots));
+    test_printing::slots(rt, &slots, 4);
 }
 
 // Checks the last bytes of a line's card, as many as B says.
-fn check(line: &[u8]) {
+fn check(rt: &HostRuntime, line: &[u8]) {
     let mut book = [0u8; 40];
     let mut sheet = [0u8; 40];
     let mut file = [0u8; 80];
@@ -82,8 +82,9 @@ fn check(line: &[u8]) {
     let m = put_sheet(&mut sheet, line);
     let end = put_card(&mut file, line);
     let start = test_buffers::less(end, test_tables::field(line, b'B', 48) as usize);
-    test_printing::title(test_tables::name(line));
+    test_printing::title(rt, test_tables::name(line));
     checked(
+        rt,
         between(&book, 0, n),
         between(&sheet, 0, m),
         between(&file, start, end),
@@ -91,10 +92,10 @@ fn check(line: &[u8]) {
 }
 
 // Checks the card of each line.
-fn check_all(table: &[u8]) {
+fn check_all(rt: &HostRuntime, table: &[u8]) {
     let mut at = 0;
     while at < table.len() {
-        check(test_tables::line(table, at));
+        check(rt, test_tables::line(table, at));
         at = test_tables::next_line(table, at);
     }
 }
@@ -103,8 +104,9 @@ fn check_all(table: &[u8]) {
 // Letters: P the pairs, K the back count, V the verdict, S the steps, T the tolerance, E the distance, G the gap, N the boats, C the
 // columns, L the letters as a number. Left out are those of the card of equal shares: two for each boat, Within after 3 steps
 // at (1,1).
-fn trailers() {
+fn trailers(rt: &HostRuntime) {
     check_all(
+        rt,
         b"equal shares:
 one share at the only step: P11 K4 V3 S1 E10 G16 B40 M1
 far target: P1323 K8 V2 E648 G0 B44 X5
@@ -136,8 +138,9 @@ back 8: K8
 }
 
 // 36 and 37, the pairs; 38 and 39, the numbers.
-fn pairs_and_numbers() {
+fn pairs_and_numbers(rt: &HostRuntime) {
     check_all(
+        rt,
         b"boats 1 0 2: P120222
 boats 0 0 2: P020222
 boats 0 1 3: P021232
@@ -163,8 +166,9 @@ gap 33 and tolerance 2: G33 T2
 // Both tests of Beyond: WCD1, L826557271, has the former, and WCD2 the sharper. J is the sheet's tolerance.
 // At (5,5) boat 1 has E = 26 and G = 16 after step 1, boats 1 and 2 have E = 170 and G = 32 after step 2; boat 0 alone has E = 50
 // and G = 20, where (E - G)² is 18 × E. At (2,2) its E is its G, at (1,1) below it.
-fn editions() {
+fn editions(rt: &HostRuntime) {
     check_all(
+        rt,
         b"former equal shares: L826557271
 former far target: P1323 K8 V2 E648 G0 B44 X5 L826557271
 sharper first step beyond: P11 K4 V2 S1 E26 G16 B40 X5
@@ -188,8 +192,8 @@ former distance below the gap: P01 K4 V2 S1 E2 G4 B40 L826557271
     );
 }
 
-fn main() {
-    trailers();
-    pairs_and_numbers();
-    editions();
+fn main(rt: HostRuntime) {
+    trailers(&rt);
+    pairs_and_numbers(&rt);
+    editions(&rt);
 }

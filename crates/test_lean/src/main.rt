@@ -34,7 +34,14 @@ fn pair(book: &[u8], cases: &[u8], w: Walk, before: usize, slots: &mut [u16]) ->
 }
 
 // Prints the report of `cards` cards, of which `pairs` pairs are there to be read from `start` on. Gives back where the next case starts.
-fn report(book: &[u8], cases: &[u8], start: usize, cards: usize, pairs: usize) -> usize {
+fn report(
+    rt: &HostRuntime,
+    book: &[u8],
+    cases: &[u8],
+    start: usize,
+    cards: usize,
+    pairs: usize,
+) -> usize {
     let mut slots = [7u16; leaning::MOST_SLOTS];
     let mut w = Walk {
         at: start,
@@ -45,16 +52,17 @@ fn report(book: &[u8], cases: &[u8], start: usize, cards: usize, pairs: usize) -
         w = pair(book, cases, w, k, &mut slots);
         k += 1;
     }
-    file_io::print(lean_listing::lean_text(book, w.refusal, cards, &slots));
+    file_io::print(rt, lean_listing::lean_text(book, w.refusal, cards, &slots));
     w.at
 }
 
 // The case at `start`: three numbers of 2 bytes each, the book, then its pairs. Gives back where the next case starts.
-fn case(cases: &[u8], start: usize) -> usize {
+fn case(rt: &HostRuntime, cases: &[u8], start: usize) -> usize {
     let at = start % 1000000;
     let book = at + 6;
     let end = book + u16_at(cases, at) as usize;
     report(
+        rt,
         between(cases, book, end),
         cases,
         end,
@@ -64,60 +72,60 @@ fn case(cases: &[u8], start: usize) -> usize {
 }
 
 // Each case of a file. Gives back where the names of the folders start, behind the last case.
-fn each(cases: &[u8], count: u64) -> usize {
+fn each(rt: &HostRuntime, cases: &[u8], count: u64) -> usize {
     let mut at = 0;
     let mut number = 0;
     while number < count {
-        test_printing::line(b"case", number);
-        at = case(cases, at);
+        test_printing::line(rt, b"case", number);
+        at = case(rt, cases, at);
         number += 1;
     }
     at
 }
 
 // The report of one card of the first case's book, in fewer slots than it needs.
-fn too_few_slots(cases: &[u8]) {
+fn too_few_slots(rt: &HostRuntime, cases: &[u8]) {
     let slots = [1u16; 255];
-    test_printing::title(b"too few slots");
+    test_printing::title(rt, b"too few slots");
     let book = between(cases, 6, 6 + u16_at(cases, 0) as usize);
-    file_io::print(lean_listing::lean_text(book, 0, 1, &slots));
+    file_io::print(rt, lean_listing::lean_text(book, 0, 1, &slots));
 }
 
 // leanlist in a folder.
-fn folder(name: &[u8]) {
-    test_printing::title(name);
-    lean_folder::list_boats(name);
+fn folder(rt: &HostRuntime, name: &[u8]) {
+    test_printing::title(rt, name);
+    lean_folder::list_boats(rt, name);
 }
 
 // The folder at `start`: the length of its name in 2 bytes, and the name. Gives back where the next one starts.
-fn folder_at(cases: &[u8], start: usize) -> usize {
+fn folder_at(rt: &HostRuntime, cases: &[u8], start: usize) -> usize {
     let at = start % 1000000;
     let from = at + 2;
     let end = from + u16_at(cases, at) as usize;
-    folder(between(cases, from, end));
+    folder(rt, between(cases, from, end));
     end
 }
 
 // leanlist in one folder after another.
-fn folders(cases: &[u8], start: usize, count: u64) {
+fn folders(rt: &HostRuntime, cases: &[u8], start: usize, count: u64) {
     let mut at = start;
     let mut number = 0;
     while number < count {
-        at = folder_at(cases, at);
+        at = folder_at(rt, cases, at);
         number += 1;
     }
 }
 
 // All of it; the cases and the names of the folders are read into this buffer.
-fn run(buffer: &mut [u8]) {
-    let n = file_io::read_file(b"cases.dat", buffer);
+fn run(rt: &HostRuntime, buffer: &mut [u8]) {
+    let n = file_io::read_file(rt, b"cases.dat", buffer);
     let cases = file_io::first_bytes(buffer, n);
-    let names = each(cases, 160);
-    too_few_slots(cases);
-    folders(cases, names, 20);
+    let names = each(rt, cases, 160);
+    too_few_slots(rt, cases);
+    folders(rt, cases, names, 20);
 }
 
-fn main() {
+fn main(rt: HostRuntime) {
     let mut cases = [0u8; 240000];
-    run(&mut cases);
+    run(&rt, &mut cases);
 }

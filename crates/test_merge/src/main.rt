@@ -15,21 +15,22 @@ fn merged_within(first: &[u8], second: &[u8], output: &mut [u8], room: usize) ->
 }
 
 // Prints what is given back for two books and a buffer of `room` bytes, and a sum of all bytes of a longer one.
-fn merged(first: &[u8], second: &[u8], room: usize) {
+fn merged(rt: &HostRuntime, first: &[u8], second: &[u8], room: usize) {
     let mut output = [7u8; merged_book::MOST_BYTES];
     let made = merged_within(first, second, &mut output, room);
-    test_printing::line(b"refused", made.refusal as u64);
-    test_printing::line(b"bytes", made.len as u64);
-    test_printing::line(b"sum", test_buffers::checksum(&output));
+    test_printing::line(rt, b"refused", made.refusal as u64);
+    test_printing::line(rt, b"bytes", made.len as u64);
+    test_printing::line(rt, b"sum", test_buffers::checksum(&output));
 }
 
 // The case at `start`: three numbers of 2 bytes each, then both books. Gives back where the next case starts.
-fn case(cases: &[u8], start: usize) -> usize {
+fn case(rt: &HostRuntime, cases: &[u8], start: usize) -> usize {
     let at = start % 1000000;
     let first = at + 6;
     let second = first + u16_at(cases, at) as usize;
     let end = second + u16_at(cases, at + 2) as usize;
     merged(
+        rt,
         between(cases, first, second),
         between(cases, second, end),
         u16_at(cases, at + 4) as usize,
@@ -38,55 +39,55 @@ fn case(cases: &[u8], start: usize) -> usize {
 }
 
 // Each case of a file. Gives back where the names of the folders start, behind the last case.
-fn each(cases: &[u8], count: u64) -> usize {
+fn each(rt: &HostRuntime, cases: &[u8], count: u64) -> usize {
     let mut at = 0;
     let mut number = 0;
     while number < count {
-        test_printing::line(b"case", number);
-        at = case(cases, at);
+        test_printing::line(rt, b"case", number);
+        at = case(rt, cases, at);
         number += 1;
     }
     at
 }
 
 // mixmerge in a folder, and the book that stands there afterwards.
-fn folder(name: &[u8]) {
+fn folder(rt: &HostRuntime, name: &[u8]) {
     let mut book = [0u8; 40001];
-    test_printing::title(name);
-    merge_folder::file_merged(name);
-    let n = file_io::read_in(name, b"merged.wbk", &mut book);
-    test_printing::line(b"bytes", n as u64);
-    test_printing::line(b"sum", test_buffers::checksum(&book[..n]));
+    test_printing::title(rt, name);
+    merge_folder::file_merged(rt, name);
+    let n = file_io::read_in(rt, name, b"merged.wbk", &mut book);
+    test_printing::line(rt, b"bytes", n as u64);
+    test_printing::line(rt, b"sum", test_buffers::checksum(&book[..n]));
 }
 
 // The folder at `start`: the length of its name in 2 bytes, and the name. Gives back where the next one starts.
-fn folder_at(cases: &[u8], start: usize) -> usize {
+fn folder_at(rt: &HostRuntime, cases: &[u8], start: usize) -> usize {
     let at = start % 1000000;
     let from = at + 2;
     let end = from + u16_at(cases, at) as usize;
-    folder(between(cases, from, end));
+    folder(rt, between(cases, from, end));
     end
 }
 
 // mixmerge in one folder after another.
-fn folders(cases: &[u8], start: usize, count: u64) {
+fn folders(rt: &HostRuntime, cases: &[u8], start: usize, count: u64) {
     let mut at = start;
     let mut number = 0;
     while number < count {
-        at = folder_at(cases, at);
+        at = folder_at(rt, cases, at);
         number += 1;
     }
 }
 
 // All of it; the cases and the names of the folders are read into this buffer.
-fn run(buffer: &mut [u8]) {
-    let n = file_io::read_file(b"cases.dat", buffer);
+fn run(rt: &HostRuntime, buffer: &mut [u8]) {
+    let n = file_io::read_file(rt, b"cases.dat", buffer);
     let cases = file_io::first_bytes(buffer, n);
-    let names = each(cases, 400);
-    folders(cases, names, 11);
+    let names = each(rt, cases, 400);
+    folders(rt, cases, names, 11);
 }
 
-fn main() {
+fn main(rt: HostRuntime) {
     let mut cases = [0u8; 304000];
-    run(&mut cases);
+    run(&rt, &mut cases);
 }

@@ -13,16 +13,16 @@ fn end_of(cases: &[u8], at: usize) -> usize {
 }
 
 // A line of a word, with 1 for yes and 0 for no.
-fn said(word: &[u8], yes: bool) {
+fn said(rt: &HostRuntime, word: &[u8], yes: bool) {
     if yes {
-        test_printing::line(word, 1);
+        test_printing::line(rt, word, 1);
     } else {
-        test_printing::line(word, 0);
+        test_printing::line(rt, word, 0);
     }
 }
 
 // The case at `start`: its name, the CSVs of the fleet and of the sheet, the book and the sheet. Gives back where the next case starts.
-fn case(cases: &[u8], start: usize) -> usize {
+fn case(rt: &HostRuntime, cases: &[u8], start: usize) -> usize {
     let at = start % 1000000;
     let first = end_of(cases, at);
     let second = end_of(cases, first);
@@ -31,12 +31,14 @@ fn case(cases: &[u8], start: usize) -> usize {
     let fifth = end_of(cases, fourth);
     let fleet = between(cases, first % 1000000 + 3, second);
     let csv = between(cases, second % 1000000 + 3, third);
-    test_printing::title(between(cases, at + 3, first));
+    test_printing::title(rt, between(cases, at + 3, first));
     said(
+        rt,
         b"book",
         csv_origin::is_book_of(fleet, between(cases, third % 1000000 + 3, fourth)),
     );
     said(
+        rt,
         b"sheet",
         csv_origin::is_sheet_of(fleet, csv, between(cases, fourth % 1000000 + 3, fifth)),
     );
@@ -44,22 +46,22 @@ fn case(cases: &[u8], start: usize) -> usize {
 }
 
 // Each case of a file.
-fn each(cases: &[u8], count: u64) {
+fn each(rt: &HostRuntime, cases: &[u8], count: u64) {
     let mut at = 0;
     let mut number = 0;
     while number < count {
-        at = case(cases, at);
+        at = case(rt, cases, at);
         number += 1;
     }
 }
 
 // Each case of cases.dat, which is read into this buffer.
-fn run(buffer: &mut [u8]) {
-    let n = file_io::read_file(b"cases.dat", buffer);
-    each(file_io::first_bytes(buffer, n), 195);
+fn run(rt: &HostRuntime, buffer: &mut [u8]) {
+    let n = file_io::read_file(rt, b"cases.dat", buffer);
+    each(rt, file_io::first_bytes(buffer, n), 195);
 }
 
-fn main() {
+fn main(rt: HostRuntime) {
     let mut cases = [0u8; 300000];
-    run(&mut cases);
+    run(&rt, &mut cases);
 }

@@ -3,68 +3,70 @@
 
 #![tactic(auto)]
 // Prints how many bytes a card of a folder has, at most 40,001, and a sum over them.
-fn card_left(folder: &[u8], name: &[u8]) {
+fn card_left(rt: &HostRuntime, folder: &[u8], name: &[u8]) {
     let mut filed = [0u8; 40001];
-    let n = file_io::read_in(folder, name, &mut filed);
-    test_printing::line(b"bytes", n as u64);
-    test_printing::line(b"sum", test_buffers::checksum(&filed[..n]));
+    let n = file_io::read_in(rt, folder, name, &mut filed);
+    test_printing::line(rt, b"bytes", n as u64);
+    test_printing::line(rt, b"sum", test_buffers::checksum(&filed[..n]));
 }
 
 // Lists the search of a folder, checks the card that stands there, files the card of the search, and checks again; then files the
 // better of the folder's two cards.
-fn programs(folder: &[u8]) {
-    test_printing::title(b"mixlist");
-    search_folder::list_search(folder);
-    test_printing::title(b"mixcheck");
-    card_folder::check_card(folder);
-    test_printing::title(b"mixcard");
-    card_folder::file_card(folder);
-    card_left(folder, b"card.wcd");
-    test_printing::title(b"mixcheck");
-    card_folder::check_card(folder);
-    test_printing::title(b"mixbetter");
-    better_folder::file_better(folder);
-    card_left(folder, b"better.wcd");
+fn programs(rt: &HostRuntime, folder: &[u8]) {
+    test_printing::title(rt, b"mixlist");
+    search_folder::list_search(rt, folder);
+    test_printing::title(rt, b"mixcheck");
+    card_folder::check_card(rt, folder);
+    test_printing::title(rt, b"mixcard");
+    card_folder::file_card(rt, folder);
+    card_left(rt, folder, b"card.wcd");
+    test_printing::title(rt, b"mixcheck");
+    card_folder::check_card(rt, folder);
+    test_printing::title(rt, b"mixbetter");
+    better_folder::file_better(rt, folder);
+    card_left(rt, folder, b"better.wcd");
 }
 
 // The same in each folder of a table, whose lines are names.
-fn each(table: &[u8]) {
+fn each(rt: &HostRuntime, table: &[u8]) {
     let mut at = 0;
     while at < table.len() {
         let folder = test_tables::line(table, at);
-        test_printing::title(folder);
-        programs(folder);
+        test_printing::title(rt, folder);
+        programs(rt, folder);
         at = test_tables::next_line(table, at);
     }
 }
 
 // Puts the file of this name in the current folder behind zeros, so that it ends at 40,000 bytes, and the first `length` of 40,001
 // bytes into the folder `long`. Cut by its last byte, a book, sheet or card of 40,001 bytes would pass.
-fn put_long(name: &[u8], length: usize) {
+fn put_long(rt: &HostRuntime, name: &[u8], length: usize) {
     let mut short = [0u8; 256];
     let mut file = [0u8; 40001];
-    let n = file_io::read_file(name, &mut short);
+    let n = file_io::read_file(rt, name, &mut short);
     test_buffers::put_bytes(&mut file, test_buffers::less(40000, n), &short[..n]);
     let path = paths::path_in(b"long", name);
     let bytes = path.bytes;
     let len = path.len;
     file_io::replace_file(
+        rt,
         file_io::first_bytes(&bytes, len),
         file_io::first_bytes(&file, length),
     );
 }
 
 // The same in the folder `long`, once a file of it is so long.
-fn long(name: &[u8], length: usize) {
-    put_long(name, length);
-    test_printing::line(name, length as u64);
-    programs(b"long");
+fn long(rt: &HostRuntime, name: &[u8], length: usize) {
+    put_long(rt, name, length);
+    test_printing::line(rt, name, length as u64);
+    programs(rt, b"long");
 }
 
-fn main() {
-    test_printing::title(b"the current folder");
-    programs(b"");
+fn main(rt: HostRuntime) {
+    test_printing::title(&rt, b"the current folder");
+    programs(&rt, b"");
     each(
+        &rt,
         b"larger
 beyond
 spent
@@ -93,10 +95,10 @@ factors_refused
 pair_factors
 ",
     );
-    long(b"card.wcd", 40000);
-    long(b"card.wcd", 40001);
-    long(b"sheet.wsh", 40001);
-    long(b"sheet.wsh", 40000);
-    long(b"fleet.wbk", 40001);
-    long(b"fleet.wbk", 40000);
+    long(&rt, b"card.wcd", 40000);
+    long(&rt, b"card.wcd", 40001);
+    long(&rt, b"sheet.wsh", 40001);
+    long(&rt, b"sheet.wsh", 40000);
+    long(&rt, b"fleet.wbk", 40001);
+    long(&rt, b"fleet.wbk", 40000);
 }

@@ -45,28 +45,28 @@ fn sum_of(slots: &[u16]) -> u64 {
 }
 
 // Prints record i.
-fn record(outcome: Outcome, i: usize) {
+fn record(rt: &HostRuntime, outcome: Outcome, i: usize) {
     if 16 <= i {
         return;
     }
     let record = queue_rounds::record_at(outcome, i);
-    test_printing::word(b"record");
-    test_printing::number(record.asked as u64);
-    test_printing::number(record.used as u64);
-    test_printing::number(if record.finished { 1 } else { 0 });
-    test_printing::number(record.distance);
-    test_printing::number(record.gap);
-    test_printing::number(record.verdict as u64);
-    test_printing::number(record.length as u64);
-    test_printing::word(b"\n");
+    test_printing::word(rt, b"record");
+    test_printing::number(rt, record.asked as u64);
+    test_printing::number(rt, record.used as u64);
+    test_printing::number(rt, if record.finished { 1 } else { 0 });
+    test_printing::number(rt, record.distance);
+    test_printing::number(rt, record.gap);
+    test_printing::number(rt, record.verdict as u64);
+    test_printing::number(rt, record.length as u64);
+    test_printing::word(rt, b"\n");
 }
 
 // Prints the records of an outcome.
-fn records(outcome: Outcome) {
+fn records(rt: &HostRuntime, outcome: Outcome) {
     let count = outcome.count;
     let mut i = 0;
     while i < count {
-        record(outcome, i);
+        record(rt, outcome, i);
         i += 1;
     }
 }
@@ -89,7 +89,7 @@ fn run_within(
 
 // The case at `start`: four numbers of 2 bytes each, the allowance, 16 lengths, then the book and the sheets. Gives back where the next
 // case starts.
-fn case(cases: &[u8], start: usize) -> usize {
+fn case(rt: &HostRuntime, cases: &[u8], start: usize) -> usize {
     let at = start % 1000000;
     let book = at + 76;
     let sheets = book + u16_at(cases, at + 4) as usize;
@@ -103,20 +103,20 @@ fn case(cases: &[u8], start: usize) -> usize {
         &mut shares,
         u16_at(cases, at + 2) as usize,
     );
-    test_printing::line(b"refused", outcome.refusal as u64);
-    test_printing::line(b"accepted", outcome.accepted as u64);
-    records(outcome);
-    test_printing::line(b"sum", sum_of(&shares));
+    test_printing::line(rt, b"refused", outcome.refusal as u64);
+    test_printing::line(rt, b"accepted", outcome.accepted as u64);
+    records(rt, outcome);
+    test_printing::line(rt, b"sum", sum_of(&shares));
     end
 }
 
 // Each case of a file. Gives back where the runs of mixqueue start, behind the last case.
-fn each(cases: &[u8], count: u64) -> usize {
+fn each(rt: &HostRuntime, cases: &[u8], count: u64) -> usize {
     let mut at = 0;
     let mut number = 0;
     while number < count {
-        test_printing::line(b"case", number);
-        at = case(cases, at);
+        test_printing::line(rt, b"case", number);
+        at = case(rt, cases, at);
         number += 1;
     }
     at
@@ -124,37 +124,37 @@ fn each(cases: &[u8], count: u64) -> usize {
 
 // The run of mixqueue at `start`: the allowance in 4 bytes, the length of the folder's name in 2, and the name. Gives back where the next run
 // starts.
-fn folder(cases: &[u8], start: usize) -> usize {
+fn folder(rt: &HostRuntime, cases: &[u8], start: usize) -> usize {
     let at = start % 1000000;
     let allowance = u32_at(cases, at);
     let from = at + 6;
     let end = from + u16_at(cases, at + 4) as usize;
     let name = between(cases, from, end);
-    test_printing::title(name);
-    test_printing::line(b"allowance", allowance as u64);
-    queue_folder::list_queue(name, allowance);
+    test_printing::title(rt, name);
+    test_printing::line(rt, b"allowance", allowance as u64);
+    queue_folder::list_queue(rt, name, allowance);
     end
 }
 
 // mixqueue in one folder after another.
-fn folders(cases: &[u8], start: usize, count: u64) {
+fn folders(rt: &HostRuntime, cases: &[u8], start: usize, count: u64) {
     let mut at = start;
     let mut number = 0;
     while number < count {
-        at = folder(cases, at);
+        at = folder(rt, cases, at);
         number += 1;
     }
 }
 
 // All of it; the cases and the runs are read into this buffer.
-fn run(buffer: &mut [u8]) {
-    let n = file_io::read_file(b"cases.dat", buffer);
+fn run(rt: &HostRuntime, buffer: &mut [u8]) {
+    let n = file_io::read_file(rt, b"cases.dat", buffer);
     let cases = file_io::first_bytes(buffer, n);
-    let runs = each(cases, 240);
-    folders(cases, runs, 32);
+    let runs = each(rt, cases, 240);
+    folders(rt, cases, runs, 32);
 }
 
-fn main() {
+fn main(rt: HostRuntime) {
     let mut cases = [0u8; 110000];
-    run(&mut cases);
+    run(&rt, &mut cases);
 }

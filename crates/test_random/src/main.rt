@@ -56,18 +56,18 @@ fn tolerance_for(book: &[u8], sheet: &[u8], seed: &mut u64) -> u64 {
 }
 
 // What the search gives of two files: what its verdict carries, and the listing.
-fn report(book: &[u8], sheet: &[u8]) {
+fn report(rt: &HostRuntime, book: &[u8], sheet: &[u8]) {
     let mut shares = [0u16; 256];
     let found = search::search(book, sheet, &mut shares);
     if let Searched::Answered(a) = found {
         let v = a.verdict;
-        test_printing::carried(v);
+        test_printing::carried(rt, v);
     }
-    file_io::print(search_listing::search_listing(book, sheet).text);
+    file_io::print(rt, search_listing::search_listing(book, sheet).text);
 }
 
 // Searches and lists the files in two buffers up to `n` and up to `m`, with a drawn tolerance.
-fn run(book: &[u8], n: usize, sheet: &mut [u8], m: usize, seed: &mut u64) {
+fn run(rt: &HostRuntime, book: &[u8], n: usize, sheet: &mut [u8], m: usize, seed: &mut u64) {
     let tolerance = tolerance_for(
         test_buffers::between(book, 0, n),
         test_buffers::between(sheet, 0, m),
@@ -75,42 +75,44 @@ fn run(book: &[u8], n: usize, sheet: &mut [u8], m: usize, seed: &mut u64) {
     );
     test_buffers::put_number(sheet, test_buffers::less(m, 8), tolerance, 4);
     report(
+        rt,
         test_buffers::between(book, 0, n),
         test_buffers::between(sheet, 0, m),
     );
 }
 
 // One drawn case.
-fn one(seed: &mut u64, number: u64, plan: Plan) {
+fn one(rt: &HostRuntime, seed: &mut u64, number: u64, plan: Plan) {
     let mut book = [0u8; 40001];
     let mut sheet = [0u8; 40001];
-    test_printing::line(b"case", number);
+    test_printing::line(rt, b"case", number);
     let placed = test_samples::put_book(&mut book, seed, plan);
     let rows = placed.rows;
     let end = placed.end;
     let m = test_samples::put_sheet(&mut sheet, seed, plan, &book, rows, 0);
-    run(&book, end, &mut sheet, m, seed);
+    run(rt, &book, end, &mut sheet, m, seed);
 }
 
 // One drawn case of mirrored rows, tolerance 0.
-fn mirrored_case(seed: &mut u64, number: u64) {
+fn mirrored_case(rt: &HostRuntime, seed: &mut u64, number: u64) {
     let mut book = [0u8; 84];
     let mut sheet = [0u8; 22];
-    test_printing::line(b"mirrored", number);
+    test_printing::line(rt, b"mirrored", number);
     let plan = mirrored::draw_plan(seed);
     let n = mirrored::put_book(&mut book, seed, plan);
     let m = mirrored::put_sheet(&mut sheet, seed, plan);
     report(
+        rt,
         test_buffers::between(&book, 0, n),
         test_buffers::between(&sheet, 0, m),
     );
 }
 
-fn mirrored_cases() {
+fn mirrored_cases(rt: &HostRuntime) {
     let mut seed = 6;
     let mut number = 0;
     while number < 1000 {
-        mirrored_case(&mut seed, number);
+        mirrored_case(rt, &mut seed, number);
         number += 1;
     }
 }
@@ -125,15 +127,15 @@ fn full(steps: u64) -> Plan {
     }
 }
 
-fn main() {
+fn main(rt: HostRuntime) {
     let mut seed = 6;
     let mut number = 0;
     while number < 3000 {
         let plan = test_samples::draw_plan(&mut seed);
-        one(&mut seed, number, plan);
+        one(&rt, &mut seed, number, plan);
         number += 1;
     }
-    one(&mut seed, number, full(40));
-    one(&mut seed, number + 1, full(State::MOST_STEPS as u64));
-    mirrored_cases();
+    one(&rt, &mut seed, number, full(40));
+    one(&rt, &mut seed, number + 1, full(State::MOST_STEPS as u64));
+    mirrored_cases(&rt);
 }

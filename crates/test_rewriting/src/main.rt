@@ -6,8 +6,8 @@ use editions::Rewritten;
 use test_buffers::{between, u16_at};
 
 // Prints the line of a conversion; gives back how many bytes it wrote.
-fn size_of(given: Rewritten) -> usize {
-    file_io::print(edition_text::edition_line(given));
+fn size_of(rt: &HostRuntime, given: Rewritten) -> usize {
+    file_io::print(rt, edition_text::edition_line(given));
     match given {
         Rewritten::Refused(_) => 0,
         Rewritten::Wrote(_, size) => size,
@@ -16,38 +16,41 @@ fn size_of(given: Rewritten) -> usize {
 
 // Converts a sheet into the first `room` bytes of a buffer, all of them where it has fewer; prints the line, and gives back how many bytes
 // were written.
-fn rewritten(sheet: &[u8], buffer: &mut [u8], room: usize) -> usize {
+fn rewritten(rt: &HostRuntime, sheet: &[u8], buffer: &mut [u8], room: usize) -> usize {
     if buffer.len() < room {
-        return size_of(other_edition::other_edition(sheet, buffer));
+        return size_of(rt, other_edition::other_edition(sheet, buffer));
     }
     let start = 0;
-    size_of(other_edition::other_edition(sheet, &mut buffer[start..room]))
+    size_of(
+        rt,
+        other_edition::other_edition(sheet, &mut buffer[start..room]),
+    )
 }
 
 // Converts a sheet into an output of `room` bytes and back into one of 50,000, and prints what is known of a refusal and a sum over each
 // buffer, whose bytes past the output and the result were 7. Then the listings of the search with both sheets, where there is a book.
-fn converted(sheet: &[u8], book: &[u8], room: usize) {
+fn converted(rt: &HostRuntime, sheet: &[u8], book: &[u8], room: usize) {
     let mut output = [7u8; 50000];
     let mut back = [7u8; 50000];
-    let size = rewritten(sheet, &mut output, room);
-    file_io::print(edition_text::edition_detail(sheet));
-    test_printing::line(b"sum", test_buffers::checksum(&output));
+    let size = rewritten(rt, sheet, &mut output, room);
+    file_io::print(rt, edition_text::edition_detail(sheet));
+    test_printing::line(rt, b"sum", test_buffers::checksum(&output));
     if size == 0 {
         return;
     }
     let other = between(&output, 0, size);
-    rewritten(other, &mut back, 50000);
-    test_printing::line(b"sum", test_buffers::checksum(&back));
+    rewritten(rt, other, &mut back, 50000);
+    test_printing::line(rt, b"sum", test_buffers::checksum(&back));
     if book.len() == 0 {
         return;
     }
-    file_io::print(search_listing::search_listing(book, sheet).text);
-    file_io::print(search_listing::search_listing(book, other).text);
+    file_io::print(rt, search_listing::search_listing(book, sheet).text);
+    file_io::print(rt, search_listing::search_listing(book, other).text);
 }
 
 // The case at `start`: how many zeros stand in front of the sheet, and the room, 2 bytes each; then the name, the sheet and the book, each
 // behind 2 bytes of length. Gives back where the next case starts.
-fn case(cases: &[u8], start: usize) -> usize {
+fn case(rt: &HostRuntime, cases: &[u8], start: usize) -> usize {
     let at = start % 1000000;
     let name = at + 6;
     let before = name + u16_at(cases, at + 4) as usize;
@@ -58,8 +61,9 @@ fn case(cases: &[u8], start: usize) -> usize {
     let mut sheet = [0u8; 50000];
     let front = u16_at(cases, at) as usize;
     let n = test_buffers::put_bytes(&mut sheet, front, between(cases, own, middle));
-    test_printing::title(between(cases, name, before));
+    test_printing::title(rt, between(cases, name, before));
     converted(
+        rt,
         between(&sheet, 0, n),
         between(cases, book, end),
         u16_at(cases, at + 2) as usize,
@@ -68,38 +72,38 @@ fn case(cases: &[u8], start: usize) -> usize {
 }
 
 // Each case of a file.
-fn each(cases: &[u8], count: u64) {
+fn each(rt: &HostRuntime, cases: &[u8], count: u64) {
     let mut at = 0;
     let mut number = 0;
     while number < count {
-        test_printing::line(b"case", number);
-        at = case(cases, at);
+        test_printing::line(rt, b"case", number);
+        at = case(rt, cases, at);
         number += 1;
     }
 }
 
 // mixedition in a folder, and the sheet that stands there afterwards.
-fn folder(name: &[u8]) {
+fn folder(rt: &HostRuntime, name: &[u8]) {
     let mut left = [0u8; 40001];
-    test_printing::title(name);
-    edition_folder::file_other(name);
-    let n = file_io::read_in(name, b"other.wsh", &mut left);
-    test_printing::line(b"bytes", n as u64);
-    test_printing::line(b"sum", test_buffers::checksum(&left[..n]));
+    test_printing::title(rt, name);
+    edition_folder::file_other(rt, name);
+    let n = file_io::read_in(rt, name, b"other.wsh", &mut left);
+    test_printing::line(rt, b"bytes", n as u64);
+    test_printing::line(rt, b"sum", test_buffers::checksum(&left[..n]));
 }
 
-fn main() {
+fn main(rt: HostRuntime) {
     let mut cases = [0u8; 17000];
-    let n = file_io::read_file(b"cases.dat", &mut cases);
-    each(&cases[..n], 236);
-    folder(b"");
-    folder(b"down");
-    folder(b"front");
-    folder(b"longest");
-    folder(b"too_long");
-    folder(b"factor");
-    folder(b"columns");
-    folder(b"no_steps");
-    folder(b"taken");
-    folder(b"none");
+    let n = file_io::read_file(&rt, b"cases.dat", &mut cases);
+    each(&rt, &cases[..n], 236);
+    folder(&rt, b"");
+    folder(&rt, b"down");
+    folder(&rt, b"front");
+    folder(&rt, b"longest");
+    folder(&rt, b"too_long");
+    folder(&rt, b"factor");
+    folder(&rt, b"columns");
+    folder(&rt, b"no_steps");
+    folder(&rt, b"taken");
+    folder(&rt, b"none");
 }

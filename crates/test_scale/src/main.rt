@@ -3,7 +3,6 @@
 
 mod draws;
 
-use libc::STDOUT_FILENO;
 use scale_cells::{ScaleCell, SheetValues};
 use scale_sheet::ScaleSheet;
 use test_buffers::between;
@@ -27,45 +26,45 @@ fn sum(values: [i16; 64]) -> u64 {
 }
 
 // The first 5 values, each as its 16 bits.
-fn print_first(values: [i16; 64]) {
+fn print_first(rt: &HostRuntime, values: [i16; 64]) {
     let mut i = 0;
     while i < 5 {
         let value = values[i];
-        test_printing::number(sheet_output::bits_of(value));
+        test_printing::number(rt, sheet_output::bits_of(value));
         i += 1;
     }
 }
 
 // A line of the refusal, the first values and a sum of all 64.
-fn print_found(found: SheetValues) {
+fn print_found(rt: &HostRuntime, found: SheetValues) {
     let values = found.values;
-    io::write_all(STDOUT_FILENO, b"values");
-    test_printing::number(found.refusal as u64);
-    print_first(values);
-    test_printing::number(sum(values));
-    io::write_all(STDOUT_FILENO, b"\n");
+    test_printing::word(rt, b"values");
+    test_printing::number(rt, found.refusal as u64);
+    print_first(rt, values);
+    test_printing::number(rt, sum(values));
+    test_printing::word(rt, b"\n");
 }
 
 // A line of the refusal, the length and a sum of the bytes.
-fn print_made(made: ScaleSheet) {
-    io::write_all(STDOUT_FILENO, b"sheet");
-    test_printing::number(made.refusal as u64);
-    test_printing::number(made.len as u64);
+fn print_made(rt: &HostRuntime, made: ScaleSheet) {
+    test_printing::word(rt, b"sheet");
+    test_printing::number(rt, made.refusal as u64);
+    test_printing::number(rt, made.len as u64);
     let bytes = made.bytes;
-    test_printing::number(test_buffers::checksum(&bytes));
-    io::write_all(STDOUT_FILENO, b"\n");
+    test_printing::number(rt, test_buffers::checksum(&bytes));
+    test_printing::word(rt, b"\n");
 }
 
 // The values and the sheet of one book and its cells.
-fn run(book: &[u8], cells: [ScaleCell; 64], steps: u32, tolerance: u32) {
-    print_found(scale_conversion::sheet_values(book, cells));
-    print_made(scale_sheet::scale_sheet(book, cells, steps, tolerance));
+fn run(rt: &HostRuntime, book: &[u8], cells: [ScaleCell; 64], steps: u32, tolerance: u32) {
+    print_found(rt, scale_conversion::sheet_values(book, cells));
+    print_made(rt, scale_sheet::scale_sheet(book, cells, steps, tolerance));
 }
 
 // One drawn case. One book in sixteen has no boat.
-fn one(seed: &mut u64, number: u64) {
+fn one(rt: &HostRuntime, seed: &mut u64, number: u64) {
     let mut book = [0u8; 160];
-    test_printing::line(b"case", number);
+    test_printing::line(rt, b"case", number);
     let columns = draws::columns(seed);
     let boats = if test_samples::draw(seed, 16) == 0 {
         0
@@ -76,14 +75,14 @@ fn one(seed: &mut u64, number: u64) {
     let cells = draws::cells(seed, columns);
     let steps = draws::steps(seed);
     let tolerance = draws::tolerance(seed);
-    run(between(&book, 0, end), cells, steps, tolerance);
+    run(rt, between(&book, 0, end), cells, steps, tolerance);
 }
 
-fn main() {
+fn main(rt: HostRuntime) {
     let mut seed = 21;
     let mut number = 0;
     while number < 3000 {
-        one(&mut seed, number);
+        one(&rt, &mut seed, number);
         number += 1;
     }
 }

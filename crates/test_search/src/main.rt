@@ -8,12 +8,12 @@ ghost use Rattle.test_buffers.specs.Buffers.{checksum};
 use test_buffers::between;
 
 // Searches with the first `length` slots of a list.
-fn search_in(book: &[u8], sheet: &[u8], slots: &mut [u16], length: usize) {
+fn search_in(rt: &HostRuntime, book: &[u8], sheet: &[u8], slots: &mut [u16], length: usize) {
     if slots.len() < length {
         return;
     }
     let start = 0;
-    test_printing::outcome(search::search(book, sheet, &mut slots[start..length]));
+    test_printing::outcome(rt, search::search(book, sheet, &mut slots[start..length]));
 }
 
 // A slot in a wider type.
@@ -38,31 +38,31 @@ fn checksum(slots: &[u16]) -> u64
 }
 
 // Searches with a list of `length` slots that hold 7, of 260, and prints its first 12 slots and a sum over all of them.
-fn searched(book: &[u8], sheet: &[u8], length: usize) {
+fn searched(rt: &HostRuntime, book: &[u8], sheet: &[u8], length: usize) {
     let mut slots = [7u16; 260];
-    search_in(book, sheet, &mut slots, length);
-    test_printing::slots(&slots, 12);
-    test_printing::line(b"sum", checksum(&slots));
+    search_in(rt, book, sheet, &mut slots, length);
+    test_printing::slots(rt, &slots, 12);
+    test_printing::line(rt, b"sum", checksum(&slots));
 }
 
 // The same of two files of the current folder, which are the name of the case. L is the length of the list, 12 where it is left out.
-fn files(line: &[u8]) {
+fn files(rt: &HostRuntime, line: &[u8]) {
     let mut book = [0u8; 40001];
     let mut sheet = [0u8; 40001];
     let names = test_tables::name(line);
     let space = test_tables::find(names, 0, b' ');
-    test_printing::title(names);
-    let n = file_io::read_file(between(names, 0, space), &mut book);
-    let m = file_io::read_file(test_tables::word(names, b' '), &mut sheet);
+    test_printing::title(rt, names);
+    let n = file_io::read_file(rt, between(names, 0, space), &mut book);
+    let m = file_io::read_file(rt, test_tables::word(names, b' '), &mut sheet);
     let length = test_tables::field(line, b'L', 12) as usize;
-    searched(&book[..n], &sheet[..m], length);
+    searched(rt, &book[..n], &sheet[..m], length);
 }
 
 // The same of each line of a table.
-fn each(table: &[u8]) {
+fn each(rt: &HostRuntime, table: &[u8]) {
     let mut at = 0;
     while at < table.len() {
-        files(test_tables::line(table, at));
+        files(rt, test_tables::line(table, at));
         at = test_tables::next_line(table, at);
     }
 }
@@ -75,21 +75,22 @@ fn long_file(bytes: &[u8], n: usize, size: usize) -> [u8; 40001] {
 }
 
 // The first marked sheet with front text that makes one of its files `size` bytes long.
-fn with_front(size: usize) {
+fn with_front(rt: &HostRuntime, size: usize) {
     let mut book = [0u8; 256];
     let mut sheet = [0u8; 256];
-    let n = file_io::read_file(b"p.wbk", &mut book);
-    let m = file_io::read_file(b"a.wsh", &mut sheet);
+    let n = file_io::read_file(rt, b"p.wbk", &mut book);
+    let m = file_io::read_file(rt, b"a.wsh", &mut sheet);
     let long_book = long_file(&book, n, size);
     let long_sheet = long_file(&sheet, m, size);
-    test_printing::line(b"front up to", size as u64);
-    searched(between(&long_book, 0, size), between(&sheet, 0, m), 12);
-    searched(between(&book, 0, n), between(&long_sheet, 0, size), 12);
+    test_printing::line(rt, b"front up to", size as u64);
+    searched(rt, between(&long_book, 0, size), between(&sheet, 0, m), 12);
+    searched(rt, between(&book, 0, n), between(&long_sheet, 0, size), 12);
 }
 
 // The marked sheets, a to j and with factors k to t, then each limit and one more than it.
-fn marked_and_limits() {
+fn marked_and_limits(rt: &HostRuntime) {
     each(
+        rt,
         b"p.wbk a.wsh:
 p.wbk b.wsh:
 p.wbk c.wsh:
@@ -127,8 +128,9 @@ h.wbk tolerance1.wsh:
 }
 
 // Share lists: as long as the boats, one slot shorter, none; files that are missing; both files refused.
-fn lists() {
+fn lists(rt: &HostRuntime) {
     each(
+        rt,
         b"p.wbk a.wsh: L3
 p.wbk a.wsh: L2
 p.wbk a.wsh: L0
@@ -141,9 +143,9 @@ p.wbk columns1.wsh:
     );
 }
 
-fn main() {
-    marked_and_limits();
-    with_front(40000);
-    with_front(40001);
-    lists();
+fn main(rt: HostRuntime) {
+    marked_and_limits(&rt);
+    with_front(&rt, 40000);
+    with_front(&rt, 40001);
+    lists(&rt);
 }

@@ -1,2 +1,0 @@
--- The law behind the proofs of this crate.
-pub mod Texts

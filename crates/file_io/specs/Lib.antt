@@ -1,0 +1,2 @@
+-- The definition of this crate.
+pub mod Counts
