@@ -1,15 +1,15 @@
 -- The rows of the boats that may be used, written one after the other.
-use mathlib.Core.Path.{◌≡◌, refl, sym, ap, ◌∙◌}
+use mathlib.Core.Path.{◌≡◌, refl, ap, ◌∙◌}
 use mathlib.Core.Bool.{Bool, true, false, cond}
 use mathlib.Core.List.{List, [], ◌∷◌, ◌++◌}
 use Prim.Native.Nat.{ℕ, zero, suc, ◌+◌, ◌*◌, ◌-◌, ◌≤◌, ◌<◌}
-use native.Mathlib.Nat.{suc-mul, zero-mul, add-mul, mul-le-mul, mul-le-mul_right}
+use native.Mathlib.Nat.{suc-mul, zero-mul, add-mul, mul-le-mul_right}
 use native.Mathlib.Omega.{arith}
 use native.Mathlib.Numerals.{add-one}
-use lib.ListN.{length, get_or, take, drop, length-drop, length-take, drop_of_length-le}
+use lib.ListN.{length, get_or, take, drop, length-drop, drop_of_length-le}
 use lib.Seq.{drop-cons, length-take-le}
 use lib.IntN.{ℤ}
-use Rattle.files.specs.Bytes.{values, all_in_range}
+use Rattle.files.specs.Bytes.{all_in_range}
 use Rattle.files.specs.Book.{boats, columns, rows, rows_offset, all_rows_in_range, book_refusal}
 use Rattle.files.proofs.Refusal.{and_true}
 use Rattle.files.proofs.Access.{row_at}

@@ -8,7 +8,6 @@ use Rattle.files.proofs.Accepted.{book_accepted}
 use Rattle.method.specs.ReleasedBoats.{usable, used_from}
 use Rattle.released_book.proofs.Rows.{rows_long, rows_most}
 use Rattle.released_book.proofs.Book.{book_put}
-use borrow.Author.Rules.{rules}
 use Rattle.released_book.proofs.put_book.Goals as goal
 
 pub boats-requires : goal.boats-requires
@@ -23,7 +22,7 @@ columns-requires c = (book_accepted _ c.requires.book_value).at_least
 pub put_book_trailer-requires : goal.put_book_trailer-requires
 put_book_trailer-requires c =
     let u = usable c.args.set in
-    omega (arith, c.put_rows-back.ensures.value, rows_long u _ c.requires.book_value, rows_most u _ c.requires.book_value, c.put_rows-back.auto.0, c.requires.in_bounds)
+    omega (arith, c.put_rows-back.ensures.value, rows_long u _ c.requires.book_value, rows_most u _ c.requires.book_value, c.put_rows-back.auto.output, c.requires.in_bounds)
 
 pub overflow_add-result : goal.overflow_add-result
 overflow_add-result c =

@@ -1,10 +1,9 @@
 -- `released_book::put_rows` meets its contract. The loop keeps `Rowing`: the rows of the boats before i that may be used are put, up to `at`, and row i is read at `from`.
 -- A turn puts row i where the boat may be used.
 -- It ends: the boats that are left fall by one.
-use Prim.Native.Nat.{◌-◌, ◌*◌, ◌<◌}
+use Prim.Native.Nat.{◌*◌, ◌<◌}
 use mathlib.Core.Path.{ap}
 use native.Mathlib.Omega.{arith}
-use borrow.Author.Rules.{rules}
 use Rattle.files.specs.Book.{boats}
 use Rattle.files.proofs.Accepted.{book_accepted}
 use Rattle.released_book.proofs.Rows.{rowing_start, row_inside, row_room, rowing_more, rowing_end}

@@ -2,9 +2,6 @@
 -- A turn puts row i where the boat may be used.
 -- It ends: the boats that are left fall by one.
 use Prim.Native.Nat.{◌-◌}
-use native.Mathlib.Omega.{arith}
-use borrow.Author.Rules.{rules}
-use Rattle.files.specs.Book.{boats}
 use Rattle.method.specs.ReleasedBoats.{usable}
 use Rattle.released_book.proofs.Rows.{Rowing}
 use Rattle.released_book.proofs.put_rows.Given as goal
