@@ -5,7 +5,7 @@ use Rattle.files.specs.Limits.{file_limit}
 use Rattle.csv_fleet_reader.specs.Fleet.{fleet_values}
 use Rattle.csv_fleet_rows.specs.Rows.{fleet_rows}
 use Rattle.csv_fleet_rows.specs.Texts.{fleet_texts, EachSays}
-use Rattle.csv_fleet_round_trip.specs.Writing.{Boat, Fleet, fleet_csv}
+use Rattle.csv_fleet_round_trip.specs.Writing.{Fleet, fleet_csv}
 use Rattle.csv_fleet_round_trip.specs.Back.{FleetFits}
 use Rattle.csv_book.specs.declared.Made.{Made}
 

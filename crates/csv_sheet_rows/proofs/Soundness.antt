@@ -11,7 +11,6 @@ use lib.Dec.{ltb, eqb}
 use lib.ListN.{length}
 use Rattle.files.specs.Limits.{step_limit}
 use Rattle.csv_bytes.specs.Cells.{is_number, no_bytes, read_from, read, signed, MOST}
-use Rattle.csv_bytes.specs.declared.Cell.{Cell}
 use Rattle.csv_numbers.specs.Numbers.{SaysValue}
 use Rattle.csv_numbers.proofs.Reading.{read_size}
 use Rattle.csv_numbers.proofs.Saying.{says_value}

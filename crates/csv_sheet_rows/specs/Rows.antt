@@ -1,5 +1,5 @@
 -- What is wrong with a sheet's CSV, its columns aside: the first fault with its place. Definitions only.
-use Rattle.std.specs.Prelude.{Bool, true, false, cond, not, List, [], ◌∷◌, ℕ, zero, suc, ◌+◌, ◌-◌, ltb, eqb, length}
+use Rattle.std.specs.Prelude.{Bool, true, false, cond, not, List, ℕ, zero, suc, ◌+◌, ◌-◌, ltb, eqb, length}
 use Rattle.files.specs.Limits.{step_limit}
 use Rattle.csv_bytes.specs.Cells.{is_number, read}
 use Rattle.csv_bytes.specs.declared.Cell.{Cell}

@@ -96,6 +96,7 @@ among_append (u ∷ vs) (there a) =
 
 among_one : {u v : List ℤ} → Among (u ∷ []) v → v ≡ u
 among_one here = refl
+among_one (there h) = elim h [ ]
 
 -- ---- One row behind others
 
@@ -187,6 +188,7 @@ pub rows_there : (vs : List (List ℤ)) {ws : List (List ℤ)} {v : List ℤ} �
 unfolding with_rows
 rows_there vs {ws = w ∷ ws} here = rows_before (with_row vs w) ws (row_there vs w)
 rows_there vs {ws = w ∷ ws} (there a) = rows_there (with_row vs w) a
+rows_there vs {ws = []} h = elim h [ ]
 
 pub rows_either : (vs ws : List (List ℤ)) {v : List ℤ} → Among (with_rows vs ws) v → Among vs v ⊎ Among ws v
 unfolding with_rows

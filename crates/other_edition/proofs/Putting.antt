@@ -1,29 +1,26 @@
 -- The conversion put together: front text and target as they are, then what follows the target.
 use mathlib.Core.Path.{◌≡◌, refl, sym, ap, ◌∙◌}
-use mathlib.Core.Bool.{Bool, true, false, ◌||◌, not, cond}
+use mathlib.Core.Bool.{Bool, true, false, cond}
 use mathlib.Core.List.{List, [], ◌∷◌, ◌++◌, append_assoc, append-nil}
-use Prim.Native.Nat.{ℕ, zero, suc, ◌+◌, ◌*◌, ◌-◌, ◌≤◌, ◌<◌}
+use Prim.Native.Nat.{ℕ, zero, suc, ◌+◌, ◌*◌, ◌-◌, ◌≤◌}
 use native.Mathlib.Omega.{arith}
 use borrow.Author.Tests.{eq-eqb, ne_eqb}
-use lib.Dec.{eqb}
 use borrow.Rule.Slice.PartMut.{put_mid, post_of, Post-is}
 use native.Mathlib.Nat.{add_assoc, zero-add}
-use lib.ListN.{length, take, drop, replicate, length-append, length-replicate, length-drop}
+use lib.ListN.{length, take, drop, length-append, length-replicate, length-drop}
 use lib.Seq.{take_all, take-add, drop-drop, drop-length, length-take-le}
 use Rattle.frank_wolfe.specs.Vectors.{ones}
 use Rattle.files.specs.Bytes.{all_bytes, same}
-use Rattle.files.specs.Sheet.{sheet, sheet_columns, WSH1, WSH2, sheet_lettered, factor_bytes, sheet_back, SheetWhole, target_offset, sheet_refusal_in}
-use Rattle.files.specs.Limits.{file_limit}
+use Rattle.files.specs.Sheet.{sheet, sheet_columns, WSH1, WSH2, sheet_lettered, target_offset}
 use Rattle.files.proofs.Accepted.{SheetPasses, sheet_passed}
 use Rattle.files.proofs.Fields.{sheet_letters_at}
-use Rattle.factors.specs.Factors.{all_ones}
 use Rattle.method.specs.Answers.{slots_after}
 use Rattle.buffers.specs.Placed.{placed}
 use Rattle.buffers.proofs.Placing.{placed_next, placed_length}
 use Rattle.sheet_output.specs.Output.{values_bytes, sheet_trailer, sheet_bytes, factored_body, factored_bytes, edition_bytes}
 use Rattle.sheet_output.proofs.Back.{sheet_trailer_length}
 use Rattle.sheet_output.proofs.Values.{length_values_bytes}
-use Rattle.editions.specs.Rewriting.{sheet_front, other_number, other_edition, edition_refusal, rewriting}
+use Rattle.editions.specs.Rewriting.{other_number, other_edition}
 use Rattle.editions.proofs.Again.{front_and_target}
 use Rattle.editions.proofs.Converting.{plain, other_long}
 use Rattle.other_edition.specs.Ending.{ending, Convertible}

@@ -1,7 +1,7 @@
 -- What holds on the files of the plain twin holds on the bytes that a call derives, and the other way round.
 use mathlib.Core.Path.{◌≡◌, subst}
 use mathlib.Core.List.{List, ◌++◌}
-use Prim.Native.Nat.{ℕ, ◌+◌}
+use Prim.Native.Nat.{ℕ}
 use lib.ListN.{length, take, drop, replicate}
 use lib.IntN.{ℤ}
 use Rattle.files.specs.Book.{boats}

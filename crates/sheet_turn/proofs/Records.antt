@@ -20,7 +20,6 @@ use Rattle.method.proofs.Running.{stops_at, Stopped, stopped}
 use Rattle.iteration.specs.declared.State.{State}
 use Rattle.iteration.specs.States.{Holds}
 use Rattle.iteration.specs.Measures.{answer_by, Answerable}
-use Rattle.sheet_queue.specs.declared.SheetRecord.{SheetRecord}
 use Rattle.sheet_queue.specs.Queue.{record_of, with_steps}
 use Rattle.sheet_queue.proofs.Alone.{alone_answer}
 use Rattle.sheet_turn.specs.Turns.{plain_book, plain_sheet}

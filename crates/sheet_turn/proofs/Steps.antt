@@ -1,11 +1,11 @@
 -- The products of the boat that a step picks, made for this step alone.
 use mathlib.Core.Path.{◌≡◌, sym, ap, ◌∙◌}
 use mathlib.Core.List.{List, ◌++◌}
-use Prim.Native.Nat.{ℕ, ◌+◌, ◌≤◌, ◌<◌}
+use Prim.Native.Nat.{ℕ, ◌+◌, ◌<◌}
 use native.Mathlib.Omega.{arith}
 use native.Mathlib.Numerals.{add-one}
 use lib.IntN.{ℤ, pos}
-use lib.ListN.{length, get_or, take, drop, length-append}
+use lib.ListN.{get_or, take, drop, length-append}
 use lib.Seq.{take_at, get_or-take}
 use Rattle.files.specs.Book.{boats}
 use Rattle.files.specs.Sheet.{files_refusal}

@@ -1,0 +1,20 @@
+-- `csv_book_words::wants_column` meets its contract.
+use borrow.Author.Tests.{eq-eqb, ne_eqb}
+use Rattle.csv_book_words.specs.Words.{wants_column}
+use Rattle.csv_book_words.proofs.wants_column.Goals as goal
+
+pub returns-then-columns-eq0 : goal.returns-then-columns-eq0
+unfolding wants_column
+returns-then-columns-eq0 c = simp (eq-eqb _ _ c.if-columns-eq0.true)
+
+pub returns-then-field-eq0 : goal.returns-then-field-eq0
+unfolding wants_column
+returns-then-field-eq0 c = simp (ne_eqb _ _ c.if-columns-eq0.false, eq-eqb _ _ c.if-field-eq0.true)
+
+pub returns-then-fault-eq-MANY : goal.returns-then-fault-eq-MANY
+unfolding wants_column
+returns-then-fault-eq-MANY c = simp (ne_eqb _ _ c.if-columns-eq0.false, ne_eqb _ _ c.if-field-eq0.false, eq-eqb _ _ c.if-fault-eq-MANY.true)
+
+pub returns : goal.returns
+unfolding wants_column
+returns c = simp (ne_eqb _ _ c.if-columns-eq0.false, ne_eqb _ _ c.if-field-eq0.false, ne_eqb _ _ c.if-fault-eq-MANY.false)

@@ -1,0 +1,14 @@
+-- `csv_slots::put_rows` meets its contract. The loop keeps `Holding`: with the bytes that are still to come, each slot has its field.
+-- A turn puts one token into the slot of its field.
+-- It ends: the bytes that are left fall by one.
+use borrow.Author.Rules.{rules}
+use Prim.Native.Nat.{◌-◌}
+use lib.ListN.{length}
+use Rattle.csv_slots.proofs.Holding.{Holding}
+use Rattle.csv_slots.proofs.put_rows.Given as goal
+
+abbrev pub invariant-loop-i : goal.invariant-loop-i
+invariant-loop-i l = Holding l.first l.rows l.csv l.separator l.place l.mode l.i l.sizes l.cells
+
+abbrev pub decreases-loop-i : goal.decreases-loop-i
+decreases-loop-i l = length l.csv - l.i

@@ -1,0 +1,14 @@
+-- `released_card::judged` meets its contract.
+use Rattle.method.specs.Calls.{call_terms}
+use Rattle.method.proofs.Accepted.{files_ok, schedule_ok}
+use Rattle.released_card.proofs.Judging.{unlimited_judgement}
+use borrow.Author.Rules.{rules}
+use Rattle.released_card.proofs.judged.Goals as goal
+
+pub plain_judged-requires : goal.plain_judged-requires
+plain_judged-requires c =
+    let m = call_terms c.args.released c.args.lent c.args.table.now in
+    record { sheet_value = files_ok m _ _ c.requires.sheet_value; table_value = schedule_ok m _ _ c.requires.sheet_value; card_readable = c.requires.card_readable }
+
+pub returns : goal.returns
+returns c = unlimited_judgement c.args.released c.args.lent c.args.table.now _ _ _ _ c.if-released.false c.plain_judged.ensures
