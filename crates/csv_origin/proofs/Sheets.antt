@@ -4,7 +4,7 @@ use mathlib.Core.Bool.{Bool, true, false, ◌||◌, not, cond}
 use mathlib.Core.List.{List}
 use Prim.Native.Nat.{ℕ, zero, suc, ◌≤◌}
 use native.Mathlib.Omega.{arith}
-use borrow.Author.Tests.{eq-eqb, ne_eqb, eqb-true, eqb-false, ltb-false}
+use borrow.Author.Tests.{eq-eqb, ne_eqb, eqb-false, ltb-false}
 use lib.Dec.{eqb, ltb}
 use lib.ListN.{length, take}
 use Rattle.files.specs.Bytes.{same}
@@ -19,7 +19,6 @@ use Rattle.csv_fleet_reader.specs.Fleet.{last_table}
 use Rattle.csv_sheet_rows.specs.Rows.{sheet_names, rows_fault}
 use Rattle.csv_column_match.specs.Match.{mismatch}
 use Rattle.csv_sheet.specs.declared.Made.{Made}
-use Rattle.csv_sheet_parts.specs.Parts.{sheet_at}
 use Rattle.csv_sheet.specs.Sheets.{places, csv_sheet, nothing_made, total_fault, made_by, made_at, made_of_columns, made_of_rows, made_for_fleet, sheet_made, output_at, output_by}
 use Rattle.csv_sheet.specs.Promise.{SheetAccepted, SheetRightBy, SheetRight}
 use Rattle.editions.specs.declared.Rewritten.{Rewritten}

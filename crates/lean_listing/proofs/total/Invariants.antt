@@ -1,0 +1,13 @@
+-- `lean_listing::total` meets its contract.
+use Prim.Native.Nat.{◌-◌}
+use native.Mathlib.Omega.{arith}
+use Rattle.leaning.specs.Slots.{parts}
+use Rattle.lean_listing.proofs.Counting.{Totalled}
+use borrow.Author.Rules.{rules}
+use Rattle.lean_listing.proofs.total.Given as goal
+
+abbrev pub invariant-loop-i : goal.invariant-loop-i
+invariant-loop-i l = Totalled (parts l.cards l.boats l.slots) l.boats l.sum l.i
+
+abbrev pub decreases-loop-i : goal.decreases-loop-i
+decreases-loop-i l = l.boats - l.i

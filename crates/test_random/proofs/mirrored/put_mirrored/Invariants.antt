@@ -1,0 +1,11 @@
+-- `test_random::mirrored::put_mirrored` meets its contract.
+use mathlib.Core.Path.{◌≡◌}
+use Prim.Native.Nat.{◌-◌}
+use lib.ListN.{length}
+use Rattle.test_random.proofs.mirrored.put_mirrored.Given as goal
+
+abbrev pub invariant-loop-i : goal.invariant-loop-i
+invariant-loop-i l = length l.buffer ≡ length l.initial.buffer
+
+abbrev pub decreases-loop-i : goal.decreases-loop-i
+decreases-loop-i l = l.columns - l.i
