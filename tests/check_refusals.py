@@ -37,11 +37,11 @@ def part(path, name):
 
 def promised(path, function, definition):
     """Whether the contract of a function writes a definition, or another of the repository that is made of it."""
-    contract = part(path, function).split("\n{\n")[0]
-    if re.search(r"\b%s\b" % re.escape(definition), contract):
+    clauses = " ".join(re.findall(r"\{(.*)\}", part(path, function).split("\n{\n")[0]))
+    if re.search(r"\b%s\b" % re.escape(definition), clauses):
         return True
-    clauses = set(re.findall(r"[\w']+", " ".join(re.findall(r"\{.*\}", contract))))
-    return any(re.search(r"\b%s\b" % re.escape(definition), part(specs, word)) for specs in sorted(glob.glob(os.path.join(ROOT, "crates/*/specs/*.antt"))) for word in clauses)
+    return any(re.search(r"\b%s\b" % re.escape(definition), part(specs, word))
+               for specs in sorted(glob.glob(os.path.join(ROOT, "crates/*/specs/*.antt"))) for word in set(re.findall(r"[\w']+", clauses)))
 
 
 def given(number):
