@@ -1,8 +1,8 @@
 /* Dofitrano: mixtures of boats that come near a target, as a library for C.
  *
  * `tools/library` builds target/staticlib/libdofitrano.a, which has these functions. Each of them is proved to do what
- * its contract says (crates/exported_search, exported_queue, exported_cards and exported_files), for every content of the
- * files. No proof covers what a C program passes, so the caller must see to the following:
+ * its contract says (crates/exported_search_c, exported_queue_c, exported_cards_c and exported_files_c), for every content
+ * of the files. No proof covers what a C program passes, so the caller must see to the following:
  *
  *   - A list or a buffer passes as a pointer and a length. The pointer is not null, also where the length is 0; it is
  *     aligned for its type; and all elements that the length says can be read, or read and written where there is no

@@ -4,7 +4,7 @@ file or a heading that is not there.
 
 In a table row of a page, the backquoted words before a path `crates/..` in backquotes are names that this file must declare. A row may
 have several such paths; what stands behind the last is free. Links and backquoted paths of README, CONTRIBUTING, docs/ and
-tests/README.md must be there; docs/changes.md may name paths that were. A link to a heading must find it. The index at the top of
+tests/README.md must be there; docs/changes.md may name paths that were, and docs/PORT.md, which has what was before the port, names that were too. A link to a heading must find it. The index at the top of
 docs/DECISIONS.md and docs/changes.md has a link to each section of the page. In docs/architecture.md a function with a crate in brackets
 behind it, `name` (`crate`), must be declared in the code of that crate.
 """
@@ -79,7 +79,7 @@ def main():
     pages = ["README.md", "CONTRIBUTING.md", "tests/README.md"]
     pages += ["docs/" + f for f in sorted(os.listdir(os.path.join(ROOT, "docs"))) if f.endswith(".md")]
     for page in pages:
-        for path in missing(page) if page != "docs/changes.md" else []:
+        for path in missing(page) if page not in ("docs/changes.md", "docs/PORT.md") else []:
             print("%s: there is no %s" % (page, path))
             faults += 1
         for link in lost(page):
@@ -96,7 +96,7 @@ def main():
         faults += 1
     docs = os.path.join(ROOT, "docs")
     for entry in sorted(os.listdir(docs)):
-        if not entry.endswith(".md"):
+        if not entry.endswith(".md") or entry == "PORT.md":
             continue
         for number, wanted, path in rows(os.path.join(docs, entry)):
             where = "docs/%s:%d" % (entry, number)

@@ -2,9 +2,9 @@
 """Sees that the definitions, the code, the tests, the C header and docs/refusals.md agree on the refusals.
 
 docs/refusals.md has two tables: what each number means and what to do about it, and an index. A row of the index has a number and, each with its
-file, the definition that gives it, the function that returns it, the proof of that function and a test case. tests/check_names.py sees that these
-names stand in their files; here the number must stand in the definition and in the function, and the case must be refused by it. The numbers of
-both tables and of the header are the same. Of a card's numbers, each is given by one line of all the definitions; 36 by two, one for the order of
+file, the definition that gives it, the function that returns it and a test case. tests/check_names.py sees that these names stand in their
+files; here the number must stand in the definition and in the function, the contract of the function must write the definition, or one that is made
+of it, and the case must be refused by it. The numbers of both tables and of the header are the same. Of a card's numbers, each is given by one line of all the definitions; 36 by two, one for the order of
 the boats and one for a boat that is not released.
 """
 import glob
@@ -35,6 +35,15 @@ def part(path, name):
     return re.sub(r"(?://|--).*", "", found[0]) if found else ""
 
 
+def promised(path, function, definition):
+    """Whether the contract of a function writes a definition, or another of the repository that is made of it."""
+    clauses = " ".join(re.findall(r"\{(.*)\}", part(path, function).split("\n{\n")[0]))
+    if re.search(r"\b%s\b" % re.escape(definition), clauses):
+        return True
+    return any(re.search(r"\b%s\b" % re.escape(definition), part(specs, word))
+               for specs in sorted(glob.glob(os.path.join(ROOT, "crates/*/specs/*.antt"))) for word in set(re.findall(r"[\w']+", clauses)))
+
+
 def given(number):
     """The lines that give this number where a test fails, in all files of definitions that speak of a refusal."""
     found = []
@@ -51,7 +60,7 @@ def refused(path, case, number):
 
 def main():
     faults = []
-    index = rows("docs/refusals.md", "| number | definition | code | proof | test |\n")
+    index = rows("docs/refusals.md", "| number | definition | code | test |\n")
     meant = rows("docs/refusals.md", "| number | means | what to do |\n")
     enum = re.search(r"enum dofitrano_refusal \{(.*?)\};", read("include/dofitrano.h"), re.S)[1]
     header = {int(number): comment for number, comment in re.findall(r"DOFITRANO_\w+ = (\d+),?[ \t]*(/\*.*?\*/)?", enum) if number != "0"}
@@ -62,9 +71,10 @@ def main():
     if differ:
         faults.append("docs/refusals.md: only one of its tables has %s" % sorted(differ))
     for number, cells in sorted(index.items()):
-        (definition, d_file), (code, c_file), _, (case, t_file) = (re.findall(r"`([^`]+)`", cell) for cell in cells[:4])
+        (definition, d_file), (code, c_file), (case, t_file) = (re.findall(r"`([^`]+)`", cell) for cell in cells[:3])
         for what, ok in (("the definition %s has no such number" % definition, re.search(r"\b%d\b" % number, part(d_file, definition))),
                          ("the function %s does not return it" % code, re.search(r"\b%d\b" % number, part(c_file, code))),
+                         ("the contract of %s does not write %s" % (code, definition), promised(c_file, code, definition)),
                          ("%s does not have the case `%s` with this number" % (t_file, case), refused(t_file, case, number))):
             if not ok:
                 faults.append("docs/refusals.md, %d: %s" % (number, what))
