@@ -5,7 +5,7 @@
 #![tactic(auto)]
 
 ghost use Rattle.std.specs.Prelude.{◌≡◌, length};
-ghost use Rattle.sheet_queue.specs.Queue.{lengths, queue_refusal, records-after, queue_slots_after};
+ghost use Rattle.sheet_queue.specs.Queue.{lengths, queue_refusal, records_after, queue_slots_after};
 ghost use Rattle.sheet_queue.specs.Promise.{QueueRight};
 
 use sheet_queue::SheetRecord;
@@ -24,7 +24,7 @@ pub extern "C" fn dofitrano_run_queue(
     allowance: u32,
     shares: &mut [u16],
 ) -> u32
-    ensures { (result ≡ queue_refusal book.now (lengths queue.old) sheets.now allowance (length shares.old)) × (queue.new ≡ records-after result book.now sheets.now allowance queue.old) × (shares.new ≡ queue_slots_after result book.now sheets.now allowance queue.old shares.old) × QueueRight book.now sheets.now allowance queue.old shares.old result queue.new shares.new }
+    ensures { (result ≡ queue_refusal book.now (lengths queue.old) sheets.now allowance (length shares.old)) × (queue.new ≡ records_after result book.now sheets.now allowance queue.old) × (shares.new ≡ queue_slots_after result book.now sheets.now allowance queue.old shares.old) × QueueRight book.now sheets.now allowance queue.old shares.old result queue.new shares.new }
 {
     exported_queue::dofitrano_run_queue(queue, book, sheets, allowance, shares)
 }
