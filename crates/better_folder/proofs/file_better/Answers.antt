@@ -1,0 +1,14 @@
+-- `better_folder::file_better` meets its contract.
+use Rattle.refusal_output.proofs.Numbers.{choice_files}
+use Rattle.better_card.proofs.Wrong.{wrong_refused}
+use borrow.Author.Rules.{rules}
+use Rattle.better_folder.proofs.file_better.Goals as goal
+
+pub tell_detail-requires : goal.tell_detail-requires
+tell_detail-requires c = search (rules, choice_files)
+
+pub tell_card-requires : goal.tell_card-requires
+tell_card-requires c = search (rules, wrong_refused)
+
+pub print-requires : goal.print-requires
+print-requires c = c.better_text-chosen.ensures.holds.fits
