@@ -1,0 +1,12 @@
+-- `work_folder::file_worked` meets its contract: only it sees the sizes of the buffers.
+use mathlib.Core.Path.{sym}
+use Prim.Native.Nat.{ℕ}
+use lib.ListN.{length-replicate}
+use borrow.Author.Rules.{rules}
+use Rattle.work_folder.proofs.file_worked.Goals as goal
+
+pub slice_bounds-file_read-end : goal.slice_bounds-file_read-end
+slice_bounds-file_read-end c = sym (length-replicate {A = ℕ} 40001 0)
+
+pub slice_bounds-file_read-end-2 : goal.slice_bounds-file_read-end-2
+slice_bounds-file_read-end-2 c = sym (length-replicate {A = ℕ} 40001 0)
