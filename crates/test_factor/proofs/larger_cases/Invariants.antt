@@ -1,0 +1,10 @@
+-- `test_factor::larger_cases` meets its contract.
+use borrow.Author.Rules.{rules}
+use Prim.Native.Nat.{◌-◌, ◌≤◌}
+use Rattle.test_factor.proofs.larger_cases.Given as goal
+
+abbrev pub invariant-loop-number : goal.invariant-loop-number
+invariant-loop-number l = l.number ≤ 40
+
+abbrev pub decreases-loop-number : goal.decreases-loop-number
+decreases-loop-number l = 40 - l.number

@@ -1,0 +1,9 @@
+-- `test_sheet::main` meets its contract: only it sees the size of the buffer.
+use mathlib.Core.Path.{sym}
+use Prim.Native.Nat.{ℕ}
+use lib.ListN.{length-replicate}
+use borrow.Author.Rules.{rules}
+use Rattle.test_sheet.proofs.main.Goals as goal
+
+pub slice_bounds-run-end : goal.slice_bounds-run-end
+slice_bounds-run-end c = sym (length-replicate {A = ℕ} 185000 0)
