@@ -27,12 +27,7 @@ use exported_types::{CardReply, Reply};
 use method::Released;
 
 // ENTRY. The card check for other languages: the reply of `check_card` for these files and this share list, and its slots afterwards.
-pub fn dofitrano_check_card(
-    book: &[u8],
-    sheet: &[u8],
-    card: &[u8],
-    shares: &mut [u16],
-) -> Reply
+pub fn dofitrano_check_card(book: &[u8], sheet: &[u8], card: &[u8], shares: &mut [u16]) -> Reply
     ensures value { result ≡ reply_of (outcome (check_refusal book.now sheet.now card.now (length shares.old)) (card_answer book.now sheet.now card.now)) }
     ensures shares_after { shares.new ≡ slots_after (check_refusal book.now sheet.now card.now (length shares.old)) (card_shares (boats book.now) card.now) shares.old }
     ensures check_right { CheckRight book.now sheet.now card.now (outcome (check_refusal book.now sheet.now card.now (length shares.old)) (card_answer book.now sheet.now card.now)) shares.new }
@@ -90,12 +85,7 @@ pub fn dofitrano_write_card_with(
 
 // ENTRY. The better of two cards for other languages: which card, offset and length of its body and trailer, or the refusal, as `choose`
 // gives them.
-pub fn dofitrano_better_card(
-    book: &[u8],
-    sheet: &[u8],
-    first: &[u8],
-    second: &[u8],
-) -> Choice
+pub fn dofitrano_better_card(book: &[u8], sheet: &[u8], first: &[u8], second: &[u8]) -> Choice
     ensures value { result ≡ choice book.now sheet.now first.now second.now }
     ensures better_right { BetterRight book.now sheet.now first.now second.now result.refusal (part_of result first.now second.now) }
     ensures len_in_bounds { result.offset + result.len ≤ length (numbered result.card first.now second.now) }
