@@ -72,7 +72,11 @@ def struct(rust, crate, c):
 def contracts(text):
     """{a public function dofitrano_..: what stands between its name and its body, and the body}."""
     found = re.findall(r'^pub (?:extern "C" )?fn (dofitrano_\w+)(\(.*?)^\{\n(.*?)^\}', text, re.M | re.S)
-    return {name: (" ".join(head.split()), " ".join(body.split())) for name, head, body in found}
+    def plain(part):
+        """The words, as they are where the parameters stand on one line."""
+        return re.sub(r"\( | ?,? \)(?= ->)", lambda found: found.group().strip(" ,"), " ".join(part.split()), count=2)
+
+    return {name: (plain(head), " ".join(body.split())) for name, head, body in found}
 
 
 def main():
