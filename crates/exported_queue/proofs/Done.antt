@@ -1,4 +1,4 @@
--- What the walk of a queue leaves is what specs/Queue.antt of `sheet_queue` defines, and keeps its promise.
+-- What the functions over a queue leave is what specs/Queue.antt of `sheet_queue` defines, and keeps its promise.
 use mathlib.Core.Path.{◌≡◌, refl, sym, ap, ◌∙◌, subst}
 use mathlib.Core.Bool.{Bool, true, false}
 use mathlib.Core.Logic.{◌⊎◌, ⊎_elim}
