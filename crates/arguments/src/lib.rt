@@ -106,8 +106,7 @@ fn number_in(text: &[u8]) -> Number
         return no_number();
     }
     let mut value: u64 = 0;
-    let mut i = 0;
-    while i < text.len() {
+    for i in 0..text.len() {
         let byte = text[i];
         if !is_figure(byte) {
             return no_number();
@@ -116,7 +115,6 @@ fn number_in(text: &[u8]) -> Number
         if 4294967295 < value {
             return no_number();
         }
-        i += 1;
     }
     Number {
         known: true,

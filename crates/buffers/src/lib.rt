@@ -13,11 +13,9 @@ pub fn put(output: &mut [u8], at: usize, width: usize, number: u64)
     ensures { output.new ≡ placed output.old at (number_bytes width number) }
 {
     let mut rest = number;
-    let mut i = 0;
-    while i < width {
+    for i in 0..width {
         output[at + i] = (rest % 256) as u8;
         rest /= 256;
-        i += 1;
     }
 }
 
@@ -26,9 +24,7 @@ pub fn put_bytes(output: &mut [u8], at: usize, bytes: &[u8])
     requires { at + length bytes.now ≤ length output.old }
     ensures { output.new ≡ placed output.old at bytes.now }
 {
-    let mut i = 0;
-    while i < bytes.len() {
+    for i in 0..bytes.len() {
         output[at + i] = bytes[i];
-        i += 1;
     }
 }

@@ -21,10 +21,8 @@ fn fill(from: [u16; 256], count: usize, to: &mut [u16])
     requires { (count ≤ 256) × (count ≤ length to.old) }
     ensures { to.new ≡ take count from ++ drop count to.old }
 {
-    let mut i = 0;
-    while i < count {
+    for i in 0..count {
         to[i] = from[i];
-        i += 1;
     }
 }
 

@@ -208,8 +208,7 @@ fn entries_line(name: &[u8], card: &[u8], start: usize, count: usize, boats: usi
 {
     let mut next = 0;
     let mut at = start;
-    let mut i = 0;
-    while i < count {
+    for i in 0..count {
         let boat = files::u16_at(card, at) as usize;
         let fault = entry_fault(next, boats, boat, files::u16_at(card, at + 2));
         if fault != 0 {
@@ -217,7 +216,6 @@ fn entries_line(name: &[u8], card: &[u8], start: usize, count: usize, boats: usi
         }
         next = boat + 1;
         at += 4;
-        i += 1;
     }
     Text::empty()
 }

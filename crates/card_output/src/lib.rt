@@ -32,10 +32,8 @@ pub fn put_pairs(output: &mut [u8], shares: [u16; 256], boats: usize)
     ensures { output.new ≡ placed output.old 0 (pairs 0 (take boats shares)) }
 {
     let mut at = 0;
-    let mut i = 0;
-    while i < boats {
+    for i in 0..boats {
         at = put_pair(output, at, i, shares[i]);
-        i += 1;
     }
 }
 
@@ -54,10 +52,8 @@ pub fn holding(shares: [u16; 256], boats: usize) -> usize
     ensures upper_bound { result ≤ 256 }
 {
     let mut n = 0;
-    let mut i = 0;
-    while i < boats {
+    for i in 0..boats {
         n += held(shares[i]);
-        i += 1;
     }
     n
 }

@@ -27,15 +27,13 @@ pub fn pairs_in_order(card: &[u8], at: usize, count: usize, boats: usize) -> boo
     ensures { result ≡ pairs_in_order count 0 boats (drop at card.now) }
 {
     let mut next = 0;
-    let mut i = 0;
-    while i < count {
+    for i in 0..count {
         let boat = files::u16_at(card, at + 4 * i) as usize;
         let share = files::u16_at(card, at + 4 * i + 2);
         if !pair_fits(next, boats, boat, share) {
             return false;
         }
         next = boat + 1;
-        i += 1;
     }
     true
 }
@@ -47,11 +45,9 @@ pub fn shares_of(card: &[u8], at: usize, count: usize) -> [u16; 256]
     ensures { result ≡ shares_into count (drop at card.now) (replicate 256 0) }
 {
     let mut shares = [0u16; 256];
-    let mut i = 0;
-    while i < count {
+    for i in 0..count {
         let boat = files::u16_at(card, at + 4 * i) as usize;
         shares[boat] = files::u16_at(card, at + 4 * i + 2) as u16;
-        i += 1;
     }
     shares
 }
@@ -70,10 +66,8 @@ pub fn total(shares: [u16; 256], boats: usize) -> u32
     ensures { result ≡ sum (take boats shares) }
 {
     let mut sum: u32 = 0;
-    let mut i = 0;
-    while i < boats {
+    for i in 0..boats {
         sum += wide(shares[i]);
-        i += 1;
     }
     sum
 }

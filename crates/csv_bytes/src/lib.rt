@@ -433,8 +433,7 @@ pub fn separator(csv: &[u8]) -> u8
     let mut best: u8 = 0;
     let mut known = 0;
     let mut mode = Mode::Start;
-    let mut i = mark_size(csv);
-    while i < csv.len() {
+    for i in mark_size(csv)..csv.len() {
         let b = csv[i];
         let step = read_byte(b',', mode, as_comma(b));
         let token = step.token;
@@ -444,7 +443,6 @@ pub fn separator(csv: &[u8]) -> u8
             return chosen(best);
         }
         mode = step.mode;
-        i += 1;
     }
     chosen(best)
 }

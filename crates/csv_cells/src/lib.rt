@@ -198,8 +198,7 @@ pub fn put_cell(csv: &[u8], row: usize, field: usize, output: &mut [u8]) -> usiz
     let mut place = Place::start();
     let mut mode = Mode::Start;
     let mut n = 0;
-    let mut i = csv_bytes::mark_size(csv);
-    while i < csv.len() {
+    for i in csv_bytes::mark_size(csv)..csv.len() {
         if is_past(row, field, place) {
             return n;
         }
@@ -210,7 +209,6 @@ pub fn put_cell(csv: &[u8], row: usize, field: usize, output: &mut [u8]) -> usiz
         n = csv_fields::put_byte(output, n, there, token);
         place = next;
         mode = step.mode;
-        i += 1;
     }
     n
 }
@@ -259,8 +257,7 @@ pub fn scan(csv: &[u8], row: usize) -> Scanned
     let mut mode = Mode::Start;
     let mut line = 0;
     let mut n = 0;
-    let mut i = csv_bytes::mark_size(csv);
-    while i < csv.len() {
+    for i in csv_bytes::mark_size(csv)..csv.len() {
         let step = csv_bytes::read_byte(separator, mode, csv[i]);
         let token = step.token;
         let next = place.moved(token);
@@ -268,7 +265,6 @@ pub fn scan(csv: &[u8], row: usize) -> Scanned
         n = width_at(row, n, place, token, next.fault);
         place = next;
         mode = step.mode;
-        i += 1;
     }
     Scanned {
         place: place.moved(csv_bytes::ending(mode)),

@@ -127,13 +127,11 @@ fn fleet_mismatch(
     requires n_bound { n ≤ 64 }
     ensures { (fleet csv : List ℕ) → Held 0 1 fleet fleet_sizes.now fleet_cells.now → Held 0 1 csv sizes.now cells.now → result ≡ fleet_mismatch n m fleet csv }
 {
-    let mut j = 0;
-    while j < m {
+    for j in 0..m {
         let found = column_mismatch(fleet_sizes, fleet_cells, j + 1, sizes, cells, n);
         if found.fault != 0 {
             return found;
         }
-        j += 1;
     }
     none()
 }
@@ -153,12 +151,10 @@ fn unknown(
     requires n_bound { n ≤ 64 }
     ensures { (fleet csv : List ℕ) → Held 0 1 fleet fleet_sizes.now fleet_cells.now → Held 0 1 csv sizes.now cells.now → result ≡ unknown m n fleet csv }
 {
-    let mut j = 0;
-    while j < n {
+    for j in 0..n {
         if same_column(sizes, cells, j + 1, fleet_sizes, fleet_cells, m) == 0 {
             return j + 1;
         }
-        j += 1;
     }
     0
 }
@@ -224,9 +220,7 @@ pub fn put_positions(fleet: &[u8], m: usize, csv: &[u8], n: usize, output: &mut 
     let mut sizes = [0u8; 65];
     let mut cells = [0u8; 13000];
     csv_slots::put_rows(csv, 0, 1, &mut sizes, &mut cells);
-    let mut j = 0;
-    while j < m {
+    for j in 0..m {
         output[j] = same_column(&fleet_sizes, &fleet_cells, j + 1, &sizes, &cells, n) as u8;
-        j += 1;
     }
 }

@@ -60,8 +60,7 @@ pub fn put_field(csv: &[u8], line: usize, field: usize, output: &mut [u8]) -> us
     let mut mode = Mode::Start;
     let mut at = 1;
     let mut n = 0;
-    let mut i = csv_bytes::mark_size(csv);
-    while i < csv.len() {
+    for i in csv_bytes::mark_size(csv)..csv.len() {
         let step = csv_bytes::read_byte(separator, mode, csv[i]);
         let token = step.token;
         let next = table.after(token);
@@ -70,7 +69,6 @@ pub fn put_field(csv: &[u8], line: usize, field: usize, output: &mut [u8]) -> us
         at = csv_fleet_reader::next_number(at, next.fault, token);
         table = next;
         mode = step.mode;
-        i += 1;
     }
     n
 }

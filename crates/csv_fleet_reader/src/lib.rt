@@ -104,15 +104,13 @@ pub fn read_fleet(csv: &[u8], rows: &mut [u8]) -> Fleet
     let mut mode = Mode::Start;
     let mut line = 1;
     let mut n = 0;
-    let mut i = csv_bytes::mark_size(csv);
-    while i < csv.len() {
+    for i in csv_bytes::mark_size(csv)..csv.len() {
         let step = csv_bytes::read_byte(separator, mode, csv[i]);
         let token = step.token;
         n = put_value(rows, n, table, token);
         table = table.after(token);
         line = next_number(line, table.fault, token);
         mode = step.mode;
-        i += 1;
     }
     let last = csv_bytes::ending(mode);
     n = put_value(rows, n, table, last);

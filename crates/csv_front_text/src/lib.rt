@@ -69,15 +69,13 @@ fn put_names(csv: &[u8], output: &mut [u8]) -> usize
     let mut table = Table::start();
     let mut mode = Mode::Start;
     let mut n = 0;
-    let mut i = csv_bytes::mark_size(csv);
-    while i < csv.len() {
+    for i in csv_bytes::mark_size(csv)..csv.len() {
         let b = csv[i];
         let step = csv_bytes::read_byte(separator, mode, b);
         let token = step.token;
         n = put_kept(output, n, table, token, b);
         table = table.after(token);
         mode = step.mode;
-        i += 1;
     }
     n
 }

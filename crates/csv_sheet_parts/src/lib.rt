@@ -34,8 +34,7 @@ fn put_target(csv: &[u8], places: &[u8], output: &mut [u8])
     let mut sizes = [0u8; 65];
     let mut cells = [0u8; 13000];
     csv_slots::put_rows(csv, row, 1, &mut sizes, &mut cells);
-    let mut i = 0;
-    while i < places.len() {
+    for i in 0..places.len() {
         let text = csv_slots::cell(&cells, &sizes, places[i] as usize);
         let cell = csv_sheet_rows::read(text);
         put(
@@ -44,7 +43,6 @@ fn put_target(csv: &[u8], places: &[u8], output: &mut [u8])
             2,
             csv_fleet_reader::value_bits(cell.negative, cell.magnitude),
         );
-        i += 1;
     }
 }
 
@@ -72,10 +70,8 @@ pub fn put_factors(csv: &[u8], places: &[u8], output: &mut [u8])
     let mut sizes = [0u8; 65];
     let mut cells = [0u8; 13000];
     csv_slots::put_rows(csv, row, 1, &mut sizes, &mut cells);
-    let mut i = 0;
-    while i < places.len() {
+    for i in 0..places.len() {
         output[i] = factor_in(&sizes, &cells, row, places[i] as usize) as u8;
-        i += 1;
     }
 }
 

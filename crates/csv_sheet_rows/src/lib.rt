@@ -159,10 +159,8 @@ pub fn read(text: &[u8]) -> Cell
     ensures { result ≡ read text.now }
 {
     let mut cell = Cell::empty();
-    let mut i = 0;
-    while i < text.len() {
+    for i in 0..text.len() {
         cell = cell.with_byte(text[i]);
-        i += 1;
     }
     cell
 }

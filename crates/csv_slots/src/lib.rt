@@ -57,15 +57,13 @@ pub fn put_rows(csv: &[u8], first: usize, rows: usize, sizes: &mut [u8], cells: 
     let separator = csv_bytes::separator(csv);
     let mut place = Place::start();
     let mut mode = Mode::Start;
-    let mut i = csv_bytes::mark_size(csv);
-    while i < csv.len() {
+    for i in csv_bytes::mark_size(csv)..csv.len() {
         let step = csv_bytes::read_byte(separator, mode, csv[i]);
         let token = step.token;
         let next = place.moved(token);
         keep(first, rows, place, token, next.fault, sizes, cells);
         place = next;
         mode = step.mode;
-        i += 1;
     }
 }
 

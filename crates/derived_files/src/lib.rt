@@ -25,10 +25,8 @@ fn put_column(list: &mut [u8], at: usize, times: usize, column: usize) -> usize
     ensures value { result ≡ at + times }
     ensures list_after { list.new ≡ placed list.old at (replicate times column) }
 {
-    let mut i = 0;
-    while i < times {
+    for i in 0..times {
         list[at + i] = column as u8;
-        i += 1;
     }
     at + times
 }
@@ -41,10 +39,8 @@ fn put_places(list: &mut [u8], factors: &[u8]) -> usize
     ensures list_after { list.new ≡ placed list.old 0 (places 0 factors.now) }
 {
     let mut at = 0;
-    let mut j = 0;
-    while j < factors.len() {
+    for j in 0..factors.len() {
         at = put_column(list, at, index(factors[j]), j);
-        j += 1;
     }
     at
 }
@@ -55,14 +51,12 @@ fn copy_row(output: &mut [u8], at: usize, bytes: &[u8], from: usize, places: &[u
     requires inside { Inside bytes.now from places.now }
     ensures { output.new ≡ placed output.old at (cells bytes.now from places.now) }
 {
-    let mut k = 0;
-    while k < places.len() {
+    for k in 0..places.len() {
         let cell = from + 2 * index(places[k]);
         let low = bytes[cell];
         let high = bytes[cell + 1];
         output[at + 2 * k] = low;
         output[at + 2 * k + 1] = high;
-        k += 1;
     }
 }
 
@@ -77,8 +71,7 @@ fn put_rows(output: &mut [u8], book: &[u8], places: &[u8])
     let boats = files::boats(book);
     let columns = files::columns(book);
     let body = files::book_body(book);
-    let mut i = 0;
-    while i < boats {
+    for i in 0..boats {
         copy_row(
             output,
             2 * (i * places.len()),
@@ -86,7 +79,6 @@ fn put_rows(output: &mut [u8], book: &[u8], places: &[u8])
             body + 2 * (i * columns),
             places,
         );
-        i += 1;
     }
 }
 

@@ -42,11 +42,9 @@ fn lengths_of(queue: &[SheetRecord]) -> Lengths
     ensures { result ≡ lengths_to queue.now (length queue.now) }
 {
     let mut lengths = no_lengths();
-    let mut i: usize = 0;
-    while i < queue.len() {
+    for i in 0usize..queue.len() {
         let record = queue[i];
         lengths = with_length(lengths, i, record);
-        i += 1;
     }
     lengths
 }
@@ -72,10 +70,8 @@ fn store(queue: &mut [SheetRecord], outcome: Outcome, count: usize)
     requires { (count ≤ length queue.old) × (count ≤ 16) }
     ensures { queue.new ≡ stored queue.old outcome count }
 {
-    let mut i: usize = 0;
-    while i < count {
+    for i in 0usize..count {
         queue[i] = queue_rounds::record_at(outcome, i);
-        i += 1;
     }
 }
 

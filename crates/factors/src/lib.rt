@@ -25,10 +25,8 @@ pub fn total(list: &[u8]) -> usize
     ensures { result ≡ sum list.now }
 {
     let mut n: usize = 0;
-    let mut i = 0;
-    while i < list.len() {
+    for i in 0..list.len() {
         n += list[i] as usize;
-        i += 1;
     }
     n
 }
@@ -49,12 +47,10 @@ pub fn factor_total(sheet: &[u8]) -> usize
 fn are_ones(list: &[u8]) -> bool
     ensures { result ≡ all_ones list.now }
 {
-    let mut i = 0;
-    while i < list.len() {
+    for i in 0..list.len() {
         if list[i] != 1 {
             return false;
         }
-        i += 1;
     }
     true
 }

@@ -20,12 +20,10 @@ fn values_in_range(b: &[u8], at: usize, count: usize) -> bool
     ensures { result ≡ all_in_range (values count (drop at b.now)) }
 {
     let mut good = true;
-    let mut i = 0;
-    while i < count {
+    for i in 0..count {
         if !value_in_range(files::u16_at(b, at + 2 * i)) {
             good = false;
         }
-        i += 1;
     }
     good
 }

@@ -60,12 +60,10 @@ pub fn ends_with(b: &[u8], letters: &[u8]) -> bool
     ensures { result ≡ same (drop (length b.now - length letters.now) b.now) letters.now }
 {
     let at = b.len() - letters.len();
-    let mut i = 0;
-    while i < letters.len() {
+    for i in 0..letters.len() {
         if b[at + i] != letters[i] {
             return false;
         }
-        i += 1;
     }
     true
 }

@@ -94,14 +94,12 @@ fn check_pairs(rt: &HostRuntime, folder: &[u8], book: &[u8], cards: usize, slots
         tell_start(rt, folder, cards, start);
         return start;
     }
-    let mut k = 0;
-    while k < cards {
+    for k in 0..cards {
         let refusal = check_pair(rt, folder, book, k, slots);
         if refusal != 0 {
             tell_refused(rt, folder, k, refusal);
             return refusal;
         }
-        k += 1;
     }
     0
 }

@@ -32,10 +32,8 @@ fn cards_on(slots: &[u16], start: usize, cards: usize, boat: usize) -> usize
     ensures upper_bound { result ≤ cards }
 {
     let mut count = 0;
-    let mut k = 0;
-    while k < cards {
+    for k in 0..cards {
         count += holds(slots[start + 256 * k + boat]);
-        k += 1;
     }
     count
 }
@@ -48,14 +46,12 @@ fn most_used(slots: &[u16], start: usize, boats: usize) -> usize
 {
     let mut best = 0;
     let mut greatest = 0;
-    let mut i = 0;
-    while i < boats {
+    for i in 0..boats {
         let count = cards_on(slots, start, leaning::STRETCH, i);
         if greatest < count {
             best = i;
             greatest = count;
         }
-        i += 1;
     }
     best
 }
@@ -66,10 +62,8 @@ fn total(slots: &[u16], cards: usize, boats: usize) -> usize
     ensures { result ≡ sum (counts boats (parts cards boats slots.now)) }
 {
     let mut sum = 0;
-    let mut i = 0;
-    while i < boats {
+    for i in 0..boats {
         sum += cards_on(slots, 0, cards, i);
-        i += 1;
     }
     sum
 }
@@ -81,10 +75,8 @@ fn with_boats(text: Text, slots: &[u16], cards: usize, boats: usize) -> Text
     ensures len_bound { result.len ≤ 3072 }
 {
     let mut longer = text;
-    let mut i = 0;
-    while i < boats {
+    for i in 0..boats {
         longer = listing::with_boat(longer, i, cards_on(slots, 0, cards, i) as u16);
-        i += 1;
     }
     longer
 }

@@ -44,10 +44,8 @@ fn with_boats(text: Text, shares: [u16; 256], boats: usize) -> Text
     ensures { Adds text (boat_lines 0 (take boats shares)) result }
 {
     let mut longer = text;
-    let mut i = 0;
-    while i < boats {
+    for i in 0..boats {
         longer = with_boat(longer, i, shares[i]);
-        i += 1;
     }
     longer
 }

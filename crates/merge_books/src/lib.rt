@@ -27,14 +27,12 @@ fn is_among(rows: &[u8], count: usize, row: &[u8], columns: usize) -> bool
     ensures { result ≡ is_among (rows_from count columns rows.now) (values columns row.now) }
 {
     let mut at = 0;
-    let mut i = 0;
-    while i < count {
+    for i in 0..count {
         let end = at + 2 * columns;
         if equal_bytes::is_same(&rows[at..end], row) {
             return true;
         }
         at = end;
-        i += 1;
     }
     false
 }
@@ -70,15 +68,13 @@ fn put_rows(rows: &mut [u8], first: &[u8], second: &[u8]) -> usize
     put_bytes(rows, 0, &first[body..body_end]);
     let boats = files::boats(second);
     let mut at = files::book_body(second);
-    let mut i = 0;
-    while i < boats {
+    for i in 0..boats {
         if MOST_BOATS < count {
             return count;
         }
         let end = at + 2 * columns;
         count = put_new(rows, count, &second[at..end], columns);
         at = end;
-        i += 1;
     }
     count
 }

@@ -30,13 +30,11 @@ pub fn residual_of(book: &[u8], sheet: &[u8], layout: Layout, shares: [u16; 256]
     let columns = layout.columns;
     let boats = layout.boats;
     let mut r = [0i32; 64];
-    let mut i = 0;
-    while i < boats {
+    for i in 0..boats {
         let row = rows + 2 * (i * columns);
         let share = card_pairs::wide(shares[i]);
         let next = sums::moved(r, book, row, sheet, target, columns, share);
         r = next;
-        i += 1;
     }
     r
 }

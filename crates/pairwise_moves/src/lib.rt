@@ -118,11 +118,9 @@ fn put_scores(r: &[i32], book: &[u8], at: usize, boats: usize, columns: usize, t
     ensures { to.new ≡ Iterates.scores (ones columns) (take columns r.now) (rows_from boats columns (drop at book.now)) ++ drop boats to.old }
 {
     let mut row = at;
-    let mut i = 0;
-    while i < boats {
+    for i in 0..boats {
         to[i] = sums::inner_at(r, book, row, columns);
         row += 2 * columns;
-        i += 1;
     }
 }
 
@@ -132,13 +130,11 @@ fn list_held(shares: &[u16], boats: usize, list: &mut [usize])
     ensures { Listed shares.now boats list.new }
 {
     let mut count = 0;
-    let mut i = 0;
-    while i < boats {
+    for i in 0..boats {
         if shares[i] != 0 {
             list[count] = i;
             count += 1;
         }
-        i += 1;
     }
     list[count] = boats;
 }
@@ -153,13 +149,11 @@ fn remember_held(shares: &[u16], book: &[u8], sheet: &[u8], layout: Layout, memo
     ensures { HeldProducts book.now sheet.now shares.now memory.new }
 {
     let boats = layout.boats;
-    let mut i = 0;
-    while i < boats {
+    for i in 0..boats {
         if shares[i] != 0 {
             let at = i * boats;
             iteration::products_of(i, book, sheet, layout, &mut memory[at..]);
         }
-        i += 1;
     }
 }
 
@@ -233,8 +227,7 @@ pub fn worked_over(
     remember_held(&held, book, sheet, layout, &mut memory);
     let none = [0i32; 256];
     let mut pair = rescored(&mut scores, &held, &list, boats, 0, &none, 0, 0);
-    let mut made = 0;
-    while made < allowed {
+    for made in 0..allowed {
         let from = pair.from;
         let to = pair.to;
         let gives = from * boats;
@@ -247,7 +240,6 @@ pub fn worked_over(
         }
         exchange(&mut held, from, to, m);
         pair = rescored(&mut scores, &held, &list, boats, m, &memory, takes, gives);
-        made += 1;
     }
     held
 }

@@ -39,12 +39,10 @@ fn read_sheets(rt: &HostRuntime, folder: &[u8], count: usize, buffer: &mut [u8])
 {
     let mut lengths = [0u32; MOST_READ];
     let mut at = 0;
-    let mut k = 0;
-    while k < count {
+    for k in 0..count {
         let n = read_sheet(rt, folder, k, at, buffer);
         lengths[k] = n as u32;
         at += n;
-        k += 1;
     }
     Sheets { len: at, lengths }
 }

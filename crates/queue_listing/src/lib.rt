@@ -68,10 +68,8 @@ fn lines(outcome: Outcome) -> Text
 {
     let count = outcome.count;
     let mut longer = Text::empty();
-    let mut i = 0;
-    while i < count {
+    for i in 0..count {
         longer = with_sheet(longer, i, queue_rounds::record_at(outcome, i));
-        i += 1;
     }
     longer
 }
@@ -90,10 +88,8 @@ fn plan_of(lengths: &[u32]) -> Plan
             lengths: first,
         };
     }
-    let mut i = 0;
-    while i < count {
+    for i in 0..count {
         first[i] = lengths[i];
-        i += 1;
     }
     Plan {
         count,

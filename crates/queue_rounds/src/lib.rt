@@ -72,10 +72,8 @@ fn total_of(plan: Plan, count: usize) -> usize
 {
     let lengths = plan.lengths;
     let mut n: usize = 0;
-    let mut i = 0;
-    while i < count {
+    for i in 0..count {
         n += wide(lengths[i]);
-        i += 1;
     }
     n
 }
@@ -258,10 +256,8 @@ fn one_round(
 {
     let count = plan.count;
     let mut next = work;
-    let mut i = 0;
-    while i < count {
+    for i in 0..count {
         next = turn(next, plan, i, book, sheets, shares, scores);
-        i += 1;
     }
     next
 }
@@ -298,12 +294,10 @@ fn clear_parts(shares: &mut [u16], count: usize, boats: usize)
     requires { (boats ≤ 256) × (256 * count ≤ length shares.old) }
     ensures { shares.new ≡ filled (replicate count (replicate boats 0)) shares.old }
 {
-    let mut i = 0;
-    while i < count {
+    for i in 0..count {
         let at = sheet_queue::SLOTS * i;
         let end = at + sheet_queue::SLOTS;
         plain_run::clear(&mut shares[at..end], boats);
-        i += 1;
     }
 }
 
@@ -322,11 +316,9 @@ fn start_all(plan: Plan, book: &[u8], sheets: &[u8]) -> [State; 16]
         least: 0,
     };
     let mut states = [none; 16];
-    let mut i = 0;
-    while i < count {
+    for i in 0..count {
         let state = sheet_turn::start(book, sheet_at(plan, i, sheets));
         states[i] = state;
-        i += 1;
     }
     states
 }

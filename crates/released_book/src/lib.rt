@@ -36,13 +36,11 @@ fn put_rows(output: &mut [u8], book: &[u8], set: Released) -> usize
     let width = 2 * files::columns(book);
     let mut from = files::book_body(book);
     let mut at = 0;
-    let mut i = 0;
-    while i < boats {
+    for i in 0..boats {
         let used = released_set::may_use(set, i);
         let end = from + width;
         at = put_row(output, at, &book[from..end], used);
         from = end;
-        i += 1;
     }
     at
 }

@@ -36,12 +36,10 @@ pub fn rests(shares: [u16; 256], released: Released, boats: usize) -> bool
     if !released.limited {
         return true;
     }
-    let mut i = 0;
-    while i < boats {
+    for i in 0..boats {
         if !may_stand(released_set::may_use(released, i), shares[i]) {
             return false;
         }
-        i += 1;
     }
     true
 }

@@ -29,12 +29,10 @@ pub fn count(set: Released, first: usize, end: usize) -> usize
     ensures { result ≡ length (used_from (usable set) first (end - first)) }
 {
     let mut n: usize = 0;
-    let mut i = first;
-    while i < end {
+    for i in first..end {
         if may_use(set, i) {
             n += 1;
         }
-        i += 1;
     }
     n
 }
@@ -74,14 +72,12 @@ pub fn scatter(own: &[u16], set: Released, boats: usize, slots: &mut [u16])
     ensures { slots.new ≡ scatter_from (usable set) 0 boats own.now ++ drop boats slots.old }
 {
     let mut next: usize = 0;
-    let mut i = 0;
-    while i < boats {
+    for i in 0..boats {
         let used = may_use(set, i);
         slots[i] = share_of(own, next, used);
         if used {
             next += 1;
         }
-        i += 1;
     }
 }
 
@@ -92,13 +88,11 @@ pub fn gather(shares: [u16; 256], set: Released, boats: usize) -> [u16; 256]
 {
     let mut own = [0u16; 256];
     let mut next: usize = 0;
-    let mut i = 0;
-    while i < boats {
+    for i in 0..boats {
         if may_use(set, i) {
             own[next] = shares[i];
             next += 1;
         }
-        i += 1;
     }
     own
 }

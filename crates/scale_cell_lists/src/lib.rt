@@ -53,11 +53,9 @@ pub fn cells_of(kinds: &[u8], first: &[f64], second: &[f64], units: &[u32]) -> [
         cell: Cell::Unweighed,
         unit: 0,
     }; 64];
-    let mut i = 0;
-    while i < 64 {
+    for i in 0..64 {
         let s = cell_at(kinds, first, second, units, i);
         cells[i] = s;
-        i += 1;
     }
     cells
 }

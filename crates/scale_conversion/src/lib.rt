@@ -68,8 +68,7 @@ fn values_of(cells: [ScaleCell; 64], columns: usize) -> SheetValues
     ensures { result ≡ values_of (take columns cells) }
 {
     let mut values = [0i16; 64];
-    let mut i = 0;
-    while i < columns {
+    for i in 0..columns {
         let found = cell_outcome(cells[i]);
         if found.refusal != 0 {
             return SheetValues {
@@ -79,7 +78,6 @@ fn values_of(cells: [ScaleCell; 64], columns: usize) -> SheetValues
         }
         let value = found.value;
         values[i] = value;
-        i += 1;
     }
     SheetValues { refusal: 0, values }
 }

@@ -35,14 +35,12 @@ fn table_refusal(table: &[u16]) -> u32
         return 49;
     }
     let mut total: u32 = 0;
-    let mut i = 0;
-    while i < table.len() {
+    for i in 0..table.len() {
         let entry = wide(table[i]);
         total += entry;
         if !entry_fits(entry, total) {
             return 50;
         }
-        i += 1;
     }
     if total > 64980 {
         return 51;
@@ -86,10 +84,8 @@ fn entries_total(table: &[u16], count: usize) -> u32
     ensures { result ≡ sum (take count table.now) }
 {
     let mut total: u32 = 0;
-    let mut i = 0;
-    while i < count {
+    for i in 0..count {
         total += wide(table[i]);
-        i += 1;
     }
     total
 }

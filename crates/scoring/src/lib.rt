@@ -26,15 +26,13 @@ pub fn least_score(r: &[i32], book: &[u8], at: usize, boats: usize, columns: usi
     let mut boat = 0;
     let mut score = sums::inner_at(r, book, at, columns);
     let mut p = at + 2 * columns;
-    let mut i = 1;
-    while i < boats {
+    for i in 1..boats {
         let s = sums::inner_at(r, book, p, columns);
         if s < score {
             boat = i;
             score = s;
         }
         p += 2 * columns;
-        i += 1;
     }
     Least { boat, score }
 }
@@ -48,11 +46,9 @@ pub fn products(d: &[i16], book: &[u8], at: usize, boats: usize, columns: usize,
     ensures { to.new ≡ scores (ones columns) (take columns d.now) (rows_from boats columns (drop at book.now)) ++ drop boats to.old }
 {
     let mut row = at;
-    let mut i = 0;
-    while i < boats {
+    for i in 0..boats {
         to[i] = sums::padded_inner(d, book, row, columns);
         row += 2 * columns;
-        i += 1;
     }
 }
 
@@ -63,14 +59,12 @@ pub fn least_product(products: &[i32], boats: usize) -> Least
 {
     let mut boat = 0;
     let mut least = products[0];
-    let mut i = 1;
-    while i < boats {
+    for i in 1..boats {
         let product = products[i];
         if product < least {
             boat = i;
             least = product;
         }
-        i += 1;
     }
     Least {
         boat,
@@ -94,15 +88,13 @@ pub fn rescored(scores: &mut [i64], k: u32, products: &[i32], boats: usize) -> L
 {
     let mut boat = 0;
     let mut least = moved_score(scores[0], k, products[0]);
-    let mut i = 0;
-    while i < boats {
+    for i in 0..boats {
         let score = moved_score(scores[i], k, products[i]);
         scores[i] = score;
         if score < least {
             boat = i;
             least = score;
         }
-        i += 1;
     }
     Least { boat, score: least }
 }
@@ -119,14 +111,12 @@ pub fn picked(least: Least, scores: &[i64], shares: &[u16], boats: usize) -> Lea
     if shares[boat] != 0 {
         return least;
     }
-    let mut i = boat + 1;
-    while i < boats {
+    for i in boat + 1..boats {
         if shares[i] != 0 {
             if scores[i] <= score {
                 return Least { boat: i, score };
             }
         }
-        i += 1;
     }
     least
 }

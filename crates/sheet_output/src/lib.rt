@@ -24,11 +24,9 @@ pub fn put_values(output: &mut [u8], values: [i16; 64], count: usize)
     requires values_value { all_in_range (take count values) ≡ true }
     ensures { output.new ≡ placed output.old 0 (values_bytes (take count values)) }
 {
-    let mut i = 0;
-    while i < count {
+    for i in 0..count {
         let value = values[i];
         put(output, 2 * i, 2, bits_of(value));
-        i += 1;
     }
 }
 

@@ -15,10 +15,8 @@ pub fn inner_at(r: &[i32], bytes: &[u8], at: usize, columns: usize) -> i64
     ensures { result ≡ inner (take columns r.now) (values columns (drop at bytes.now)) }
 {
     let mut sum: i64 = 0;
-    let mut i = 0;
-    while i < columns {
+    for i in 0..columns {
         sum += r[i] as i64 * files::value_at(bytes, at + 2 * i) as i64;
-        i += 1;
     }
     sum
 }
@@ -30,10 +28,8 @@ pub fn narrow_inner(d: &[i16], bytes: &[u8], at: usize, columns: usize) -> i32
     ensures { result ≡ inner (take columns d.now) (values columns (drop at bytes.now)) }
 {
     let mut sum: i32 = 0;
-    let mut i = 0;
-    while i < columns {
+    for i in 0..columns {
         sum += d[i] as i32 * files::value_at(bytes, at + 2 * i);
-        i += 1;
     }
     sum
 }
@@ -82,10 +78,8 @@ pub fn squared_norm(r: &[i32], columns: usize) -> u64
     ensures { result ≡ squared_norm (take columns r.now) }
 {
     let mut sum: u64 = 0;
-    let mut i = 0;
-    while i < columns {
+    for i in 0..columns {
         sum += square(r[i]);
-        i += 1;
     }
     sum
 }
@@ -106,11 +100,9 @@ pub fn moved(
     ensures { result ≡ add (take columns r) (scale k (subtract (values columns (drop at book.now)) (values columns (drop from sheet.now)))) ++ drop columns r }
 {
     let mut next = r;
-    let mut j = 0;
-    while j < columns {
+    for j in 0..columns {
         let d = files::value_at(book, at + 2 * j) - files::value_at(sheet, from + 2 * j);
         next[j] += k as i32 * d;
-        j += 1;
     }
     next
 }
@@ -123,10 +115,8 @@ pub fn difference(book: &[u8], at: usize, sheet: &[u8], from: usize, columns: us
     requires columns_in_bounds { columns ≤ length to.old }
     ensures { to.new ≡ subtract (values columns (drop at book.now)) (values columns (drop from sheet.now)) ++ drop columns to.old }
 {
-    let mut i = 0;
-    while i < columns {
+    for i in 0..columns {
         to[i] = (files::value_at(book, at + 2 * i) - files::value_at(sheet, from + 2 * i)) as i16;
-        i += 1;
     }
 }
 

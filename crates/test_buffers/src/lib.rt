@@ -47,10 +47,8 @@ pub fn checksum(bytes: &[u8]) -> u64
     ensures { result ≡ checksum bytes.now }
 {
     let mut sum = 0;
-    let mut i = 0;
-    while i < bytes.len() {
+    for i in 0..bytes.len() {
         sum = (257 * sum + wide(bytes[i])) % 1000003;
-        i += 1;
     }
     sum
 }
@@ -80,11 +78,9 @@ pub fn put_number(buffer: &mut [u8], at: usize, x: u64, count: u64) -> usize
 {
     let mut next = at;
     let mut rest = x;
-    let mut i = 0;
-    while i < count {
+    for i in 0..count {
         next = put(buffer, next, (rest % 256) as u8);
         rest /= 256;
-        i += 1;
     }
     next
 }
@@ -94,10 +90,8 @@ pub fn put_bytes(buffer: &mut [u8], at: usize, bytes: &[u8]) -> usize
     ensures { Puts buffer.old at bytes.now buffer.new result }
 {
     let mut next = at;
-    let mut i = 0;
-    while i < bytes.len() {
+    for i in 0..bytes.len() {
         next = put(buffer, next, bytes[i]);
-        i += 1;
     }
     next
 }

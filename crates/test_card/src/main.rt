@@ -50,9 +50,7 @@ fn one(rt: &HostRuntime, seed: &mut u64, number: u64) {
 
 fn main(rt: HostRuntime) {
     let mut seed = 8;
-    let mut number = 0;
-    while number < 2000 {
+    for number in 0..2000 {
         one(&rt, &mut seed, number);
-        number += 1;
     }
 }

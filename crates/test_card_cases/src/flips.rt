@@ -42,10 +42,8 @@ fn flip_byte(rt: &HostRuntime, book: &[u8], sheet: &[u8], filed: &mut [u8], len:
     ensures { filed.new ≡ filed.old }
 {
     test_printing::word(rt, b"flip");
-    let mut i = 0;
-    while i < 8 {
+    for i in 0..8 {
         flip(rt, book, sheet, filed, len, at, BITS[i]);
-        i += 1;
     }
     test_printing::word(rt, b"\n");
 }
@@ -54,9 +52,7 @@ fn flip_byte(rt: &HostRuntime, book: &[u8], sheet: &[u8], filed: &mut [u8], len:
 pub fn flips(rt: &HostRuntime, book: &[u8], sheet: &[u8], filed: &mut [u8], len: usize)
     ensures { filed.new ≡ filed.old }
 {
-    let mut at = 0;
-    while at < len {
+    for at in 0..len {
         flip_byte(rt, book, sheet, filed, len, at);
-        at += 1;
     }
 }

@@ -34,10 +34,8 @@ fn refusal_of(book: &[u8], sheet: &[u8], card: &[u8]) -> u32 {
 // Prints the number that refuses a book, a sheet and a card, and the lines of all numbers.
 fn told(rt: &HostRuntime, book: &[u8], sheet: &[u8], card: &[u8]) {
     test_printing::line(rt, b"refusal", refusal_of(book, sheet, card) as u64);
-    let mut number = 0;
-    while number < 60 {
+    for number in 0..60 {
         of(rt, book, sheet, card, number);
-        number += 1;
     }
 }
 
@@ -68,11 +66,9 @@ fn case(rt: &HostRuntime, cases: &[u8], start: usize) -> usize {
 // Each case of a file.
 fn each(rt: &HostRuntime, cases: &[u8], count: u64) {
     let mut at = 0;
-    let mut number = 0;
-    while number < count {
+    for number in 0..count {
         test_printing::line(rt, b"case", number);
         at = case(rt, cases, at);
-        number += 1;
     }
 }
 

@@ -40,9 +40,7 @@ fn one(rt: &HostRuntime, seed: &mut u64, number: u64) {
 
 fn main(rt: HostRuntime) {
     let mut seed = 7;
-    let mut number = 0;
-    while number < 3000 {
+    for number in 0..3000 {
         one(&rt, &mut seed, number);
-        number += 1;
     }
 }

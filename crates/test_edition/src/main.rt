@@ -184,9 +184,7 @@ tie: Btie.wbk Stie.wsh Ctie.wcd
 fn main(rt: HostRuntime) {
     all_filed_before(&rt);
     let mut seed = 27;
-    let mut number = 0;
-    while number < 1000 {
+    for number in 0..1000 {
         one(&rt, &mut seed, number);
-        number += 1;
     }
 }

@@ -291,8 +291,7 @@ fn wide_cases(rt: &HostRuntime, seed: &mut u64) {
 
 // Books of 9 to 40 boats, whose sets have more than one byte.
 fn larger_cases(rt: &HostRuntime, seed: &mut u64) {
-    let mut number = 0;
-    while number < 40 {
+    for number in 0..40 {
         let boats = test_samples::draw(seed, 32) % 32 + 9;
         let plan = Plan {
             boats,
@@ -302,14 +301,12 @@ fn larger_cases(rt: &HostRuntime, seed: &mut u64) {
             front: 2,
         };
         one(rt, seed, number, plan, 20);
-        number += 1;
     }
 }
 
 // Sheets of 360 steps with long tables.
 fn long_cases(rt: &HostRuntime, seed: &mut u64) {
-    let mut number = 0;
-    while number < 6 {
+    for number in 0..6 {
         let plan = Plan {
             boats: 7,
             columns: 3,
@@ -318,18 +315,15 @@ fn long_cases(rt: &HostRuntime, seed: &mut u64) {
             front: 1,
         };
         one(rt, seed, number, plan, 2);
-        number += 1;
     }
 }
 
 fn main(rt: HostRuntime) {
     marked::marked(&rt);
     let mut seed = 25;
-    let mut number = 0;
-    while number < 700 {
+    for number in 0..700 {
         let plan = test_samples::draw_plan(&mut seed);
         one(&rt, &mut seed, number, plan, 20);
-        number += 1;
     }
     wide_cases(&rt, &mut seed);
     larger_cases(&rt, &mut seed);

@@ -88,10 +88,8 @@ fn value_case(rt: &HostRuntime, line: &[u8], value: u64) {
 
 // A case for each value of the list.
 fn value_cases(rt: &HostRuntime, line: &[u8]) {
-    let mut i = 0;
-    while i < 7 {
+    for i in 0..7 {
         value_case(rt, line, VALUES[i]);
-        i += 1;
     }
 }
 

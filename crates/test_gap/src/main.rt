@@ -256,11 +256,9 @@ fn followed(rt: &HostRuntime, book: &[u8], sheet: &[u8], totals: Totals) -> Tota
 // Puts `count` values at either limit.
 fn put_limits(buffer: &mut [u8], at: usize, seed: &mut u64, count: u64) {
     let mut next = at;
-    let mut i = 0;
-    while i < count {
+    for i in 0..count {
         let x = test_samples::draw(seed, 2);
         next = test_buffers::put_number(buffer, next, 2000 + 61536 * (x % 2), 2);
-        i += 1;
     }
 }
 

@@ -43,10 +43,8 @@ fn put_trailer(file: &mut [u8], at: usize, line: &[u8]) -> usize {
 // Puts pairs, each a digit for the boat and one for its shares.
 fn put_pairs(file: &mut [u8], pairs: &[u8]) -> usize {
     let mut next = 0;
-    let mut i = 0;
-    while i < pairs.len() {
+    for i in 0..pairs.len() {
         next = test_buffers::put_number(file, next, test_buffers::wide(pairs[i]) % 16, 2);
-        i += 1;
     }
     next
 }

@@ -47,10 +47,8 @@ fn report(
         at: start,
         refusal: lean_cards::lean_start(book, cards),
     };
-    let mut k = 0;
-    while k < pairs {
+    for k in 0..pairs {
         w = pair(book, cases, w, k, &mut slots);
-        k += 1;
     }
     file_io::print(rt, lean_listing::lean_text(book, w.refusal, cards, &slots));
     w.at
@@ -74,11 +72,9 @@ fn case(rt: &HostRuntime, cases: &[u8], start: usize) -> usize {
 // Each case of a file. Gives back where the names of the folders start, behind the last case.
 fn each(rt: &HostRuntime, cases: &[u8], count: u64) -> usize {
     let mut at = 0;
-    let mut number = 0;
-    while number < count {
+    for number in 0..count {
         test_printing::line(rt, b"case", number);
         at = case(rt, cases, at);
-        number += 1;
     }
     at
 }
@@ -109,10 +105,8 @@ fn folder_at(rt: &HostRuntime, cases: &[u8], start: usize) -> usize {
 // leanlist in one folder after another.
 fn folders(rt: &HostRuntime, cases: &[u8], start: usize, count: u64) {
     let mut at = start;
-    let mut number = 0;
-    while number < count {
+    for number in 0..count {
         at = folder_at(rt, cases, at);
-        number += 1;
     }
 }
 

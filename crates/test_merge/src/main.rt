@@ -41,11 +41,9 @@ fn case(rt: &HostRuntime, cases: &[u8], start: usize) -> usize {
 // Each case of a file. Gives back where the names of the folders start, behind the last case.
 fn each(rt: &HostRuntime, cases: &[u8], count: u64) -> usize {
     let mut at = 0;
-    let mut number = 0;
-    while number < count {
+    for number in 0..count {
         test_printing::line(rt, b"case", number);
         at = case(rt, cases, at);
-        number += 1;
     }
     at
 }
@@ -72,10 +70,8 @@ fn folder_at(rt: &HostRuntime, cases: &[u8], start: usize) -> usize {
 // mixmerge in one folder after another.
 fn folders(rt: &HostRuntime, cases: &[u8], start: usize, count: u64) {
     let mut at = start;
-    let mut number = 0;
-    while number < count {
+    for number in 0..count {
         at = folder_at(rt, cases, at);
-        number += 1;
     }
 }
 

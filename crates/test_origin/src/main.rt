@@ -48,10 +48,8 @@ fn case(rt: &HostRuntime, cases: &[u8], start: usize) -> usize {
 // Each case of a file.
 fn each(rt: &HostRuntime, cases: &[u8], count: u64) {
     let mut at = 0;
-    let mut number = 0;
-    while number < count {
+    for number in 0..count {
         at = case(rt, cases, at);
-        number += 1;
     }
 }
 

@@ -27,12 +27,10 @@ pub fn title(rt: &HostRuntime, name: &[u8]) {
 
 // The first `count` slots of a share list.
 fn first_slots(rt: &HostRuntime, list: &[u16], count: usize) {
-    let mut i = 0;
-    while i < count {
+    for i in 0..count {
         if i < list.len() {
             slot(rt, list[i]);
         }
-        i += 1;
     }
 }
 

@@ -15,10 +15,8 @@ fn u32_at(cases: &[u8], at: usize) -> u32 {
 // The sheets of the queue at `at`.
 fn plan_at(cases: &[u8], at: usize) -> Plan {
     let mut lengths = [0u32; 16];
-    let mut i = 0;
-    while i < 16 {
+    for i in 0..16 {
         lengths[i] = u32_at(cases, at % 1000000 + 12 + 4 * i);
-        i += 1;
     }
     Plan {
         count: u16_at(cases, at) as usize,
@@ -36,10 +34,8 @@ fn wide(x: u16) -> u64
 // A number that depends on every slot and its place.
 fn sum_of(slots: &[u16]) -> u64 {
     let mut sum = 0;
-    let mut i = 0;
-    while i < slots.len() {
+    for i in 0..slots.len() {
         sum = (257 * sum + wide(slots[i])) % 1000003;
-        i += 1;
     }
     sum
 }
@@ -64,10 +60,8 @@ fn record(rt: &HostRuntime, outcome: Outcome, i: usize) {
 // Prints the records of an outcome.
 fn records(rt: &HostRuntime, outcome: Outcome) {
     let count = outcome.count;
-    let mut i = 0;
-    while i < count {
+    for i in 0..count {
         record(rt, outcome, i);
-        i += 1;
     }
 }
 
@@ -113,11 +107,9 @@ fn case(rt: &HostRuntime, cases: &[u8], start: usize) -> usize {
 // Each case of a file. Gives back where the runs of mixqueue start, behind the last case.
 fn each(rt: &HostRuntime, cases: &[u8], count: u64) -> usize {
     let mut at = 0;
-    let mut number = 0;
-    while number < count {
+    for number in 0..count {
         test_printing::line(rt, b"case", number);
         at = case(rt, cases, at);
-        number += 1;
     }
     at
 }
@@ -139,10 +131,8 @@ fn folder(rt: &HostRuntime, cases: &[u8], start: usize) -> usize {
 // mixqueue in one folder after another.
 fn folders(rt: &HostRuntime, cases: &[u8], start: usize, count: u64) {
     let mut at = start;
-    let mut number = 0;
-    while number < count {
+    for number in 0..count {
         at = folder(rt, cases, at);
-        number += 1;
     }
 }
 

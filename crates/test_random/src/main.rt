@@ -110,10 +110,8 @@ fn mirrored_case(rt: &HostRuntime, seed: &mut u64, number: u64) {
 
 fn mirrored_cases(rt: &HostRuntime) {
     let mut seed = 6;
-    let mut number = 0;
-    while number < 1000 {
+    for number in 0..1000 {
         mirrored_case(rt, &mut seed, number);
-        number += 1;
     }
 }
 

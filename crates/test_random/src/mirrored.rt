@@ -19,12 +19,10 @@ pub fn draw_plan(seed: &mut u64) -> Plan {
 // Puts the row that stands at `from` once more, with the value of one column negated.
 fn put_mirrored(buffer: &mut [u8], at: usize, from: usize, columns: u64, column: u64) -> usize {
     let mut next = at;
-    let mut i = 0;
-    while i < columns {
+    for i in 0..columns {
         let x = test_buffers::u16_at(buffer, from % 65536 + 2 * (i % 65536) as usize);
         let y = if i == column { 65536 - x % 65536 } else { x };
         next = test_buffers::put_number(buffer, next, y, 2);
-        i += 1;
     }
     next
 }
@@ -48,11 +46,9 @@ pub fn put_book(buffer: &mut [u8], seed: &mut u64, plan: Plan) -> usize {
     let boats = plan.boats;
     let columns = plan.columns;
     let mut at = 0;
-    let mut i = 0;
-    while i < boats {
+    for i in 0..boats {
         let kind = test_samples::draw(seed, 3);
         at = put_row(buffer, at, seed, i, kind, plan);
-        i += 1;
     }
     let back = 2 * test_buffers::times(boats, columns);
     test_buffers::put_book_trailer(buffer, at, back, boats, columns)

@@ -36,11 +36,9 @@ pub fn put_front(buffer: &mut [u8], at: usize, seed: &mut u64, count: u64) -> us
     ensures seed_after { seed.new ≡ advances count seed.old }
 {
     let mut next = at;
-    let mut i = 0;
-    while i < count {
+    for i in 0..count {
         let x = draw(seed, 256);
         next = put(buffer, next, x as u8);
-        i += 1;
     }
     next
 }
@@ -51,11 +49,9 @@ pub fn put_row(buffer: &mut [u8], at: usize, seed: &mut u64, columns: u64, scale
     ensures seed_after { seed.new ≡ advances columns seed.old }
 {
     let mut next = at;
-    let mut i = 0;
-    while i < columns {
+    for i in 0..columns {
         let x = draw(seed, 2 * (scale % 65536) + 1);
         next = put_number(buffer, next, x % 65536 + 65536 - scale % 65536, 2);
-        i += 1;
     }
     next
 }
@@ -65,11 +61,9 @@ pub fn put_again(buffer: &mut [u8], at: usize, count: usize) -> usize
     ensures { Puts buffer.old at (again count count buffer.old at) buffer.new result }
 {
     let mut next = at;
-    let mut i = 0;
-    while i < count {
+    for i in 0..count {
         let x = test_buffers::byte_at(buffer, less(next, count));
         next = put(buffer, next, x);
-        i += 1;
     }
     next
 }
@@ -108,11 +102,9 @@ pub fn put_rows(
     ensures seed_after { seed.new ≡ after_rows boats 0 columns seed.old }
 {
     let mut next = at;
-    let mut i = 0;
-    while i < boats {
+    for i in 0..boats {
         let kind = draw(seed, 4);
         next = put_next_row(buffer, next, seed, i, kind, columns, scale);
-        i += 1;
     }
     next
 }
@@ -129,13 +121,11 @@ pub fn put_middle(
     ensures { Puts buffer.old at (middle columns 0 from.now a b) buffer.new result }
 {
     let mut next = at;
-    let mut i = 0;
-    while i < columns {
+    for i in 0..columns {
         let j = 2 * (i % 65536) as usize;
         let x = (test_buffers::u16_at(from, a % 65536 + j) + 2000) % 65536;
         let y = (test_buffers::u16_at(from, b % 65536 + j) + 2000) % 65536;
         next = put_number(buffer, next, (x + y) / 2 + 63536, 2);
-        i += 1;
     }
     next
 }

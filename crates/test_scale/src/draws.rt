@@ -97,13 +97,11 @@ pub fn cells(seed: &mut u64, columns: u64) -> [ScaleCell; 64] {
         cell: Cell::Unweighed,
         unit: 0,
     }; 64];
-    let mut i = 0;
-    while i < 64 {
+    for i in 0..64 {
         if (i as u64) < columns {
             let s = cell(seed);
             cells[i] = s;
         }
-        i += 1;
     }
     cells
 }

@@ -16,22 +16,18 @@ fn put_book(book: &mut [u8], boats: u64, columns: u64) -> usize {
 // A sum that depends on every value and its place.
 fn sum(values: [i16; 64]) -> u64 {
     let mut sum = 0;
-    let mut i = 0;
-    while i < 64 {
+    for i in 0..64 {
         let value = values[i];
         sum = (sum % 1000003 * 257 + sheet_output::bits_of(value) % 65536) % 1000003;
-        i += 1;
     }
     sum
 }
 
 // The first 5 values, each as its 16 bits.
 fn print_first(rt: &HostRuntime, values: [i16; 64]) {
-    let mut i = 0;
-    while i < 5 {
+    for i in 0..5 {
         let value = values[i];
         test_printing::number(rt, sheet_output::bits_of(value));
-        i += 1;
     }
 }
 
@@ -80,9 +76,7 @@ fn one(rt: &HostRuntime, seed: &mut u64, number: u64) {
 
 fn main(rt: HostRuntime) {
     let mut seed = 21;
-    let mut number = 0;
-    while number < 3000 {
+    for number in 0..3000 {
         one(&rt, &mut seed, number);
-        number += 1;
     }
 }

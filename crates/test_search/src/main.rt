@@ -29,10 +29,8 @@ fn checksum(slots: &[u16]) -> u64
     ensures { result ≡ checksum slots.now }
 {
     let mut sum = 0;
-    let mut i = 0;
-    while i < slots.len() {
+    for i in 0..slots.len() {
         sum = (257 * sum + wide(slots[i])) % 1000003;
-        i += 1;
     }
     sum
 }

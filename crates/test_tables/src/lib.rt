@@ -65,10 +65,8 @@ fn number(digits: &[u8]) -> u64
     ensures { result ≡ digits_after 0 digits.now }
 {
     let mut sum = 0;
-    let mut i = 0;
-    while i < digits.len() {
+    for i in 0..digits.len() {
         sum = sum % 1000000000000 * 10 + test_buffers::wide(digits[i]) % 16;
-        i += 1;
     }
     sum
 }
@@ -97,12 +95,10 @@ pub fn put_fields(
     ensures { Puts buffer.old at (fields line.now others.now letters.now sizes.now) buffer.new result }
 {
     let mut next = at;
-    let mut i = 0;
-    while i < letters.len() {
+    for i in 0..letters.len() {
         let x = field(line, letters[i], field(others, letters[i], 0));
         let size = test_buffers::wide(test_buffers::byte_at(sizes, i)) % 16;
         next = test_buffers::put_number(buffer, next, x, size);
-        i += 1;
     }
     next
 }

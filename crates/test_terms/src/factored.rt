@@ -31,12 +31,10 @@ fn factor(kind: u64, x: u64) -> u64 {
 fn put_drawn(buffer: &mut [u8], at: usize, seed: &mut u64, columns: u64, kind: u64) -> u64 {
     let mut next = at;
     let mut total = 0;
-    let mut i = 0;
-    while i < columns {
+    for i in 0..columns {
         let x = factor(kind, test_samples::draw(seed, 256));
         next = test_buffers::put_number(buffer, next, x, 1);
         total = (total % 65536) + (x % 256);
-        i += 1;
     }
     total
 }

@@ -63,11 +63,9 @@ pub fn draw_set(seed: &mut u64, boats: usize) -> Released {
     let mut bits = [0u8; 32];
     let kind = draw(seed, 8);
     let chosen = chosen_boat(kind, boats, draw(seed, boats as u64) as usize);
-    let mut k = 0;
-    while k < 32 {
+    for k in 0..32 {
         let x = draw(seed, 256);
         bits[k] = (set_byte(kind, boats, chosen, k, x) % 256) as u8;
-        k += 1;
     }
     Released {
         limited: true,
@@ -94,9 +92,7 @@ fn put_other(book: &mut [u8], seed: &mut u64, plan: Plan, rows: usize, set: Rele
 // Other rows for all boats of a book that a set does not have.
 pub fn put_others(book: &mut [u8], seed: &mut u64, plan: Plan, rows: usize, set: Released) {
     let boats = (plan.boats % 65536) as usize;
-    let mut i = 0;
-    while i < boats {
+    for i in 0..boats {
         put_other(book, seed, plan, rows, set, i);
-        i += 1;
     }
 }

@@ -76,14 +76,12 @@ fn share_at(kind: u64, i: usize, place: usize, most: u64, x: u64) -> u64 {
 pub fn put_shares(table: &mut [u16], seed: &mut u64, kind: u64, count: usize, place: usize) {
     let mut most = 2;
     let mut total = 0;
-    let mut i = 0;
-    while i < count {
+    for i in 0..count {
         let x = draw(seed, 360);
         let next = share_at(kind, i, place, most, x);
         put_share(table, i, next);
         total = total % 4294967296 + next % 65536;
         most = border(most, total);
-        i += 1;
     }
 }
 

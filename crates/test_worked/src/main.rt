@@ -13,10 +13,8 @@ fn u32_at(cases: &[u8], at: usize) -> u32 {
 // The released set at `at`: whether the call is limited to it, a byte of no meaning, then its bits.
 fn set_at(cases: &[u8], at: usize) -> Released {
     let mut boats = [0u8; 32];
-    let mut i = 0;
-    while i < 32 {
+    for i in 0..32 {
         boats[i] = byte_at(cases, at % 1000000 + 2 + i);
-        i += 1;
     }
     Released {
         limited: byte_at(cases, at) == 1,
@@ -88,11 +86,9 @@ fn case(rt: &HostRuntime, cases: &[u8], start: usize) -> usize {
 // Each case of a file.
 fn each(rt: &HostRuntime, cases: &[u8], count: u64) {
     let mut at = 0;
-    let mut number = 0;
-    while number < count {
+    for number in 0..count {
         test_printing::line(rt, b"case", number);
         at = case(rt, cases, at);
-        number += 1;
     }
 }
 

@@ -8,6 +8,3 @@ use Rattle.card_details.proofs.entries_line.Given as goal
 
 abbrev pub invariant-loop-i : goal.invariant-loop-i
 invariant-loop-i l = Entered l.name l.card l.start l.count l.boats l.i l.next l.at
-
-abbrev pub decreases-loop-i : goal.decreases-loop-i
-decreases-loop-i l = l.count - l.i

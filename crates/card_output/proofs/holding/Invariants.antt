@@ -9,6 +9,3 @@ use Rattle.card_output.proofs.holding.Given as goal
 
 abbrev pub invariant-loop-i : goal.invariant-loop-i
 invariant-loop-i l = Counting l.boats l.shares l.i l.n
-
-abbrev pub decreases-loop-i : goal.decreases-loop-i
-decreases-loop-i l = l.boats - l.i

@@ -8,6 +8,3 @@ use Rattle.card_pairs.proofs.pairs_in_order.Given as goal
 
 abbrev pub invariant-loop-i : goal.invariant-loop-i
 invariant-loop-i l = Ordering l.card l.at l.count l.boats l.i l.next
-
-abbrev pub decreases-loop-i : goal.decreases-loop-i
-decreases-loop-i l = l.count - l.i

@@ -8,6 +8,3 @@ use Rattle.card_pairs.proofs.shares_of.Given as goal
 
 abbrev pub invariant-loop-i : goal.invariant-loop-i
 invariant-loop-i l = Taking l.card l.at l.count l.i l.shares
-
-abbrev pub decreases-loop-i : goal.decreases-loop-i
-decreases-loop-i l = l.count - l.i

@@ -9,6 +9,3 @@ use Rattle.csv_bytes.proofs.separator.Given as goal
 
 abbrev pub invariant-loop-i : goal.invariant-loop-i
 invariant-loop-i l = Looking l.csv l.best l.known l.mode l.i
-
-abbrev pub decreases-loop-i : goal.decreases-loop-i
-decreases-loop-i l = length l.csv - l.i

@@ -10,6 +10,3 @@ use Rattle.csv_cells.proofs.put_cell.Given as goal
 
 abbrev pub invariant-loop-i : goal.invariant-loop-i
 invariant-loop-i l = Celling l.row l.field l.csv l.initial.output l.separator l.place l.mode l.n l.i l.output
-
-abbrev pub decreases-loop-i : goal.decreases-loop-i
-decreases-loop-i l = length l.csv - l.i

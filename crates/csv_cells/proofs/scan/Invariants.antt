@@ -9,6 +9,3 @@ use Rattle.csv_cells.proofs.scan.Given as goal
 
 abbrev pub invariant-loop-i : goal.invariant-loop-i
 invariant-loop-i l = Scanning l.row l.csv l.separator l.place l.mode l.line l.n l.i
-
-abbrev pub decreases-loop-i : goal.decreases-loop-i
-decreases-loop-i l = length l.csv - l.i

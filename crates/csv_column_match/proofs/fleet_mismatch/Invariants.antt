@@ -10,6 +10,3 @@ use Rattle.csv_column_match.proofs.fleet_mismatch.Given as goal
 
 abbrev pub invariant-loop-j : goal.invariant-loop-j
 invariant-loop-j l = (l.j ≤ l.m) × ((fleet csv : List ℕ) → Held 0 1 fleet l.fleet_sizes l.fleet_cells → Held 0 1 csv l.sizes l.cells → fleet_mismatch l.n l.j fleet csv ≡ none)
-
-abbrev pub decreases-loop-j : goal.decreases-loop-j
-decreases-loop-j l = l.m - l.j

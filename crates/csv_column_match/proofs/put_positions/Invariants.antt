@@ -9,6 +9,3 @@ use Rattle.csv_column_match.proofs.put_positions.Given as goal
 
 abbrev pub invariant-loop-j : goal.invariant-loop-j
 invariant-loop-j l = PositionsPut l.n l.fleet l.csv l.m l.initial.output l.j l.output
-
-abbrev pub decreases-loop-j : goal.decreases-loop-j
-decreases-loop-j l = l.m - l.j

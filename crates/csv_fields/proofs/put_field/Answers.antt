@@ -24,9 +24,6 @@ put_byte-n-requires c = record { in_bounds = omega (arith, c.loop-i.invariant.so
 pub next_number-at-requires : goal.next_number-at-requires
 next_number-at-requires c = omega (arith, c.loop-i.invariant.few_lines, c.loop-i.invariant.within, c.requires.csv_len_bound)
 
-pub overflow_add-i : goal.overflow_add-i
-overflow_add-i c = omega (arith, c.loop-i.invariant.within, c.requires.csv_len_bound)
-
 pub loop-i-preserved : goal.loop-i-preserved
 loop-i-preserved c =
     fielding_more c.loop-i.invariant c.requires.in_bounds c.loop-i-test.true c.read_byte-step.ensures c.after-next.ensures c.is_at-there.ensures c.put_byte-n.ensures.value

@@ -10,6 +10,3 @@ use Rattle.csv_fields.proofs.put_field.Given as goal
 
 abbrev pub invariant-loop-i : goal.invariant-loop-i
 invariant-loop-i l = Fielding l.line l.field l.csv l.initial.output l.separator l.table l.mode l.at l.n l.i l.output
-
-abbrev pub decreases-loop-i : goal.decreases-loop-i
-decreases-loop-i l = length l.csv - l.i

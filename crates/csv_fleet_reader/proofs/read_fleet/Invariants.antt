@@ -10,6 +10,3 @@ use Rattle.csv_fleet_reader.proofs.read_fleet.Given as goal
 
 abbrev pub invariant-loop-i : goal.invariant-loop-i
 invariant-loop-i l = Reading l.csv l.initial.rows l.separator l.table l.mode l.line l.n l.i l.rows
-
-abbrev pub decreases-loop-i : goal.decreases-loop-i
-decreases-loop-i l = length l.csv - l.i

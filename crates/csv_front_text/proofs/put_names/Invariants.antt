@@ -8,6 +8,3 @@ use Rattle.csv_front_text.proofs.put_names.Given as goal
 
 abbrev pub invariant-loop-i : goal.invariant-loop-i
 invariant-loop-i l = Naming l.csv l.initial.output l.separator l.table l.mode l.n l.i l.output
-
-abbrev pub decreases-loop-i : goal.decreases-loop-i
-decreases-loop-i l = length l.csv - l.i

@@ -10,6 +10,3 @@ use Rattle.csv_sheet_parts.proofs.put_target.Given as goal
 
 abbrev pub invariant-loop-i : goal.invariant-loop-i
 invariant-loop-i l = ValuesPut l.places l.csv l.initial.output l.row l.i l.output
-
-abbrev pub decreases-loop-i : goal.decreases-loop-i
-decreases-loop-i l = length l.places - l.i

@@ -9,6 +9,3 @@ use Rattle.csv_slots.proofs.put_rows.Given as goal
 
 abbrev pub invariant-loop-i : goal.invariant-loop-i
 invariant-loop-i l = Holding l.first l.rows l.csv l.separator l.place l.mode l.i l.sizes l.cells
-
-abbrev pub decreases-loop-i : goal.decreases-loop-i
-decreases-loop-i l = length l.csv - l.i

@@ -10,6 +10,3 @@ use Rattle.derived_files.proofs.copy_row.Given as goal
 
 abbrev pub invariant-loop-k : goal.invariant-loop-k
 invariant-loop-k l = Copying l.initial.output l.at l.bytes l.from l.places l.k l.output
-
-abbrev pub decreases-loop-k : goal.decreases-loop-k
-decreases-loop-k l = length l.places - l.k

@@ -10,6 +10,3 @@ use Rattle.derived_files.proofs.put_places.Given as goal
 
 abbrev pub invariant-loop-j : goal.invariant-loop-j
 invariant-loop-j l = Placing l.initial.list l.factors l.at l.j l.list
-
-abbrev pub decreases-loop-j : goal.decreases-loop-j
-decreases-loop-j l = length l.factors - l.j

@@ -8,6 +8,3 @@ use Rattle.exported_queue.proofs.lengths_of.Given as goal
 
 abbrev pub invariant-loop-i : goal.invariant-loop-i
 invariant-loop-i l = (l.i ≤ length l.queue) × (l.lengths ≡ lengths_to l.queue l.i)
-
-abbrev pub decreases-loop-i : goal.decreases-loop-i
-decreases-loop-i l = length l.queue - l.i

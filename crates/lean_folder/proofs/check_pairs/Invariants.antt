@@ -10,6 +10,3 @@ use Rattle.lean_folder.proofs.check_pairs.Given as goal
 
 abbrev pub invariant-loop-k : goal.invariant-loop-k
 invariant-loop-k l = Going l.book l.cards l.slots l.k × (length l.slots ≡ length l.initial.slots)
-
-abbrev pub decreases-loop-k : goal.decreases-loop-k
-decreases-loop-k l = l.cards - l.k

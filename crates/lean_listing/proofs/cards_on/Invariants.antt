@@ -8,6 +8,3 @@ use Rattle.lean_listing.proofs.cards_on.Given as goal
 
 abbrev pub invariant-loop-k : goal.invariant-loop-k
 invariant-loop-k l = Counted l.slots l.start l.cards l.boat l.count l.k
-
-abbrev pub decreases-loop-k : goal.decreases-loop-k
-decreases-loop-k l = l.cards - l.k

@@ -9,6 +9,3 @@ use Rattle.lean_listing.proofs.most_used.Given as goal
 
 abbrev pub invariant-loop-i : goal.invariant-loop-i
 invariant-loop-i l = Led (parts 12 l.boats (drop l.start l.slots)) l.boats l.best l.greatest l.i
-
-abbrev pub decreases-loop-i : goal.decreases-loop-i
-decreases-loop-i l = l.boats - l.i

@@ -8,6 +8,3 @@ use Rattle.lean_listing.proofs.total.Given as goal
 
 abbrev pub invariant-loop-i : goal.invariant-loop-i
 invariant-loop-i l = Totalled (parts l.cards l.boats l.slots) l.boats l.sum l.i
-
-abbrev pub decreases-loop-i : goal.decreases-loop-i
-decreases-loop-i l = l.boats - l.i

@@ -8,6 +8,3 @@ use Rattle.lean_listing.proofs.with_boats.Given as goal
 
 abbrev pub invariant-loop-i : goal.invariant-loop-i
 invariant-loop-i l = BoatsAdded l.initial.longer (parts l.cards l.boats l.slots) l.boats l.longer l.i
-
-abbrev pub decreases-loop-i : goal.decreases-loop-i
-decreases-loop-i l = l.boats - l.i

@@ -9,6 +9,3 @@ use Rattle.mixture_answer.proofs.residual_of.Given as goal
 
 abbrev pub invariant-loop-i : goal.invariant-loop-i
 invariant-loop-i l = Summing l.book l.sheet l.shares l.i l.r
-
-abbrev pub decreases-loop-i : goal.decreases-loop-i
-decreases-loop-i l = l.boats - l.i

@@ -7,6 +7,3 @@ use Rattle.pairwise_moves.proofs.list_held.Given as goal
 
 abbrev pub invariant-loop-i : goal.invariant-loop-i
 invariant-loop-i l = Listing l.shares l.boats l.initial.list l.count l.i l.list
-
-abbrev pub decreases-loop-i : goal.decreases-loop-i
-decreases-loop-i l = l.boats - l.i

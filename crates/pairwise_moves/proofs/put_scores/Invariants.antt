@@ -8,6 +8,3 @@ use Rattle.pairwise_moves.proofs.put_scores.Given as goal
 
 abbrev pub invariant-loop-i : goal.invariant-loop-i
 invariant-loop-i l = Stored (take l.columns l.r) l.book l.at l.boats l.columns l.initial.to l.to l.row l.i
-
-abbrev pub decreases-loop-i : goal.decreases-loop-i
-decreases-loop-i l = l.boats - l.i

@@ -7,6 +7,3 @@ use Rattle.pairwise_moves.proofs.remember_held.Given as goal
 
 abbrev pub invariant-loop-i : goal.invariant-loop-i
 invariant-loop-i l = Remembering l.book l.sheet l.shares l.initial.memory l.memory l.i
-
-abbrev pub decreases-loop-i : goal.decreases-loop-i
-decreases-loop-i l = l.boats - l.i

@@ -78,9 +78,6 @@ rescored-pair-requires-in-loop-made c =
     let q = rescore_asks _ _ c.requires.sheet_value c.loop-made.invariant c.requires.layout_value c.slope_of-slope.ensures c.apart_of-apart.ensures c.amount_of-m.ensures c.if-m-eq0.false c.exchange.ensures in
     record { listed = q.0; movable_scores = q.1 }
 
-pub overflow_add-made : goal.overflow_add-made
-overflow_add-made c = record { fits = omega (arith, c.loop-made-test.true, c.ranges) }
-
 pub loop-made-preserved : goal.loop-made-preserved
 loop-made-preserved c = working_next _ _ c.requires.sheet_value c.loop-made.invariant c.requires.layout_value c.slope_of-slope.ensures c.apart_of-apart.ensures c.amount_of-m.ensures c.if-m-eq0.false c.exchange.ensures c.rescored-pair-in-loop-made.ensures.scores_after c.rescored-pair-in-loop-made.ensures.value c.loop-made-test.true
 

@@ -7,6 +7,3 @@ use Rattle.pairwise_moves.proofs.worked_over.Given as goal
 
 abbrev pub invariant-loop-made : goal.invariant-loop-made
 invariant-loop-made l = Working l.book l.sheet l.initial.held l.allowed l.list l.memory l.made l.held l.scores l.pair
-
-abbrev pub decreases-loop-made : goal.decreases-loop-made
-decreases-loop-made l = l.allowed - l.made

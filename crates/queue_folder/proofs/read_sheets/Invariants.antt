@@ -11,6 +11,3 @@ use Rattle.queue_folder.proofs.read_sheets.Given as goal
 
 abbrev pub invariant-loop-k : goal.invariant-loop-k
 invariant-loop-k l = Going l.count l.lengths l.buffer l.at l.k × (length l.buffer ≡ length l.initial.buffer)
-
-abbrev pub decreases-loop-k : goal.decreases-loop-k
-decreases-loop-k l = l.count - l.k

@@ -11,6 +11,3 @@ use Rattle.queue_listing.proofs.lines.Given as goal
 
 abbrev pub invariant-loop-i : goal.invariant-loop-i
 invariant-loop-i l = SheetsAdded (take l.outcome.count l.outcome.records) l.longer l.i × (length (take l.outcome.count l.outcome.records) ≡ l.outcome.count)
-
-abbrev pub decreases-loop-i : goal.decreases-loop-i
-decreases-loop-i l = l.outcome.count - l.i

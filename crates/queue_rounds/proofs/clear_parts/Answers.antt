@@ -26,9 +26,6 @@ slice_bounds-clear-end c = omega (arith, c.requires.1, c.loop-i-test.true, c.loo
 pub clear-requires : goal.clear-requires
 clear-requires c = omega (arith, c.requires.0, mid_length c.loop-i.i c.loop-i.shares (omega (arith, c.requires.1, c.loop-i-test.true, c.loop-i.invariant.1.long)))
 
-pub loop-i-smaller : goal.loop-i-smaller
-loop-i-smaller c = omega arith
-
 pub loop-i-preserved : goal.loop-i-preserved
 loop-i-preserved c = (omega arith, cleared_more c.loop-i.invariant.1 c.requires.0 (omega (arith, c.requires.1, c.loop-i-test.true)) c.clear.ensures)
 

@@ -9,6 +9,3 @@ use Rattle.queue_rounds.proofs.clear_parts.Given as goal
 
 abbrev pub invariant-loop-i : goal.invariant-loop-i
 invariant-loop-i l = (l.i ≤ l.count) × Cleared l.boats l.i l.initial.shares l.shares
-
-abbrev pub decreases-loop-i : goal.decreases-loop-i
-decreases-loop-i l = l.count - l.i

@@ -15,9 +15,6 @@ loop-i-init c = (omega arith, (c.requires, (starts c.requires.kept, rest_same)))
 pub turn-next-requires : goal.turn-next-requires
 turn-next-requires c = record { i_lt_count = c.loop-i-test.true; working = c.loop-i.invariant.1.0 }
 
-pub loop-i-smaller : goal.loop-i-smaller
-loop-i-smaller c = omega arith
-
 pub loop-i-preserved : goal.loop-i-preserved
 loop-i-preserved c =
     let v = c.loop-i.invariant in

@@ -11,6 +11,3 @@ use Rattle.queue_rounds.proofs.one_round.Given as goal
 
 abbrev pub invariant-loop-i : goal.invariant-loop-i
 invariant-loop-i l = (l.i ≤ l.plan.count) × (Working l.book l.plan l.sheets l.next l.shares l.scores × (Partway (own_of l.book l.plan l.sheets) l.initial.next.rounds l.i l.next.rounds × SameRest l.book l.plan.count l.initial.shares l.shares))
-
-abbrev pub decreases-loop-i : goal.decreases-loop-i
-decreases-loop-i l = l.plan.count - l.i

@@ -24,9 +24,6 @@ offset_bounds-states-i c = record { fits = omega (arith, c.requires.few, c.loop-
 pub bounds-states-i : goal.bounds-states-i
 bounds-states-i c = omega (arith, c.requires.few, c.loop-i-test.true)
 
-pub loop-i-smaller : goal.loop-i-smaller
-loop-i-smaller c = omega arith
-
 pub loop-i-preserved : goal.loop-i-preserved
 loop-i-preserved c = (omega arith, started_more c.loop-i.invariant.1 (omega (arith, c.requires.few, c.loop-i-test.true)) c.sheet_at.ensures c.start-state.ensures)
 

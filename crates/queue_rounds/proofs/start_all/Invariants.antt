@@ -9,6 +9,3 @@ use Rattle.queue_rounds.proofs.start_all.Given as goal
 
 abbrev pub invariant-loop-i : goal.invariant-loop-i
 invariant-loop-i l = (l.i ≤ l.plan.count) × StartedTo l.book l.plan l.sheets l.i l.states
-
-abbrev pub decreases-loop-i : goal.decreases-loop-i
-decreases-loop-i l = l.plan.count - l.i

@@ -13,9 +13,6 @@ loop-i-init c = (omega arith, totalled_none _)
 pub overflow_add-n : goal.overflow_add-n
 overflow_add-n c = record { fits = omega (arith, c.loop-i.invariant.1.few, c.loop-i.invariant.0, c.requires, c.wide-n.ensures.upper_bound) }
 
-pub loop-i-smaller : goal.loop-i-smaller
-loop-i-smaller c = omega arith
-
 pub loop-i-preserved : goal.loop-i-preserved
 loop-i-preserved c =
     let long : length c.args.plan.lengths ≡ 16 = search rules in

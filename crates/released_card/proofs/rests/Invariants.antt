@@ -11,6 +11,3 @@ use Rattle.released_card.proofs.rests.Given as goal
 
 abbrev pub invariant-loop-i : goal.invariant-loop-i
 invariant-loop-i l = (l.i ≤ l.boats) × Resting (usable l.released) (take l.boats l.shares) l.i
-
-abbrev pub decreases-loop-i : goal.decreases-loop-i
-decreases-loop-i l = l.boats - l.i

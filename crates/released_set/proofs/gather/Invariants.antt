@@ -8,6 +8,3 @@ use Rattle.released_set.proofs.gather.Given as goal
 
 abbrev pub invariant-loop-i : goal.invariant-loop-i
 invariant-loop-i l = (l.i ≤ l.boats) × Gathering l.shares (usable l.set) l.boats l.next l.i l.own
-
-abbrev pub decreases-loop-i : goal.decreases-loop-i
-decreases-loop-i l = l.boats - l.i

@@ -8,6 +8,3 @@ use Rattle.released_set.proofs.scatter.Given as goal
 
 abbrev pub invariant-loop-i : goal.invariant-loop-i
 invariant-loop-i l = (l.i ≤ l.boats) × Scattering l.own (usable l.set) l.boats l.initial.slots l.next l.i l.slots
-
-abbrev pub decreases-loop-i : goal.decreases-loop-i
-decreases-loop-i l = l.boats - l.i

@@ -8,6 +8,3 @@ use Rattle.scale_conversion.proofs.values_of.Given as goal
 
 abbrev pub invariant-loop-i : goal.invariant-loop-i
 invariant-loop-i l = (l.i ≤ l.columns) × Converting l.columns l.cells l.i l.values
-
-abbrev pub decreases-loop-i : goal.decreases-loop-i
-decreases-loop-i l = l.columns - l.i

@@ -8,6 +8,3 @@ use Rattle.scoring.proofs.least_score.Given as goal
 
 abbrev pub invariant-loop-i : goal.invariant-loop-i
 invariant-loop-i l = Passed (take l.columns l.r) l.book l.at l.boats l.columns l.boat l.score l.p l.i
-
-abbrev pub decreases-loop-i : goal.decreases-loop-i
-decreases-loop-i l = l.boats - l.i

@@ -18,9 +18,6 @@ bounds-shares-boat c = omega (arith, boat_below c.requires.pickable c.requires.l
 pub returns-then-shares-boat-ne0 : goal.returns-then-shares-boat-ne0
 returns-then-shares-boat-ne0 c = picks_holding c.requires.pickable c.requires.least_value c.if-shares-boat-ne0.true
 
-pub overflow_add-i : goal.overflow_add-i
-overflow_add-i c = record { fits = omega (arith, boat_below c.requires.pickable c.requires.least_value) }
-
 pub loop-i-init : goal.loop-i-init
 loop-i-init c = looking_start c.requires.pickable c.requires.least_value c.if-shares-boat-ne0.false
 

@@ -7,6 +7,3 @@ use Rattle.scoring.proofs.picked.Given as goal
 
 abbrev pub invariant-loop-i : goal.invariant-loop-i
 invariant-loop-i l = Looking l.scores l.shares l.boats l.i
-
-abbrev pub decreases-loop-i : goal.decreases-loop-i
-decreases-loop-i l = l.boats - l.i

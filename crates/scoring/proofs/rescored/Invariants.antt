@@ -7,6 +7,3 @@ use Rattle.scoring.proofs.rescored.Given as goal
 
 abbrev pub invariant-loop-i : goal.invariant-loop-i
 invariant-loop-i l = Rescored l.initial.scores l.k l.products l.boats l.boat l.least l.i l.scores
-
-abbrev pub decreases-loop-i : goal.decreases-loop-i
-decreases-loop-i l = l.boats - l.i

@@ -7,6 +7,3 @@ use Rattle.sums.proofs.difference.Given as goal
 
 abbrev pub invariant-loop-i : goal.invariant-loop-i
 invariant-loop-i l = Differing l.book l.at l.sheet l.from l.columns l.initial.to l.i l.to
-
-abbrev pub decreases-loop-i : goal.decreases-loop-i
-decreases-loop-i l = l.columns - l.i

@@ -8,6 +8,3 @@ use Rattle.sums.proofs.inner_at.Given as goal
 
 abbrev pub invariant-loop-i : goal.invariant-loop-i
 invariant-loop-i l = Summed w64 8519680000000 l.r l.bytes l.at l.columns l.i l.sum
-
-abbrev pub decreases-loop-i : goal.decreases-loop-i
-decreases-loop-i l = l.columns - l.i

@@ -7,6 +7,3 @@ use Rattle.sums.proofs.moved.Given as goal
 
 abbrev pub invariant-loop-j : goal.invariant-loop-j
 invariant-loop-j l = Moving l.book l.at l.sheet l.from l.columns l.k l.initial.next l.j l.next
-
-abbrev pub decreases-loop-j : goal.decreases-loop-j
-decreases-loop-j l = l.columns - l.j

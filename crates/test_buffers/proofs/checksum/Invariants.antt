@@ -9,6 +9,3 @@ use Rattle.test_buffers.proofs.checksum.Given as goal
 
 abbrev pub invariant-loop-i : goal.invariant-loop-i
 invariant-loop-i l = (l.sum < 1000003) × (checksum_after l.sum (drop l.i l.bytes) ≡ checksum l.bytes)
-
-abbrev pub decreases-loop-i : goal.decreases-loop-i
-decreases-loop-i l = length l.bytes - l.i

@@ -7,6 +7,3 @@ use Rattle.test_buffers.proofs.put_number.Given as goal
 
 abbrev pub invariant-loop-i : goal.invariant-loop-i
 invariant-loop-i l = Putting l.initial.buffer l.at (number_bytes l.count l.x) l.buffer l.next (number_bytes (l.count - l.i) l.rest)
-
-abbrev pub decreases-loop-i : goal.decreases-loop-i
-decreases-loop-i l = l.count - l.i

@@ -5,6 +5,3 @@ use Rattle.test_card.proofs.main.Given as goal
 
 abbrev pub invariant-loop-number : goal.invariant-loop-number
 invariant-loop-number l = l.number ≤ 2000
-
-abbrev pub decreases-loop-number : goal.decreases-loop-number
-decreases-loop-number l = 2000 - l.number

@@ -5,6 +5,3 @@ use Rattle.test_damage.proofs.main.Given as goal
 
 abbrev pub invariant-loop-number : goal.invariant-loop-number
 invariant-loop-number l = l.number ≤ 3000
-
-abbrev pub decreases-loop-number : goal.decreases-loop-number
-decreases-loop-number l = 3000 - l.number

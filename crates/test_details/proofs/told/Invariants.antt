@@ -4,6 +4,3 @@ use Rattle.test_details.proofs.told.Given as goal
 
 abbrev pub invariant-loop-number : goal.invariant-loop-number
 invariant-loop-number l = l.number ≤ 60
-
-abbrev pub decreases-loop-number : goal.decreases-loop-number
-decreases-loop-number l = 60 - l.number

@@ -5,6 +5,3 @@ use Rattle.test_edition.proofs.main.Given as goal
 
 abbrev pub invariant-loop-number : goal.invariant-loop-number
 invariant-loop-number l = l.number ≤ 1000
-
-abbrev pub decreases-loop-number : goal.decreases-loop-number
-decreases-loop-number l = 1000 - l.number

@@ -5,6 +5,3 @@ use Rattle.test_factor.proofs.larger_cases.Given as goal
 
 abbrev pub invariant-loop-number : goal.invariant-loop-number
 invariant-loop-number l = l.number ≤ 40
-
-abbrev pub decreases-loop-number : goal.decreases-loop-number
-decreases-loop-number l = 40 - l.number

@@ -8,6 +8,3 @@ use Rattle.test_lean.proofs.report.Given as goal
 
 abbrev pub invariant-loop-k : goal.invariant-loop-k
 invariant-loop-k l = (l.k ≤ l.pairs) × (length l.slots ≡ 16384)
-
-abbrev pub decreases-loop-k : goal.decreases-loop-k
-decreases-loop-k l = l.pairs - l.k

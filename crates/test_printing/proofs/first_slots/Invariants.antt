@@ -1,6 +1,3 @@
 -- The loop of `first_slots` goes up to `count`.
 use Rattle.std.proofs.Common.{◌-◌}
 use Rattle.test_printing.proofs.first_slots.Given as goal
-
-abbrev pub decreases-loop-i : goal.decreases-loop-i
-decreases-loop-i l = l.count - l.i

@@ -6,6 +6,3 @@ use Rattle.test_samples.proofs.put_again.Given as goal
 
 abbrev pub invariant-loop-i : goal.invariant-loop-i
 invariant-loop-i l = Putting l.initial.buffer l.at (again l.count l.count l.initial.buffer l.at) l.buffer l.next (again l.count (l.count - l.i) l.buffer l.next)
-
-abbrev pub decreases-loop-i : goal.decreases-loop-i
-decreases-loop-i l = l.count - l.i

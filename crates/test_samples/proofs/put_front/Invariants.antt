@@ -7,6 +7,3 @@ use Rattle.test_samples.proofs.put_front.Given as goal
 
 abbrev pub invariant-loop-i : goal.invariant-loop-i
 invariant-loop-i l = Putting l.initial.buffer l.at (any_bytes l.count l.initial.seed) l.buffer l.next (any_bytes (l.count - l.i) l.seed) × (advances (l.count - l.i) l.seed ≡ advances l.count l.initial.seed)
-
-abbrev pub decreases-loop-i : goal.decreases-loop-i
-decreases-loop-i l = l.count - l.i

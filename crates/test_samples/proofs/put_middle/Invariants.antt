@@ -6,6 +6,3 @@ use Rattle.test_samples.proofs.put_middle.Given as goal
 
 abbrev pub invariant-loop-i : goal.invariant-loop-i
 invariant-loop-i l = Putting l.initial.buffer l.at (middle l.columns 0 l.from l.a l.b) l.buffer l.next (middle (l.columns - l.i) l.i l.from l.a l.b)
-
-abbrev pub decreases-loop-i : goal.decreases-loop-i
-decreases-loop-i l = l.columns - l.i

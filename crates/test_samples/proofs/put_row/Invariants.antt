@@ -8,6 +8,3 @@ use Rattle.test_samples.proofs.put_row.Given as goal
 
 abbrev pub invariant-loop-i : goal.invariant-loop-i
 invariant-loop-i l = Putting l.initial.buffer l.at (row l.columns l.scale l.initial.seed) l.buffer l.next (row (l.columns - l.i) l.scale l.seed) × (advances (l.columns - l.i) l.seed ≡ advances l.columns l.initial.seed)
-
-abbrev pub decreases-loop-i : goal.decreases-loop-i
-decreases-loop-i l = l.columns - l.i

@@ -7,6 +7,3 @@ use Rattle.test_tables.proofs.number.Given as goal
 
 abbrev pub invariant-loop-i : goal.invariant-loop-i
 invariant-loop-i l = (digits_after l.sum (drop l.i l.digits) ≡ digits_after 0 l.digits)
-
-abbrev pub decreases-loop-i : goal.decreases-loop-i
-decreases-loop-i l = length l.digits - l.i

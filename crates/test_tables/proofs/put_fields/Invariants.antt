@@ -7,6 +7,3 @@ use Rattle.test_tables.proofs.put_fields.Given as goal
 
 abbrev pub invariant-loop-i : goal.invariant-loop-i
 invariant-loop-i l = Putting l.initial.buffer l.at (fields l.line l.others l.letters l.sizes) l.buffer l.next (fields l.line l.others (drop l.i l.letters) (drop l.i l.sizes))
-
-abbrev pub decreases-loop-i : goal.decreases-loop-i
-decreases-loop-i l = length l.letters - l.i

@@ -5,6 +5,3 @@ use Rattle.test_card_cases.proofs.flips.flip_byte.Given as goal
 
 abbrev pub invariant-loop-i : goal.invariant-loop-i
 invariant-loop-i l = (l.i ≤ 8) × (l.filed ≡ l.initial.filed)
-
-abbrev pub decreases-loop-i : goal.decreases-loop-i
-decreases-loop-i l = 8 - l.i

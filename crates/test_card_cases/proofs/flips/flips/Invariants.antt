@@ -5,6 +5,3 @@ use Rattle.test_card_cases.proofs.flips.flips.Given as goal
 
 abbrev pub invariant-loop-at : goal.invariant-loop-at
 invariant-loop-at l = (l.filed ≡ l.initial.filed)
-
-abbrev pub decreases-loop-at : goal.decreases-loop-at
-decreases-loop-at l = l.len - l.at

@@ -6,6 +6,3 @@ use Rattle.test_terms.proofs.sets.put_others.Given as goal
 
 abbrev pub invariant-loop-i : goal.invariant-loop-i
 invariant-loop-i l = length l.book ≡ length l.initial.book
-
-abbrev pub decreases-loop-i : goal.decreases-loop-i
-decreases-loop-i l = l.boats - l.i
