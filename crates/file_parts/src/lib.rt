@@ -5,6 +5,9 @@
 
 ghost use Rattle.std.specs.Prelude.{◌≡◌, ◌+◌, ◌*◌, ◌≤◌, ◌<◌, length, drop};
 ghost use Rattle.files.specs.Bytes.{value, values, in_range, all_in_range, between, body_refusal};
+ghost use Rattle.refusals.specs.Numbers.{number, refusal_number};
+
+use refusals::Refusal;
 
 // Whether 16 bits hold a value in range: from -2,000 they count 0 to 4,000.
 fn value_in_range(v: u32) -> bool
@@ -38,23 +41,30 @@ pub fn is_between(least: usize, most: usize, x: usize) -> bool
     x <= most
 }
 
-// The number that refuses a body that is to have `back` bytes and begins with `count` values, before a trailer of `size` bytes, or 0:
-// `place` where the back count is wrong or reaches too far, `range` where a value is out of range.
-pub fn body_refusal(b: &[u8], size: usize, back: usize, count: usize, place: u32, range: u32) -> u32
+// Whether a body that is to have `back` bytes, and begins with `count` values, before a trailer of `size` bytes, is refused:
+// for `place` where the back count is wrong or reaches too far, for `range` where a value is out of range.
+pub fn body_refusal(
+    b: &[u8],
+    size: usize,
+    back: usize,
+    count: usize,
+    place: Refusal,
+    range: Refusal,
+) -> Result<(), Refusal>
     requires { (4 ≤ size) × (size ≤ length b.now) × (2 * count ≤ back) }
-    ensures { result ≡ body_refusal size back count place range b.now }
+    ensures { refusal_number result ≡ body_refusal size back count (number place) (number range) b.now }
 {
     let room = b.len() - size;
     let own = files::u32_at(b, room) as usize;
     if own != back {
-        return place;
+        return Err(place);
     }
     if room < own {
-        return place;
+        return Err(place);
     }
     if values_in_range(b, room - own, count) {
-        0
+        Ok(())
     } else {
-        range
+        Err(range)
     }
 }

@@ -4,8 +4,11 @@
 #![tactic(auto)]
 
 ghost use Rattle.std.specs.Prelude.{◌≡◌, ◌||◌, ◌≤◌, length};
+ghost use Rattle.refusals.specs.Numbers.{refusal_number};
 ghost use Rattle.files.specs.Book.{book_refusal};
 ghost use Rattle.files.specs.Sheet.{WSH1, WSH2, sheet_lettered, sheet_refusal_in, sheet_refusal, files_refusal};
+
+use refusals::Refusal;
 
 // The most bytes a file may have.
 const MOST_BYTES: usize = 40000;
@@ -14,25 +17,32 @@ const MOST_BYTES: usize = 40000;
 const MOST_STEPS: usize = files::MOST_STEPS as usize;
 
 // The number that refuses a fleet book, or 0.
-pub fn book_refusal(book: &[u8]) -> u32
-    ensures { result ≡ book_refusal book.now }
+pub fn book_refusal(book: &[u8]) -> Result<(), Refusal>
+    ensures { refusal_number result ≡ book_refusal book.now }
 {
     if !file_parts::is_between(12, MOST_BYTES, book.len()) {
-        return 1;
+        return Err(Refusal::BookLength);
     }
     if !files::ends_with(book, b"WBK1") {
-        return 2;
+        return Err(Refusal::BookLetters);
     }
     let n = files::boats(book);
     if !file_parts::is_between(1, 256, n) {
-        return 3;
+        return Err(Refusal::BookBoats);
     }
     let c = files::columns(book);
     if !file_parts::is_between(1, 64, c) {
-        return 4;
+        return Err(Refusal::BookColumns);
     }
     let count = n * c;
-    file_parts::body_refusal(book, 12, 2 * count, count, 5, 6)
+    file_parts::body_refusal(
+        book,
+        12,
+        2 * count,
+        count,
+        Refusal::BookBack,
+        Refusal::BookValue,
+    )
 }
 
 // Whether a sheet ends with the letters of either edition.
@@ -47,50 +57,51 @@ fn is_lettered(sheet: &[u8]) -> bool
 }
 
 // The number that refuses a sheet that is to have `least` to `most` columns, or 0.
-pub fn sheet_refusal_in(sheet: &[u8], least: u32, most: u32) -> u32
-    ensures { result ≡ sheet_refusal_in least most sheet.now }
+pub fn sheet_refusal_in(sheet: &[u8], least: u32, most: u32) -> Result<(), Refusal>
+    ensures { refusal_number result ≡ sheet_refusal_in least most sheet.now }
 {
     if !file_parts::is_between(16, MOST_BYTES, sheet.len()) {
-        return 11;
+        return Err(Refusal::SheetLength);
     }
     if !is_lettered(sheet) {
-        return 12;
+        return Err(Refusal::SheetLetters);
     }
     let columns = files::sheet_columns(sheet) as usize;
     if !file_parts::is_between(least as usize, most as usize, columns) {
-        return 13;
+        return Err(Refusal::SheetColumns);
     }
     if !file_parts::is_between(1, MOST_STEPS, files::steps(sheet) as usize) {
-        return 14;
+        return Err(Refusal::SheetSteps);
     }
     if files::tolerance(sheet) > 1024000000 {
-        return 15;
+        return Err(Refusal::SheetTolerance);
     }
     let back = files::sheet_back(sheet);
-    let in_body = file_parts::body_refusal(sheet, 16, back, columns, 16, 17);
-    if in_body != 0 {
-        return in_body;
-    }
+    file_parts::body_refusal(
+        sheet,
+        16,
+        back,
+        columns,
+        Refusal::SheetBack,
+        Refusal::SheetValue,
+    )?;
     if !file_parts::is_between(1, 64, factors::factor_total(sheet)) {
-        return 46;
+        return Err(Refusal::SheetFactors);
     }
-    0
+    Ok(())
 }
 
 // The number that refuses a sheet for a fleet book of so many columns, or 0.
-pub fn sheet_refusal(sheet: &[u8], columns: u32) -> u32
-    ensures { result ≡ sheet_refusal columns sheet.now }
+pub fn sheet_refusal(sheet: &[u8], columns: u32) -> Result<(), Refusal>
+    ensures { refusal_number result ≡ sheet_refusal columns sheet.now }
 {
     sheet_refusal_in(sheet, columns, columns)
 }
 
 // The number that refuses a fleet book or else a sheet for it, or 0.
-pub fn files_refusal(book: &[u8], sheet: &[u8]) -> u32
-    ensures { result ≡ files_refusal book.now sheet.now }
+pub fn files_refusal(book: &[u8], sheet: &[u8]) -> Result<(), Refusal>
+    ensures { refusal_number result ≡ files_refusal book.now sheet.now }
 {
-    let refusal = book_refusal(book);
-    if refusal != 0 {
-        return refusal;
-    }
+    book_refusal(book)?;
     sheet_refusal(sheet, files::columns(book) as u32)
 }

@@ -1,9 +1,10 @@
 -- `validation::sheet_refusal_in` meets its contract: a law of `Refusal` for each return. The passed tests bound what the calls require.
-use mathlib.Core.Path.{ap}
+use mathlib.Core.Path.{ap, refl}
 use mathlib.Core.Bool.{not}
 use borrow.Author.Rules.{rules}
 use Rattle.files.proofs.Accepted.{body_whole}
 use Rattle.files.proofs.Refusal.{at_least, sheet_length_out, sheet_letters_differ, columns_differ, steps_out, tolerance_out, body_refused, factors_out, factors_in}
+use Rattle.refusals.proofs.Numbers.{positive, passed_on}
 use Rattle.validation.proofs.sheet_refusal_in.Goals as goal
 
 pub returns-then-not-is_between : goal.returns-then-not-is_between
@@ -36,17 +37,17 @@ returns-then-tolerance-gt1024000000 c = tolerance_out _ _ _ _ c.is_between.ensur
 pub sheet_back-back-requires : goal.sheet_back-back-requires
 sheet_back-back-requires c = search (rules, at_least)
 
-pub body_refusal-in_body-requires : goal.body_refusal-in_body-requires
-body_refusal-in_body-requires c = (search rules, search (rules, at_least), search rules)
+pub body_refusal-requires : goal.body_refusal-requires
+body_refusal-requires c = (search rules, search (rules, at_least), search rules)
 
-pub returns-then-in_body-ne0 : goal.returns-then-in_body-ne0
-returns-then-in_body-ne0 c = body_refused _ _ _ _ c.is_between.ensures (ap not c.if-not-is_between.false) _ c.is_lettered.ensures (ap not c.if-not-is_lettered.false) _ c.sheet_columns-columns.ensures.value _ c.is_between-2.ensures (ap not c.if-not-is_between-2.false) _ c.steps.ensures _ c.is_between-3.ensures (ap not c.if-not-is_between-3.false) _ c.tolerance.ensures c.if-tolerance-gt1024000000.false _ c.sheet_back-back.ensures _ c.body_refusal-in_body.ensures c.if-in_body-ne0.true
+pub returns-in_err-body_refusal : goal.returns-in_err-body_refusal
+returns-in_err-body_refusal c = passed_on _ _ c.from_residual.ensures (body_refused _ _ _ _ c.is_between.ensures (ap not c.if-not-is_between.false) _ c.is_lettered.ensures (ap not c.if-not-is_lettered.false) _ c.sheet_columns-columns.ensures.value _ c.is_between-2.ensures (ap not c.if-not-is_between-2.false) _ c.steps.ensures _ c.is_between-3.ensures (ap not c.if-not-is_between-3.false) _ c.tolerance.ensures c.if-tolerance-gt1024000000.false _ c.sheet_back-back.ensures _ c.in_err-body_refusal.ensures (positive _))
 
 pub factor_total-requires : goal.factor_total-requires
-factor_total-requires c = body_whole _ _ (search (rules, at_least)) c.sheet_back-back.ensures c.body_refusal-in_body.ensures c.if-in_body-ne0.false
+factor_total-requires c = body_whole _ _ (search (rules, at_least)) c.sheet_back-back.ensures c.in_ok-body_refusal.ensures refl
 
 pub returns-then-not-is_between-4 : goal.returns-then-not-is_between-4
-returns-then-not-is_between-4 c = factors_out _ _ _ _ c.is_between.ensures (ap not c.if-not-is_between.false) _ c.is_lettered.ensures (ap not c.if-not-is_lettered.false) _ c.sheet_columns-columns.ensures.value _ c.is_between-2.ensures (ap not c.if-not-is_between-2.false) _ c.steps.ensures _ c.is_between-3.ensures (ap not c.if-not-is_between-3.false) _ c.tolerance.ensures c.if-tolerance-gt1024000000.false _ c.sheet_back-back.ensures _ c.body_refusal-in_body.ensures c.if-in_body-ne0.false _ c.factor_total.ensures _ c.is_between-4.ensures (ap not c.if-not-is_between-4.true)
+returns-then-not-is_between-4 c = factors_out _ _ _ _ c.is_between.ensures (ap not c.if-not-is_between.false) _ c.is_lettered.ensures (ap not c.if-not-is_lettered.false) _ c.sheet_columns-columns.ensures.value _ c.is_between-2.ensures (ap not c.if-not-is_between-2.false) _ c.steps.ensures _ c.is_between-3.ensures (ap not c.if-not-is_between-3.false) _ c.tolerance.ensures c.if-tolerance-gt1024000000.false _ c.sheet_back-back.ensures _ c.in_ok-body_refusal.ensures refl _ c.factor_total.ensures _ c.is_between-4.ensures (ap not c.if-not-is_between-4.true)
 
 pub returns : goal.returns
-returns c = factors_in _ _ _ _ c.is_between.ensures (ap not c.if-not-is_between.false) _ c.is_lettered.ensures (ap not c.if-not-is_lettered.false) _ c.sheet_columns-columns.ensures.value _ c.is_between-2.ensures (ap not c.if-not-is_between-2.false) _ c.steps.ensures _ c.is_between-3.ensures (ap not c.if-not-is_between-3.false) _ c.tolerance.ensures c.if-tolerance-gt1024000000.false _ c.sheet_back-back.ensures _ c.body_refusal-in_body.ensures c.if-in_body-ne0.false _ c.factor_total.ensures _ c.is_between-4.ensures (ap not c.if-not-is_between-4.false)
+returns c = factors_in _ _ _ _ c.is_between.ensures (ap not c.if-not-is_between.false) _ c.is_lettered.ensures (ap not c.if-not-is_lettered.false) _ c.sheet_columns-columns.ensures.value _ c.is_between-2.ensures (ap not c.if-not-is_between-2.false) _ c.steps.ensures _ c.is_between-3.ensures (ap not c.if-not-is_between-3.false) _ c.tolerance.ensures c.if-tolerance-gt1024000000.false _ c.sheet_back-back.ensures _ c.in_ok-body_refusal.ensures refl _ c.factor_total.ensures _ c.is_between-4.ensures (ap not c.if-not-is_between-4.false)
