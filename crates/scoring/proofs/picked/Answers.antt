@@ -1,6 +1,5 @@
 -- `scoring::picked` meets its contract. The loop keeps `Looking`: no boat before i both holds shares and has the least score, so the boats from i on decide the pick.
 -- A turn looks at one boat: one that holds shares and has the least score is the pick, any other leaves the answer to those behind it.
--- It ends: the boats that are left fall by one.
 use native.Mathlib.Omega.{arith}
 use mir.Syntax.{w64}
 use mir.Facts.{to_z-of_z}
@@ -17,6 +16,9 @@ bounds-shares-boat c = omega (arith, boat_below c.requires.pickable c.requires.l
 
 pub returns-then-shares-boat-ne0 : goal.returns-then-shares-boat-ne0
 returns-then-shares-boat-ne0 c = picks_holding c.requires.pickable c.requires.least_value c.if-shares-boat-ne0.true
+
+pub overflow_step-i : goal.overflow_step-i
+overflow_step-i c = record { fits = omega (arith, boat_below c.requires.pickable c.requires.least_value) }
 
 pub loop-i-init : goal.loop-i-init
 loop-i-init c = looking_start c.requires.pickable c.requires.least_value c.if-shares-boat-ne0.false
