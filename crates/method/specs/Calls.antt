@@ -1,6 +1,6 @@
 -- The terms of a call, from what its caller hands in, and what refuses it ahead of its share list, buffer or card: 49 to 51 of a table of
 -- shares that is lent, then what refuses the files, with 52 of a set of boats between book and sheet. Definitions only. Assumes nothing.
-use Rattle.std.specs.Prelude.{Bool, true, false, not, ◌&&◌, cond, List, [], ◌∷◌, ℕ, zero, suc, ◌+◌, ◌*◌, ltb, leb, length}
+use Rattle.std.specs.Prelude.{Bool, true, false, not, ◌&&◌, cond, List, [], ◌∷◌, ℕ, zero, suc, ◌+◌, ◌*◌, ltb, leb, length, Option, Some, None}
 use Rattle.frank_wolfe.specs.Vectors.{sum}
 use Rattle.files.specs.Bytes.{between}
 use Rattle.files.specs.Limits.{step_limit, total_limit}
@@ -31,18 +31,30 @@ schedule_refusal (lent table) = table_refusal table
 
 -- ---- The terms of a call
 
--- a table counts only where it is said to be lent: an empty one that is lent is a table of no entries
+-- with no table the shares are the fixed ones; an empty table that is lent is a table of no entries
+abbrev pub schedule_in : (table : Option (List ℕ)) → Schedule
+schedule_in (Some table) = lent table
+schedule_in None = fixed
+
+-- from C a table comes beside a flag, and counts only where that says that it is lent
+abbrev pub lent_table : (lent : Bool) → (table : List ℕ) → Option (List ℕ)
+lent_table true table = Some table
+lent_table false table = None
+
 abbrev pub schedule_of : (lent : Bool) → (table : List ℕ) → Schedule
-schedule_of true table = lent table
-schedule_of false table = fixed
+schedule_of l table = schedule_in (lent_table l table)
 
 -- with all boats of the book
 abbrev pub terms : (lent : Bool) → (table : List ℕ) → Terms
 terms l table = record { schedule = schedule_of l table; released = every }
 
 -- with a set as well, which counts only where the call is limited to it
+abbrev pub terms_in : Released → (table : Option (List ℕ)) → Terms
+terms_in r table = record { schedule = schedule_in table; released = usable r }
+
+-- the same from C
 abbrev pub call_terms : Released → (lent : Bool) → (table : List ℕ) → Terms
-call_terms r l table = record { schedule = schedule_of l table; released = usable r }
+call_terms r l table = terms_in r (lent_table l table)
 
 -- the first number, unless it is 0: else the later one
 abbrev pub before : (first later : ℕ) → ℕ

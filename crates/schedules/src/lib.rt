@@ -1,13 +1,16 @@
-// The shares of a run: 1, 2, 3, .., or the entries of a table that is lent. A table is read only where `lent` says so.
+// The shares of a run: 1, 2, 3, .., or the entries of a table that is lent. A table that is lent is passed as `Some`.
 //
 // Helpers for other crates, whose callers prove what they require: refusal, steps, share, total.
 #![tactic(auto)]
 
 ghost use Rattle.files.specs.declared.TheConstants.{MOST_STEPS};
-ghost use Rattle.std.specs.Prelude.{◌≡◌, ◌&&◌, ◌*◌, ◌≤◌, ◌<◌, ltb, leb, length, take};
+ghost use Rattle.std.specs.Prelude.{◌≡◌, ◌&&◌, ◌*◌, ◌≤◌, ◌<◌, ltb, leb, length, take, option_copied};
 ghost use Rattle.frank_wolfe.specs.Vectors.{sum};
 ghost use Rattle.method.specs.Problem.{share, weight, allowed_steps};
-ghost use Rattle.method.specs.Calls.{table_refusal, schedule_refusal, schedule_of};
+ghost use Rattle.method.specs.Calls.{table_refusal, schedule_refusal, schedule_in};
+ghost use Rattle.refusals.specs.Numbers.{refusal_number};
+
+use refusals::Refusal;
 
 // An entry of a table.
 fn wide(entry: u16) -> u32
@@ -27,55 +30,58 @@ fn entry_fits(entry: u32, total: u32) -> bool
     entry * entry <= 2 * total
 }
 
-// The number, 49 to 51, that refuses a table, or 0.
-fn table_refusal(table: &[u16]) -> u32
-    ensures { result ≡ table_refusal table.now }
+// Whether a table is refused, by 49 to 51.
+fn table_refusal(table: &[u16]) -> Result<(), Refusal>
+    ensures { refusal_number result ≡ table_refusal table.now }
 {
     if !file_parts::is_between(1, files::MOST_STEPS as usize, table.len()) {
-        return 49;
+        return Err(Refusal::TableLength);
     }
     let mut total: u32 = 0;
     for i in 0..table.len() {
         let entry = wide(table[i]);
         total += entry;
         if !entry_fits(entry, total) {
-            return 50;
+            return Err(Refusal::TableShare);
         }
     }
     if total > 64980 {
-        return 51;
+        return Err(Refusal::TableTotal);
     }
-    0
+    Ok(())
 }
 
-// The number, 49 to 51, that refuses a table that is lent; 0 where none is.
-pub fn refusal(lent: bool, table: &[u16]) -> u32
-    ensures { result ≡ schedule_refusal (schedule_of lent table.now) }
+// Whether a table that is lent is refused, by 49 to 51.
+pub fn refusal(table: Option<&[u16]>) -> Result<(), Refusal>
+    ensures { refusal_number result ≡ schedule_refusal (schedule_in (option_copied table.entry)) }
 {
-    if lent { table_refusal(table) } else { 0 }
+    match table {
+        Some(entries) => table_refusal(entries),
+        None => Ok(()),
+    }
 }
 
 // How many of so many steps may be taken: no more than a lent table has entries.
-pub fn steps(lent: bool, table: &[u16], asked: u32) -> u32
-    ensures { result ≡ allowed_steps (schedule_of lent table.now) asked }
+pub fn steps(table: Option<&[u16]>, asked: u32) -> u32
+    ensures { result ≡ allowed_steps (schedule_in (option_copied table.entry)) asked }
 {
-    if lent {
-        if table.len() < asked as usize {
-            return table.len() as u32;
+    if let Some(entries) = table {
+        if entries.len() < asked as usize {
+            return entries.len() as u32;
         }
     }
     asked
 }
 
 // The share of step k + 1.
-pub fn share(lent: bool, table: &[u16], k: u32) -> u32
-    requires { k < allowed_steps (schedule_of lent table.now) MOST_STEPS }
-    ensures { result ≡ share (schedule_of lent table.now) k }
+pub fn share(table: Option<&[u16]>, k: u32) -> u32
+    requires { k < allowed_steps (schedule_in (option_copied table)) MOST_STEPS }
+    ensures { result ≡ share (schedule_in (option_copied table.entry)) k }
 {
-    if lent {
-        return wide(table[k as usize]);
+    match table {
+        Some(entries) => wide(entries[k as usize]),
+        None => k + 1,
     }
-    k + 1
 }
 
 // The total of the first entries of a table.
@@ -91,12 +97,12 @@ fn entries_total(table: &[u16], count: usize) -> u32
 }
 
 // W: the total of the first t shares.
-pub fn total(lent: bool, table: &[u16], t: u32) -> u32
-    requires { t ≤ allowed_steps (schedule_of lent table.now) MOST_STEPS }
-    ensures { result ≡ weight (schedule_of lent table.now) t }
+pub fn total(table: Option<&[u16]>, t: u32) -> u32
+    requires { t ≤ allowed_steps (schedule_in (option_copied table)) MOST_STEPS }
+    ensures { result ≡ weight (schedule_in (option_copied table.entry)) t }
 {
-    if lent {
-        return entries_total(table, t as usize);
+    match table {
+        Some(entries) => entries_total(entries, t as usize),
+        None => totals::total_after(t),
     }
-    totals::total_after(t)
 }

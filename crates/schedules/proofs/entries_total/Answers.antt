@@ -2,7 +2,6 @@
 -- A turn adds entry i.
 -- It ends: the entries that are left fall by one.
 use mathlib.Core.Path.{◌≡◌}
-use Prim.Native.Nat.{◌-◌}
 use native.Mathlib.Omega.{arith}
 use Rattle.schedules.proofs.Tables.{totalling_start, totalling_more}
 use borrow.Author.Rules.{rules}

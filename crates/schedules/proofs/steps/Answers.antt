@@ -1,13 +1,12 @@
 -- `schedules::steps` meets its contract.
 use Rattle.schedules.proofs.Lent.{lent_fewer, lent_enough, fixed_steps}
-use borrow.Author.Rules.{rules}
 use Rattle.schedules.proofs.steps.Goals as goal
 
-pub returns-then-table-asked : goal.returns-then-table-asked
-returns-then-table-asked c = lent_fewer _ c.if-lent.true _ c.if-table-asked.true
+pub returns-then-entries-asked : goal.returns-then-entries-asked
+returns-then-entries-asked c = lent_fewer _ c.in-Some.is _ c.if-entries-asked.true
 
-pub returns-else-table-asked : goal.returns-else-table-asked
-returns-else-table-asked c = lent_enough _ c.if-lent.true _ c.if-table-asked.false
+pub returns-else-entries-asked : goal.returns-else-entries-asked
+returns-else-entries-asked c = lent_enough _ c.in-Some.is _ c.if-entries-asked.false
 
-pub returns-else-lent : goal.returns-else-lent
-returns-else-lent c = fixed_steps _ c.if-lent.false _
+pub returns-in_default : goal.returns-in_default
+returns-in_default c = fixed_steps c.in_default.is _

@@ -1,11 +1,9 @@
 -- `schedules::table_refusal` meets its contract. The loop keeps `Testing`: `total` is the sum of the first i entries, and the entries from i on decide as all do.
 -- A turn adds entry i and tests it; one that does not fit ends the function.
 -- It ends: the entries that are left fall by one.
-use Prim.Native.Nat.{◌-◌}
 use native.Mathlib.Omega.{arith}
 use mathlib.Core.Path.{sym, ◌∙◌}
 use Rattle.schedules.proofs.Tables.{testing_start, testing_most, testing_more, entry_refused, length_refused, total_refused, table_taken}
-use borrow.Author.Rules.{rules}
 use Rattle.schedules.proofs.table_refusal.Goals as goal
 
 pub returns-then-not-is_between : goal.returns-then-not-is_between

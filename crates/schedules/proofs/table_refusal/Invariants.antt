@@ -1,11 +1,7 @@
 -- `schedules::table_refusal` meets its contract. The loop keeps `Testing`: `total` is the sum of the first i entries, and the entries from i on decide as all do.
 -- A turn adds entry i and tests it; one that does not fit ends the function.
 -- It ends: the entries that are left fall by one.
-use Prim.Native.Nat.{◌-◌}
-use native.Mathlib.Omega.{arith}
-use lib.ListN.{length}
 use Rattle.schedules.proofs.Tables.{Testing}
-use borrow.Author.Rules.{rules}
 use Rattle.schedules.proofs.table_refusal.Given as goal
 
 abbrev pub invariant-loop-i : goal.invariant-loop-i
