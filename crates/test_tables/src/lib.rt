@@ -14,32 +14,12 @@ pub fn find(text: &[u8], at: usize, mark: u8) -> usize
     ensures value { result ≡ at + before mark (drop at text.now) }
     ensures lower_bound { (at ≤ result) × (result ≤ length text.now) }
 {
-    let mut i = at;
-    while i < text.len() {
+    for i in at..text.len() {
         if text[i] == mark {
             return i;
         }
-        i += 1;
     }
-    i
-}
-
-// Where the line after the one at `at` starts.
-pub fn next_line(text: &[u8], at: usize) -> usize
-    requires { at < length text.now }
-    ensures value { result ≡ min (length text.now) (at + before 10 (drop at text.now) + 1) }
-    ensures lower_bound { (at < result) × (result ≤ length text.now) }
-{
-    let end = find(text, at, b'\n');
-    if end < text.len() { end + 1 } else { end }
-}
-
-// The line that starts at `at`.
-pub fn line(text: &[u8], at: usize) -> &[u8]
-    requires { at ≤ length text.now }
-    ensures { result.now ≡ until 10 (drop at text.now) }
-{
-    between(text, at, find(text, at, b'\n'))
+    text.len()
 }
 
 // The name of a case: what stands before the first colon.
@@ -65,8 +45,8 @@ fn number(digits: &[u8]) -> u64
     ensures { result ≡ digits_after 0 digits.now }
 {
     let mut sum = 0;
-    for i in 0..digits.len() {
-        sum = sum % 1000000000000 * 10 + test_buffers::wide(digits[i]) % 16;
+    for digit in digits {
+        sum = sum % 1000000000000 * 10 + test_buffers::wide(*digit) % 16;
     }
     sum
 }
@@ -95,8 +75,8 @@ pub fn put_fields(
     ensures { Puts buffer.old at (fields line.now others.now letters.now sizes.now) buffer.new result }
 {
     let mut next = at;
-    for i in 0..letters.len() {
-        let x = field(line, letters[i], field(others, letters[i], 0));
+    for (i, letter) in letters.iter().enumerate() {
+        let x = field(line, *letter, field(others, *letter, 0));
         let size = test_buffers::wide(test_buffers::byte_at(sizes, i)) % 16;
         next = test_buffers::put_number(buffer, next, x, size);
     }

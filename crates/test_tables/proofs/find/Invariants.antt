@@ -1,12 +1,9 @@
 -- `test_tables::find` meets its contract.
 use mathlib.Core.Path.{◌≡◌}
-use Prim.Native.Nat.{◌+◌, ◌≤◌, ◌-◌}
-use lib.ListN.{length, drop}
+use Prim.Native.Nat.{◌+◌}
+use lib.ListN.{drop}
 use Rattle.test_tables.specs.Tables.{before}
 use Rattle.test_tables.proofs.find.Given as goal
 
 abbrev pub invariant-loop-i : goal.invariant-loop-i
-invariant-loop-i l = (l.at ≤ l.i) × (l.i ≤ length l.text) × (l.at + before l.mark (drop l.at l.text) ≡ l.i + before l.mark (drop l.i l.text))
-
-abbrev pub decreases-loop-i : goal.decreases-loop-i
-decreases-loop-i l = length l.text - l.i
+invariant-loop-i l = (l.at + before l.mark (drop l.at l.text) ≡ l.i + before l.mark (drop l.i l.text))

@@ -1,6 +1,5 @@
 -- `test_tables::put_fields` meets its contract.
-use Prim.Native.Nat.{◌-◌}
-use lib.ListN.{length, drop}
+use lib.ListN.{drop}
 use Rattle.test_buffers.proofs.Putting.{Putting}
 use Rattle.test_tables.specs.Tables.{fields}
 use Rattle.test_tables.proofs.put_fields.Given as goal
