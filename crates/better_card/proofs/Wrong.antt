@@ -7,8 +7,8 @@ use native.Mathlib.Omega.{arith}
 use borrow.Author.Tests.{eq-eqb, ne_eqb}
 use lib.Dec.{eqb, eqb-suc-zero}
 use Rattle.method.specs.declared.Answer.{Answer}
-use Rattle.method.specs.declared.Searched.{Searched}
-use Rattle.method.specs.declared.Searched.TheVariants.{Refused, Answered}
+use Rattle.method.specs.Searched.{Searched}
+use Rattle.method.specs.Searched.{Refused, Answered}
 use Rattle.method.specs.Answers.{outcome}
 use Rattle.method.proofs.Promise.{outcome_refused, outcome_answered}
 use Rattle.card_format.specs.Format.{card_answer}

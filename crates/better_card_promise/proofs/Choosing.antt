@@ -18,8 +18,8 @@ use Rattle.files.specs.Front.{SameBook, SameSheet, FilesAlike, FilesFrontUnread}
 use Rattle.files.proofs.Front.{files_front_unread}
 use Rattle.method.proofs.Promise.{same_files}
 use Rattle.method.specs.declared.Answer.{Answer}
-use Rattle.method.specs.declared.Searched.{Searched}
-use Rattle.method.specs.declared.Searched.TheVariants.{Refused, Answered}
+use Rattle.method.specs.Searched.{Searched}
+use Rattle.method.specs.Searched.{Refused, Answered}
 use Rattle.method.specs.Answers.{outcome, search_refusal}
 use Rattle.method.specs.Fractions.{◌≤ℚ◌, ◌<ℚ◌}
 use Rattle.method.proofs.Promise.{outcome_refused, outcome_answered}

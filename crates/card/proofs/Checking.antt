@@ -1,4 +1,5 @@
 -- The outcomes of `check_card_with`: refused by the terms or the files, a short share list, the card's form or its numbers, or answered.
+use Rattle.std.specs.Prelude.{Option}
 use mathlib.Core.Path.{◌≡◌, refl, sym, ap, ◌∙◌}
 use mathlib.Core.Bool.{Bool, true, false, not, ◌&&◌, cond}
 use mathlib.Core.List.{List, ◌∷◌, ◌++◌}
@@ -13,12 +14,12 @@ use Rattle.files.specs.Book.{boats, columns}
 use Rattle.files.specs.Sheet.{files_refusal}
 use Rattle.files.proofs.Refusal.{and_true}
 use Rattle.method.specs.declared.Answer.{Answer}
-use Rattle.method.specs.declared.Searched.{Searched}
-use Rattle.method.specs.declared.Searched.TheVariants.{Refused, Answered}
+use Rattle.method.specs.Searched.{Searched}
+use Rattle.method.specs.Searched.{Refused, Answered}
 use Rattle.method.specs.declared.Released.{Released}
 use Rattle.method.specs.ReleasedBoats.{Usable, usable, gather}
 use Rattle.method.specs.Problem.{Terms, plain_terms, call_steps, call_problem}
-use Rattle.method.specs.Calls.{call_terms, call_refusal}
+use Rattle.method.specs.Calls.{terms_in, call_refusal}
 use Rattle.method.proofs.Accepted.{files_ok}
 use Rattle.method.specs.Answers.{outcome, search_refusal_with, slots_after}
 use Rattle.method.specs.Bounds.{answer_of}
@@ -88,9 +89,9 @@ layout_boats b s ok e = rw e (book_fits b s ok).most_boats
 
 -- ---- Outcomes
 
-module _ (set : Released) (l : Bool) (table b s w slots : List ℕ) where
+module _ (set : Released) (table : Option (List ℕ)) (b s w slots : List ℕ) where
   abbrev m : Terms
-  m = call_terms set l table
+  m = terms_in set table
 
   abbrev u : Usable
   u = usable set

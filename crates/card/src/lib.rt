@@ -4,11 +4,11 @@
 // Helpers for other crates, whose callers prove what they require: judge_card_with, judge_card.
 #![tactic(auto)]
 
-ghost use Rattle.std.specs.Prelude.{◌≡◌, false, ◌++◌, ◌≤◌, length, take, drop};
+ghost use Rattle.std.specs.Prelude.{◌≡◌, false, ◌++◌, ◌≤◌, length, take, drop, option_copied};
 ghost use Rattle.files.specs.Book.{boats};
 ghost use Rattle.files.specs.Sheet.{files_refusal};
 ghost use Rattle.method.specs.Problem.{plain_terms};
-ghost use Rattle.method.specs.Calls.{call_terms, call_refusal};
+ghost use Rattle.method.specs.Calls.{terms_in, call_refusal};
 ghost use Rattle.method.specs.Answers.{outcome, slots_after};
 ghost use Rattle.card_format.specs.Format.{card_shares, card_answer_with, card_answer};
 ghost use Rattle.card_format.specs.Checks.{check_refusal_with, check_refusal};
@@ -31,21 +31,20 @@ pub fn judge_card_with(
     book: &[u8],
     sheet: &[u8],
     released: Released,
-    lent: bool,
-    table: &[u16],
+    table: Option<&[u16]>,
     card: &[u8],
     shares: &mut [u16],
 ) -> Searched
-    requires { call_refusal (call_terms released lent table.now) book.now sheet.now ≡ 0 }
-    ensures value { result ≡ outcome (check_refusal_with (call_terms released lent table.now) book.now sheet.now card.now (length shares.old)) (card_answer_with (call_terms released lent table.now) book.now sheet.now card.now) }
-    ensures shares_after { shares.new ≡ slots_after (check_refusal_with (call_terms released lent table.now) book.now sheet.now card.now (length shares.old)) (card_shares (boats book.now) card.now) shares.old }
+    requires { call_refusal (terms_in released (option_copied table)) book.now sheet.now ≡ 0 }
+    ensures value { result ≡ outcome (check_refusal_with (terms_in released (option_copied table.entry)) book.now sheet.now card.now (length shares.old)) (card_answer_with (terms_in released (option_copied table.entry)) book.now sheet.now card.now) }
+    ensures shares_after { shares.new ≡ slots_after (check_refusal_with (terms_in released (option_copied table.entry)) book.now sheet.now card.now (length shares.old)) (card_shares (boats book.now) card.now) shares.old }
 {
     let layout = iteration::layout_of(book, sheet);
     let boats = layout.boats;
     if shares.len() < boats {
         return Searched::Refused(21);
     }
-    let steps = schedules::steps(lent, table, files::steps(sheet));
+    let steps = schedules::steps(table, files::steps(sheet));
     let form = card_input::form_refusal(card, boats, layout.columns, steps);
     if form != 0 {
         return Searched::Refused(form);
@@ -55,7 +54,7 @@ pub fn judge_card_with(
     if !released_card::rests(found, released, boats) {
         return Searched::Refused(36);
     }
-    match released_card::judged(book, sheet, released, lent, table, card, found) {
+    match released_card::judged(book, sheet, released, table, card, found) {
         Searched::Refused(n) => Searched::Refused(n),
         Searched::Answered(answer) => {
             fill(found, boats, shares);
@@ -74,7 +73,7 @@ pub fn judge_card(book: &[u8], sheet: &[u8], card: &[u8], shares: &mut [u16]) ->
         limited: false,
         boats: [0u8; 32],
     };
-    judge_card_with(book, sheet, every_boat, false, &[0u16; 0], card, shares)
+    judge_card_with(book, sheet, every_boat, None, card, shares)
 }
 
 // ENTRY. The card check with what a caller may hand in beside the files: a set of released boats, which is read only where it says that
@@ -86,21 +85,20 @@ pub fn check_card_with(
     book: &[u8],
     sheet: &[u8],
     released: Released,
-    lent: bool,
-    table: &[u16],
+    table: Option<&[u16]>,
     card: &[u8],
     shares: &mut [u16],
 ) -> Searched
-    ensures value { result ≡ outcome (check_refusal_with (call_terms released lent table.now) book.now sheet.now card.now (length shares.old)) (card_answer_with (call_terms released lent table.now) book.now sheet.now card.now) }
-    ensures shares_after { shares.new ≡ slots_after (check_refusal_with (call_terms released lent table.now) book.now sheet.now card.now (length shares.old)) (card_shares (boats book.now) card.now) shares.old }
-    ensures check_right_with { CheckRightWith (call_terms released lent table.now) book.now sheet.now card.now result shares.new }
-    ensures table_value { released.limited ≡ false → lent ≡ false → call_terms released lent table.now ≡ plain_terms }
+    ensures value { result ≡ outcome (check_refusal_with (terms_in released (option_copied table.entry)) book.now sheet.now card.now (length shares.old)) (card_answer_with (terms_in released (option_copied table.entry)) book.now sheet.now card.now) }
+    ensures shares_after { shares.new ≡ slots_after (check_refusal_with (terms_in released (option_copied table.entry)) book.now sheet.now card.now (length shares.old)) (card_shares (boats book.now) card.now) shares.old }
+    ensures check_right_with { CheckRightWith (terms_in released (option_copied table.entry)) book.now sheet.now card.now result shares.new }
+    ensures table_value { released.limited ≡ false → lent ≡ false → terms_in released (option_copied table.entry) ≡ plain_terms }
 {
-    let refusal = calls::call_refusal(book, sheet, released, lent, table);
+    let refusal = calls::call_refusal(book, sheet, released, table);
     if refusal != 0 {
         return Searched::Refused(refusal);
     }
-    judge_card_with(book, sheet, released, lent, table, card, shares)
+    judge_card_with(book, sheet, released, table, card, shares)
 }
 
 // ENTRY. The card check: refuses files, a share list or a card that does not serve (1 to 17, 46, 21, then 31 to 39) and leaves the
@@ -115,5 +113,5 @@ pub fn check_card(book: &[u8], sheet: &[u8], card: &[u8], shares: &mut [u16]) ->
         limited: false,
         boats: [0u8; 32],
     };
-    check_card_with(book, sheet, every_boat, false, &[0u16; 0], card, shares)
+    check_card_with(book, sheet, every_boat, None, card, shares)
 }

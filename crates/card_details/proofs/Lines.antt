@@ -21,8 +21,8 @@ use Rattle.text.specs.declared.Text.{Text}
 use Rattle.text.proofs.Texts.{adds_both, adds_to_empty, holds_more}
 use Rattle.method.specs.declared.Answer.{Answer}
 use Rattle.method.specs.Problem.{fixed, weight, plain_terms, call_problem}
-use Rattle.method.specs.declared.Searched.{Searched}
-use Rattle.method.specs.declared.Searched.TheVariants.{Refused, Answered}
+use Rattle.method.specs.Searched.{Searched}
+use Rattle.method.specs.Searched.{Refused, Answered}
 use Rattle.method.specs.Answers.{verdict_number, outcome}
 use Rattle.method.proofs.Promise.{outcome_refused, outcome_answered}
 use Rattle.method.specs.Bounds.{answer_of}

@@ -4,8 +4,8 @@ use Rattle.files.specs.Book.{boats, book_refusal}
 use Rattle.files.specs.Editions.{Editions}
 use Rattle.files.specs.Front.{SameBook, SameSheet}
 use Rattle.method.specs.declared.Answer.{Answer}
-use Rattle.method.specs.declared.Searched.{Searched}
-use Rattle.method.specs.declared.Searched.TheVariants.{Refused, Answered}
+use Rattle.method.specs.Searched.{Searched}
+use Rattle.method.specs.Searched.{Refused, Answered}
 use Rattle.method.specs.Problem.{Terms, plain_terms}
 use Rattle.method.specs.Answers.{refusal_number, outcome, search_refusal_with, slots_after}
 use Rattle.method.specs.BookNumbers.{SameReleased, AllBoats}

@@ -9,7 +9,7 @@ use Rattle.method.specs.Problem.{plain_terms}
 use Rattle.files.specs.Bytes.{all_bytes, number}
 use Rattle.files.specs.Book.{boats}
 use Rattle.files.specs.Sheet.{files_refusal}
-use Rattle.method.specs.declared.Searched.{Searched}
+use Rattle.method.specs.Searched.{Searched}
 use Rattle.method.specs.Answers.{refusal_number, outcome, search_refusal, slots_after}
 use Rattle.card_format.specs.Format.{shares_into, card_shares, card_answer}
 use Rattle.card_format.specs.Checks.{card_refusal, check_refusal, check_refusal_with}

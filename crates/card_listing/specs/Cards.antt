@@ -2,7 +2,7 @@
 use Rattle.std.specs.Prelude.{cond, List, [], ℕ, eqb, length}
 use Rattle.files.specs.Book.{boats}
 use Rattle.files.specs.Sheet.{files_refusal}
-use Rattle.method.specs.declared.Searched.{Searched}
+use Rattle.method.specs.Searched.{Searched}
 use Rattle.method.specs.Problem.{problem}
 use Rattle.method.specs.Answers.{outcome, run_answer}
 use Rattle.card_format.specs.Format.{card_shares, card_answer, run_card}

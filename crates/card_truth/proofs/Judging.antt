@@ -18,7 +18,7 @@ use Rattle.files.specs.Limits.{file_limit, step_limit}
 use Rattle.method.specs.declared.Test.{Test}
 use Rattle.method.specs.declared.Test.TheVariants.{Former, Sharper}
 use Rattle.method.specs.declared.Answer.{Answer}
-use Rattle.method.specs.declared.Searched.TheVariants.{Refused, Answered}
+use Rattle.method.specs.Searched.{Refused, Answered}
 use Rattle.method.specs.Problem.{Terms, allowed_steps, call_steps, call_problem, weight}
 use Rattle.method.proofs.Schedules.{ScheduleSized}
 use Rattle.method.specs.Answers.{outcome}

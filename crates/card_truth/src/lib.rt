@@ -3,12 +3,12 @@
 // Helper for other crates, whose callers prove what it requires: judged.
 #![tactic(auto)]
 
-ghost use Rattle.std.specs.Prelude.{◌≡◌, ◌≤◌, length, take};
+ghost use Rattle.std.specs.Prelude.{◌≡◌, ◌≤◌, length, take, option_copied};
 ghost use Rattle.files.specs.Book.{boats};
 ghost use Rattle.files.specs.Sheet.{files_refusal};
 ghost use Rattle.files.specs.Sheet as Sheets;
 ghost use Rattle.method.specs.Problem.{allowed_steps, call_problem};
-ghost use Rattle.method.specs.Calls.{schedule_of, schedule_refusal, terms};
+ghost use Rattle.method.specs.Calls.{schedule_in, schedule_refusal, terms};
 ghost use Rattle.method.specs.Answers.{outcome};
 ghost use Rattle.method.specs.Bounds.{answer_of};
 ghost use Rattle.iteration.specs.States.{file_layout};
@@ -20,16 +20,16 @@ use iteration::{Layout, State};
 use method::{Answer, Searched};
 
 // Whether a card's boats that hold shares are no more than its steps used, and the shares total what so many steps give.
-fn shares_total(lent: bool, table: &[u16], card: &[u8], shares: [u16; 256], boats: usize) -> bool
+fn shares_total(table: Option<&[u16]>, card: &[u8], shares: [u16; 256], boats: usize) -> bool
     requires in_bounds { (36 ≤ length card.now) × (boats ≤ 256) }
-    requires card_bound { (card_fields card.now).steps ≤ allowed_steps (schedule_of lent table.now) State.MOST_STEPS }
-    ensures { result ≡ shares_total (schedule_of lent table.now) (pair_count card.now) (take boats shares) (card_fields card.now).steps }
+    requires card_bound { (card_fields card.now).steps ≤ allowed_steps (schedule_in (option_copied table)) State.MOST_STEPS }
+    ensures { result ≡ shares_total (schedule_in (option_copied table.entry)) (pair_count card.now) (take boats shares) (card_fields card.now).steps }
 {
     let t = card_input::steps_used(card);
     if (t as usize) < card_input::pair_count(card) {
         return false;
     }
-    card_pairs::total(shares, boats) == schedules::total(lent, table, t)
+    card_pairs::total(shares, boats) == schedules::total(table, t)
 }
 
 // Whether a card's E, G and verdict are an answer's, and the verdict ends a run of so many steps.
@@ -55,31 +55,29 @@ fn numbers_agree(card: &[u8], steps: u32, a: Answer) -> bool
 pub fn judged(
     book: &[u8],
     sheet: &[u8],
-    lent: bool,
-    table: &[u16],
+    table: Option<&[u16]>,
     layout: Layout,
     card: &[u8],
     shares: [u16; 256],
 ) -> Searched
     requires sheet_value { files_refusal book.now sheet.now ≡ 0 }
-    requires table_value { schedule_refusal (schedule_of lent table.now) ≡ 0 }
+    requires table_value { schedule_refusal (schedule_in (option_copied table)) ≡ 0 }
     requires layout_value { layout ≡ file_layout book.now sheet.now }
-    requires card_readable { CardReadable (allowed_steps (schedule_of lent table.now) (Sheets.sheet sheet.now).steps) card.now }
-    ensures { result ≡ outcome (truth_refusal (call_problem (terms lent table.now) book.now sheet.now) (take (boats book.now) shares) card.now) (answer_of (card_test card.now) (call_problem (terms lent table.now) book.now sheet.now) (take (boats book.now) shares) (card_fields card.now).steps) }
+    requires card_readable { CardReadable (allowed_steps (schedule_in (option_copied table)) (Sheets.sheet sheet.now).steps) card.now }
+    ensures { result ≡ outcome (truth_refusal (call_problem (terms (option_copied table.entry)) book.now sheet.now) (take (boats book.now) shares) card.now) (answer_of (card_test card.now) (call_problem (terms (option_copied table.entry)) book.now sheet.now) (take (boats book.now) shares) (card_fields card.now).steps) }
 {
-    if !shares_total(lent, table, card, shares, layout.boats) {
+    if !shares_total(table, card, shares, layout.boats) {
         return Searched::Refused(37);
     }
     let answer = factored_run::answer_of(
         card_input::test_of(card),
         book,
         sheet,
-        lent,
         table,
         shares,
         card_input::steps_used(card),
     );
-    let steps = schedules::steps(lent, table, files::steps(sheet));
+    let steps = schedules::steps(table, files::steps(sheet));
     if !numbers_agree(card, steps, answer) {
         return Searched::Refused(38);
     }

@@ -2,7 +2,7 @@
 -- all of them. Definitions only.
 use Rattle.std.specs.Prelude.{◌≡◌, List, ℕ, length}
 use Rattle.files.specs.Book.{boats}
-use Rattle.method.specs.declared.Searched.{Searched}
+use Rattle.method.specs.Searched.{Searched}
 use Rattle.method.specs.Problem.{problem}
 use Rattle.method.specs.Answers.{outcome, search_refusal, slots_after, run_answer, run_iterate}
 use Rattle.card_format.specs.Format.{card_shares, card_answer, run_card}

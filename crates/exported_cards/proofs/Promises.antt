@@ -2,7 +2,7 @@
 use mathlib.Core.Path.{◌≡◌, subst}
 use mathlib.Core.List.{List}
 use Prim.Native.Nat.{ℕ}
-use Rattle.method.specs.declared.Searched.{Searched}
+use Rattle.method.specs.Searched.{Searched}
 use Rattle.method.specs.Problem.{Terms}
 use Rattle.card_format.specs.declared.Written.{Written}
 use Rattle.card_format.specs.Checking.{CheckRightWith}

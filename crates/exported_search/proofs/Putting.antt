@@ -8,8 +8,8 @@ use lib.Dec.{ltb}
 use lib.ListN.{length, take, length-take}
 use native.Mathlib.Nat.{zero-add, min-le_right}
 use native.Mathlib.Omega.{arith}
-use Rattle.method.specs.declared.Searched.{Searched}
-use Rattle.method.specs.declared.Searched.TheVariants.{Refused, Answered}
+use Rattle.method.specs.Searched.{Searched}
+use Rattle.method.specs.Searched.{Refused, Answered}
 use Rattle.text.specs.declared.Text.{Text}
 use Rattle.text.specs.Lines.{number_line, pair_line}
 use Rattle.text.specs.Texts.{text_limit, Holds}

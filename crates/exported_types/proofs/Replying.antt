@@ -3,8 +3,8 @@ use mathlib.Core.Path.{◌≡◌}
 use Prim.Native.Nat.{ℕ}
 use lib.IntN.{ℤ}
 use Rattle.method.specs.declared.Answer.{Answer}
-use Rattle.method.specs.declared.Searched.{Searched}
-use Rattle.method.specs.declared.Searched.TheVariants.{Refused, Answered}
+use Rattle.method.specs.Searched.{Searched}
+use Rattle.method.specs.Searched.{Refused, Answered}
 use Rattle.method.specs.Answers.{verdict_number}
 use Rattle.card_format.specs.declared.Written.{Written}
 use Rattle.card_format.specs.declared.Written.TheVariants as written

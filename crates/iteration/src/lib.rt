@@ -3,13 +3,13 @@
 // All functions are helpers for other crates, whose callers prove what they require.
 #![tactic(auto)]
 
-ghost use Rattle.std.specs.Prelude.{◌≡◌, ◌++◌, ◌-◌, ◌≤◌, ◌<◌, length, take, drop, replicate, pos};
+ghost use Rattle.std.specs.Prelude.{◌≡◌, ◌++◌, ◌-◌, ◌≤◌, ◌<◌, length, take, drop, replicate, pos, option_copied};
 ghost use Rattle.files.specs.Book.{boats, columns};
 ghost use Rattle.files.specs.Sheet.{files_refusal};
 ghost use Rattle.files.specs.Bytes.{values};
 ghost use Rattle.method.specs.declared.Test.TheVariants.{Sharper};
 ghost use Rattle.method.specs.Problem.{Schedule};
-ghost use Rattle.method.specs.Calls.{schedule_of, schedule_refusal};
+ghost use Rattle.method.specs.Calls.{schedule_in, schedule_refusal};
 ghost use Rattle.method.specs.Plain.{plain_problem};
 ghost use Rattle.method.specs.Answers.{answer_at};
 ghost use Rattle.scoring.specs.Scores.{least_of};
@@ -189,22 +189,21 @@ pub fn first_answer(
     boat: usize,
     book: &[u8],
     sheet: &[u8],
-    lent: bool,
-    table: &[u16],
+    table: Option<&[u16]>,
     layout: Layout,
 ) -> Answer
     requires sheet_value { files_refusal book.now sheet.now ≡ 0 }
-    requires table_value { schedule_refusal (schedule_of lent table.now) ≡ 0 }
+    requires table_value { schedule_refusal (schedule_in (option_copied table)) ≡ 0 }
     requires layout_value { layout ≡ file_layout book.now sheet.now }
-    requires boat_value { boat ≡ pick_at (schedule_of lent table.now) book.now sheet.now 0 }
-    ensures { result ≡ answer_at Sharper (plain_problem (schedule_of lent table.now) book.now sheet.now) 1 (iterate_of (schedule_of lent table.now) book.now sheet.now 1) }
+    requires boat_value { boat ≡ pick_at (schedule_in (option_copied table)) book.now sheet.now 0 }
+    ensures { result ≡ answer_at Sharper (plain_problem (schedule_in (option_copied table.entry)) book.now sheet.now) 1 (iterate_of (schedule_in (option_copied table.entry)) book.now sheet.now 1) }
 {
     let boats = layout.boats;
     let mut products = [0i32; 256];
     let target = products_of(boat, book, sheet, layout, &mut products);
     let own = products[boat];
     let pick = scoring::least_product(&products, boats);
-    let k = schedules::share(lent, table, 0);
+    let k = schedules::share(table, 0);
     let z = k as i64;
     let e = distance_after(0, k, 0, 0, own, target);
     let target_score = z * target as i64;

@@ -9,8 +9,8 @@ use lib.Seq.{take_all, drop-length, drop-drop, length-take-le}
 use Rattle.files.specs.Book.{boats}
 use Rattle.files.proofs.Accepted.{files_accepted}
 use Rattle.method.specs.declared.Answer.{Answer}
-use Rattle.method.specs.declared.Searched.{Searched}
-use Rattle.method.specs.declared.Searched.TheVariants.{Refused, Answered}
+use Rattle.method.specs.Searched.{Searched}
+use Rattle.method.specs.Searched.{Refused, Answered}
 use Rattle.method.specs.Problem.{plain_terms}
 use Rattle.method.specs.Answers.{outcome, search_refusal, slots_after}
 use Rattle.method.proofs.Promise.{search_accepted, outcome_refused, outcome_answered}

@@ -12,8 +12,8 @@ use Rattle.files.specs.Book.{boats, columns}
 use Rattle.files.specs.Sheet.{sheet, files_refusal}
 use Rattle.files.proofs.Accepted.{files_accepted}
 use Rattle.method.specs.declared.Answer.{Answer}
-use Rattle.method.specs.declared.Searched.{Searched}
-use Rattle.method.specs.declared.Searched.TheVariants.{Refused, Answered}
+use Rattle.method.specs.Searched.{Searched}
+use Rattle.method.specs.Searched.{Refused, Answered}
 use Rattle.method.specs.Answers.{refusal_number, outcome, search_refusal, slots_after, search_refusal_with}
 use Rattle.listing.specs.Lines.{refused_line, boat_lines, head_lines, listing_of, outcome_listing, Listable}
 use Rattle.text.specs.Texts.{Holds, Adds}

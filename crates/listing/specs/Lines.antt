@@ -5,8 +5,8 @@ use Rattle.files.specs.Sheet.{sheet, files_refusal}
 use Rattle.method.specs.declared.Verdict.{Verdict}
 use Rattle.method.specs.declared.Verdict.TheVariants.{Within, Beyond, Spent}
 use Rattle.method.specs.declared.Answer.{Answer}
-use Rattle.method.specs.declared.Searched.{Searched}
-use Rattle.method.specs.declared.Searched.TheVariants.{Refused, Answered}
+use Rattle.method.specs.Searched.{Searched}
+use Rattle.method.specs.Searched.{Refused, Answered}
 use Rattle.text.specs.Lines.{number_line, pair_line}
 
 -- ---- The words, each with the space after it

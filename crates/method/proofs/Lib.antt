@@ -21,3 +21,4 @@ pub mod SmallGap
 pub mod BookNumbers
 pub mod Promise
 pub mod ReleasedExamples
+pub mod Searched

@@ -19,8 +19,8 @@ use Rattle.method.specs.ReleasedBoats.{Usable, every, only, used_from, gather}
 use Rattle.method.specs.Problem.{Problem, Terms, fleet_problem, call_problem}
 use Rattle.method.specs.Calls.{released_refusal, call_refusal}
 use Rattle.method.specs.declared.Answer.{Answer}
-use Rattle.method.specs.declared.Searched.{Searched}
-use Rattle.method.specs.declared.Searched.TheVariants.{Refused, Answered}
+use Rattle.method.specs.Searched.{Searched}
+use Rattle.method.specs.Searched.{Refused, Answered}
 use Rattle.method.specs.Answers.{refusal_number, outcome, steps_used, run_iterate, run_answer, search_refusal_with, run_slots, slots_after}
 use Rattle.method.specs.BookNumbers.{ReleasedRun}
 use Rattle.method.specs.Promise.{RunRight, Counts, without_table, SameSearch, OutcomeRightWith}

@@ -6,8 +6,8 @@ use Rattle.method.specs.declared.Verdict.TheVariants.{Within, Beyond, Spent}
 use Rattle.method.specs.declared.Test.{Test}
 use Rattle.method.specs.declared.Test.TheVariants.{Former, Sharper}
 use Rattle.method.specs.declared.Answer.{Answer}
-use Rattle.method.specs.declared.Searched.{Searched}
-use Rattle.method.specs.declared.Searched.TheVariants.{Refused, Answered}
+use Rattle.method.specs.Searched.{Searched}
+use Rattle.method.specs.Searched.{Refused, Answered}
 use Rattle.method.specs.ReleasedBoats.{scatter}
 use Rattle.method.specs.Problem.{Problem, Terms, plain_terms, weight, call_problem}
 use Rattle.method.specs.Calls.{call_refusal}

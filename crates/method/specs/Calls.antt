@@ -45,8 +45,8 @@ abbrev pub schedule_of : (lent : Bool) → (table : List ℕ) → Schedule
 schedule_of l table = schedule_in (lent_table l table)
 
 -- with all boats of the book
-abbrev pub terms : (lent : Bool) → (table : List ℕ) → Terms
-terms l table = record { schedule = schedule_of l table; released = every }
+abbrev pub terms : (table : Option (List ℕ)) → Terms
+terms table = record { schedule = schedule_in table; released = every }
 
 -- with a set as well, which counts only where the call is limited to it
 abbrev pub terms_in : Released → (table : Option (List ℕ)) → Terms

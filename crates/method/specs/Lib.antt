@@ -1,5 +1,6 @@
 -- The definitions of this crate: the method in whole numbers, the published one over fractions, and what is promised of a run.
 pub mod ReleasedBoats
+pub mod Searched
 pub mod Problem
 pub mod Calls
 pub mod Plain

@@ -5,8 +5,8 @@ use Rattle.files.specs.Sheet.{sheet}
 use Rattle.files.specs.Editions.{Editions}
 use Rattle.files.specs.Front.{SameBook, SameSheet}
 use Rattle.method.specs.declared.Answer.{Answer}
-use Rattle.method.specs.declared.Searched.{Searched}
-use Rattle.method.specs.declared.Searched.TheVariants.{Refused, Answered}
+use Rattle.method.specs.Searched.{Searched}
+use Rattle.method.specs.Searched.{Refused, Answered}
 use Rattle.method.specs.ReleasedBoats.{every, gather}
 use Rattle.method.specs.Problem.{fixed, lent, Problem, Terms, plain_terms, fleet_problem, call_problem}
 use Rattle.method.specs.Calls.{table_refusal}

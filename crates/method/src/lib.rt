@@ -28,13 +28,6 @@ pub struct Answer {
     pub verdict: Verdict,
 }
 
-// What a search or a card check gives back: the number that refuses its input, or the answer.
-#[derive(Clone, Copy)]
-pub enum Searched {
-    Refused(u32),
-    Answered(Answer),
-}
-
 // The boats that a call may use, by the numbers of the book. Where `limited`, those that the bits of `boats` name: bit b of byte k,
 // b = 0 the lowest, is for boat 8 k + b. Else all of them, and `boats` is not read.
 #[repr(C)]

@@ -3,14 +3,14 @@
 // Helpers for other crates, whose callers prove what they require: residual_of, answer_of.
 #![tactic(auto)]
 
-ghost use Rattle.std.specs.Prelude.{◌≡◌, ◌≤◌, take};
+ghost use Rattle.std.specs.Prelude.{◌≡◌, ◌≤◌, take, option_copied};
 ghost use Rattle.frank_wolfe.specs.Vectors.{subtract, scale, sum, combination};
 ghost use Rattle.files.specs.Book.{boats, columns, rows};
 ghost use Rattle.files.specs.Sheet.{files_refusal};
 ghost use Rattle.files.specs.Sheet as Sheets;
 ghost use Rattle.files.specs.Limits.{total_limit};
 ghost use Rattle.method.specs.Problem.{weight, allowed_steps};
-ghost use Rattle.method.specs.Calls.{schedule_of, schedule_refusal};
+ghost use Rattle.method.specs.Calls.{schedule_in, schedule_refusal};
 ghost use Rattle.method.specs.Plain.{plain_problem};
 ghost use Rattle.iteration.specs.States.{file_layout};
 ghost use Rattle.method.specs.Bounds.{answer_of};
@@ -44,18 +44,17 @@ pub fn answer_of(
     test: Test,
     book: &[u8],
     sheet: &[u8],
-    lent: bool,
-    table: &[u16],
+    table: Option<&[u16]>,
     layout: Layout,
     shares: [u16; 256],
     t: u32,
 ) -> Answer
     requires sheet_value { files_refusal book.now sheet.now ≡ 0 }
-    requires table_value { schedule_refusal (schedule_of lent table.now) ≡ 0 }
+    requires table_value { schedule_refusal (schedule_in (option_copied table)) ≡ 0 }
     requires layout_value { layout ≡ file_layout book.now sheet.now }
-    requires fact { (1 ≤ t) × (t ≤ allowed_steps (schedule_of lent table.now) State.MOST_STEPS) }
-    requires shares_value { sum (take (boats book.now) shares) ≡ weight (schedule_of lent table.now) t }
-    ensures { result ≡ answer_of test (plain_problem (schedule_of lent table.now) book.now sheet.now) (take (boats book.now) shares) t }
+    requires fact { (1 ≤ t) × (t ≤ allowed_steps (schedule_in (option_copied table)) State.MOST_STEPS) }
+    requires shares_value { sum (take (boats book.now) shares) ≡ weight (schedule_in (option_copied table)) t }
+    ensures { result ≡ answer_of test (plain_problem (schedule_in (option_copied table.entry)) book.now sheet.now) (take (boats book.now) shares) t }
 {
     let rows = layout.rows;
     let columns = layout.columns;
@@ -65,7 +64,7 @@ pub fn answer_of(
     iteration::measured(
         test,
         t,
-        schedules::total(lent, table, t),
+        schedules::total(table, t),
         &r,
         least.score,
         sheet,

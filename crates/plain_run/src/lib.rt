@@ -3,8 +3,8 @@
 // Helpers for other crates, whose callers prove what they require: clear, run.
 #![tactic(auto)]
 
-ghost use Rattle.std.specs.Prelude.{◌≡◌, ◌++◌, ◌≤◌, length, drop, replicate};
-ghost use Rattle.method.specs.Calls.{schedule_of, schedule_refusal};
+ghost use Rattle.std.specs.Prelude.{◌≡◌, ◌++◌, ◌≤◌, length, drop, replicate, option_copied};
+ghost use Rattle.method.specs.Calls.{schedule_in, schedule_refusal};
 ghost use Rattle.method.specs.Plain.{plain_problem};
 ghost use Rattle.method.specs.Answers.{run_answer, run_iterate};
 ghost use Rattle.files.specs.Book.{boats};
@@ -25,21 +25,21 @@ pub fn clear(list: &mut [u16], count: usize)
 
 // The run of files and shares that are not refused, with every factor 1: steps until one stops it. It leaves the shares in the first slots, one a boat.
 // The first step is tried with no memory; how much the whole run is lent goes by the boats, so that a small run clears little.
-pub fn run(book: &[u8], sheet: &[u8], lent: bool, table: &[u16], shares: &mut [u16]) -> Answer
+pub fn run(book: &[u8], sheet: &[u8], table: Option<&[u16]>, shares: &mut [u16]) -> Answer
     requires sheet_value { files_refusal book.now sheet.now ≡ 0 }
-    requires table_value { schedule_refusal (schedule_of lent table.now) ≡ 0 }
+    requires table_value { schedule_refusal (schedule_in (option_copied table)) ≡ 0 }
     requires book_in_bounds { boats book.now ≤ length shares.old }
-    ensures value { result ≡ run_answer (plain_problem (schedule_of lent table.now) book.now sheet.now) }
-    ensures shares_after { shares.new ≡ (run_iterate (plain_problem (schedule_of lent table.now) book.now sheet.now)).shares ++ drop (boats book.now) shares.old }
+    ensures value { result ≡ run_answer (plain_problem (schedule_in (option_copied table.entry)) book.now sheet.now) }
+    ensures shares_after { shares.new ≡ (run_iterate (plain_problem (schedule_in (option_copied table.entry)) book.now sheet.now)).shares ++ drop (boats book.now) shares.old }
 {
     let layout = iteration::layout_of(book, sheet);
     let boats = layout.boats;
     clear(shares, boats);
     let start = State::fresh(book, sheet, layout);
     let boat = start.best;
-    let answer = iteration::first_answer(boat, book, sheet, lent, table, layout);
+    let answer = iteration::first_answer(boat, book, sheet, table, layout);
     let verdict = answer.verdict;
-    let steps = schedules::steps(lent, table, files::steps(sheet));
+    let steps = schedules::steps(table, files::steps(sheet));
     if verdicts::stops(steps, 1, verdict) {
         run_loop::add_shares(shares, boat, answer.weight);
         return answer;
@@ -52,7 +52,6 @@ pub fn run(book: &[u8], sheet: &[u8], lent: bool, table: &[u16], shares: &mut [u
             steps,
             book,
             sheet,
-            lent,
             table,
             layout,
             shares,
@@ -68,7 +67,6 @@ pub fn run(book: &[u8], sheet: &[u8], lent: bool, table: &[u16], shares: &mut [u
             steps,
             book,
             sheet,
-            lent,
             table,
             layout,
             shares,
@@ -83,7 +81,6 @@ pub fn run(book: &[u8], sheet: &[u8], lent: bool, table: &[u16], shares: &mut [u
         steps,
         book,
         sheet,
-        lent,
         table,
         layout,
         shares,

@@ -4,12 +4,12 @@
 // Helpers for other crates, whose callers prove what they require: rests, judged.
 #![tactic(auto)]
 
-ghost use Rattle.std.specs.Prelude.{◌≡◌, true, ◌||◌, ◌≤◌, eqb, length, take};
+ghost use Rattle.std.specs.Prelude.{◌≡◌, true, ◌||◌, ◌≤◌, eqb, length, take, option_copied};
 ghost use Rattle.files.specs.Book.{boats};
 ghost use Rattle.files.specs.Sheet.{files_refusal};
 ghost use Rattle.method.specs.ReleasedBoats.{usable, gather};
 ghost use Rattle.method.specs.Problem.{call_steps, call_problem};
-ghost use Rattle.method.specs.Calls.{terms, call_terms, schedule_of, schedule_refusal, call_refusal};
+ghost use Rattle.method.specs.Calls.{terms, terms_in, schedule_in, schedule_refusal, call_refusal};
 ghost use Rattle.method.specs.Answers.{outcome};
 ghost use Rattle.method.specs.Bounds.{answer_of};
 ghost use Rattle.card_format.specs.Format.{card_fields, card_test};
@@ -48,18 +48,17 @@ pub fn rests(shares: [u16; 256], released: Released, boats: usize) -> bool
 fn plain_judged(
     book: &[u8],
     sheet: &[u8],
-    lent: bool,
-    table: &[u16],
+    table: Option<&[u16]>,
     card: &[u8],
     shares: [u16; 256],
 ) -> Searched
     requires sheet_value { files_refusal book.now sheet.now ≡ 0 }
-    requires table_value { schedule_refusal (schedule_of lent table.now) ≡ 0 }
-    requires card_readable { CardReadable (call_steps (terms lent table.now) sheet.now) card.now }
-    ensures { result ≡ outcome (truth_refusal (call_problem (terms lent table.now) book.now sheet.now) (take (boats book.now) shares) card.now) (answer_of (card_test card.now) (call_problem (terms lent table.now) book.now sheet.now) (take (boats book.now) shares) (card_fields card.now).steps) }
+    requires table_value { schedule_refusal (schedule_in (option_copied table)) ≡ 0 }
+    requires card_readable { CardReadable (call_steps (terms (option_copied table)) sheet.now) card.now }
+    ensures { result ≡ outcome (truth_refusal (call_problem (terms (option_copied table.entry)) book.now sheet.now) (take (boats book.now) shares) card.now) (answer_of (card_test card.now) (call_problem (terms (option_copied table.entry)) book.now sheet.now) (take (boats book.now) shares) (card_fields card.now).steps) }
 {
     let layout = iteration::layout_of(book, sheet);
-    card_truth::judged(book, sheet, lent, table, layout, card, shares)
+    card_truth::judged(book, sheet, table, layout, card, shares)
 }
 
 // The same of a call that is limited to a set, on a book of the released boats alone and their shares.
@@ -67,19 +66,18 @@ fn limited_judged(
     book: &[u8],
     sheet: &[u8],
     released: Released,
-    lent: bool,
-    table: &[u16],
+    table: Option<&[u16]>,
     card: &[u8],
     shares: [u16; 256],
 ) -> Searched
-    requires sheet_value { call_refusal (call_terms released lent table.now) book.now sheet.now ≡ 0 }
-    requires card_readable { CardReadable (call_steps (terms lent table.now) sheet.now) card.now }
-    ensures { result ≡ outcome (truth_refusal (call_problem (call_terms released lent table.now) book.now sheet.now) (gather (usable released) (take (boats book.now) shares)) card.now) (answer_of (card_test card.now) (call_problem (call_terms released lent table.now) book.now sheet.now) (gather (usable released) (take (boats book.now) shares)) (card_fields card.now).steps) }
+    requires sheet_value { call_refusal (terms_in released (option_copied table)) book.now sheet.now ≡ 0 }
+    requires card_readable { CardReadable (call_steps (terms (option_copied table)) sheet.now) card.now }
+    ensures { result ≡ outcome (truth_refusal (call_problem (terms_in released (option_copied table.entry)) book.now sheet.now) (gather (usable released) (take (boats book.now) shares)) card.now) (answer_of (card_test card.now) (call_problem (terms_in released (option_copied table.entry)) book.now sheet.now) (gather (usable released) (take (boats book.now) shares)) (card_fields card.now).steps) }
 {
     let mut own_book = [0u8; 32780];
     let n = released_book::put_book(&mut own_book, book, released);
     let own = released_set::gather(shares, released, files::boats(book));
-    plain_judged(&own_book[..n], sheet, lent, table, card, own)
+    plain_judged(&own_book[..n], sheet, table, card, own)
 }
 
 // What a card says judged, under the terms of the call, by the first shares, one a boat of the book, of the boats that may be used.
@@ -87,17 +85,16 @@ pub fn judged(
     book: &[u8],
     sheet: &[u8],
     released: Released,
-    lent: bool,
-    table: &[u16],
+    table: Option<&[u16]>,
     card: &[u8],
     shares: [u16; 256],
 ) -> Searched
-    requires sheet_value { call_refusal (call_terms released lent table.now) book.now sheet.now ≡ 0 }
-    requires card_readable { CardReadable (call_steps (terms lent table.now) sheet.now) card.now }
-    ensures { result ≡ outcome (truth_refusal (call_problem (call_terms released lent table.now) book.now sheet.now) (gather (usable released) (take (boats book.now) shares)) card.now) (answer_of (card_test card.now) (call_problem (call_terms released lent table.now) book.now sheet.now) (gather (usable released) (take (boats book.now) shares)) (card_fields card.now).steps) }
+    requires sheet_value { call_refusal (terms_in released (option_copied table)) book.now sheet.now ≡ 0 }
+    requires card_readable { CardReadable (call_steps (terms (option_copied table)) sheet.now) card.now }
+    ensures { result ≡ outcome (truth_refusal (call_problem (terms_in released (option_copied table.entry)) book.now sheet.now) (gather (usable released) (take (boats book.now) shares)) card.now) (answer_of (card_test card.now) (call_problem (terms_in released (option_copied table.entry)) book.now sheet.now) (gather (usable released) (take (boats book.now) shares)) (card_fields card.now).steps) }
 {
     if released.limited {
-        return limited_judged(book, sheet, released, lent, table, card, shares);
+        return limited_judged(book, sheet, released, table, card, shares);
     }
-    plain_judged(book, sheet, lent, table, card, shares)
+    plain_judged(book, sheet, table, card, shares)
 }

@@ -1,4 +1,5 @@
 -- A run on the book of the released boats, with its shares put into the slots of these boats, is the run of the call.
+use Rattle.std.specs.Prelude.{Option}
 use mathlib.Core.Path.{◌≡◌, refl, sym, ap, ◌∙◌}
 use mathlib.Core.Bool.{Bool, true, false, cond}
 use mathlib.Core.List.{List, [], ◌∷◌, ◌++◌}
@@ -12,7 +13,7 @@ use Rattle.method.specs.declared.Answer.{Answer}
 use Rattle.method.specs.declared.Released.{Released}
 use Rattle.method.specs.ReleasedBoats.{Usable, usable, may_use, used_from, set_refusal, scatter_from, scatter}
 use Rattle.method.specs.Problem.{Problem, call_problem}
-use Rattle.method.specs.Calls.{terms, call_terms, schedule_of, schedule_refusal, call_refusal}
+use Rattle.method.specs.Calls.{terms, terms_in, schedule_in, schedule_refusal, call_refusal}
 use Rattle.method.specs.Answers.{run_answer, run_iterate, run_slots}
 use Rattle.method.proofs.Accepted.{files_ok, schedule_ok, set_ok}
 use Rattle.method.proofs.Promise.{run_share_count}
@@ -41,19 +42,19 @@ scatter_front u i (suc n) qs rest e = by (may_use u i) (λ rs f. scatter_front u
 pub scatter_limited : (set : Released) (n : ℕ) (qs : List ℕ) → set.limited ≡ true → scatter (usable set) n qs ≡ scatter_from (usable set) 0 n qs
 scatter_limited set n qs e = rw e
 
-module _ (set : Released) (l : Bool) (table b s : List ℕ) (ok : call_refusal (call_terms set l table) b s ≡ 0) where
+module _ (set : Released) (table : Option (List ℕ)) (b s : List ℕ) (ok : call_refusal (terms_in set table) b s ≡ 0) where
   abbrev u : Usable
   u = usable set
 
   pub book_ok : book_refusal b ≡ 0
-  book_ok = book_passed b s (files_ok (call_terms set l table) b s ok)
+  book_ok = book_passed b s (files_ok (terms_in set table) b s ok)
 
   pub few_boats : boats b ≤ 256
-  few_boats = (files_accepted b s (files_ok (call_terms set l table) b s ok)).0.most_boats
+  few_boats = (files_accepted b s (files_ok (terms_in set table) b s ok)).0.most_boats
 
   released_files : ReleasedFiles u b
   unfolding BookReleased
-  released_files = book_released u b book_ok (set_ok (call_terms set l table) b s ok)
+  released_files = book_released u b book_ok (set_ok (terms_in set table) b s ok)
 
   -- the book of the released boats put into 32,780 bytes
   module _ {own : List ℕ} (eo : own ≡ placed (replicate 32780 0) 0 (released_book u b)) {n : ℕ} (en : n ≡ length (released_book u b)) where
@@ -64,7 +65,7 @@ module _ (set : Released) (l : Bool) (table b s : List ℕ) (ok : call_refusal (
     own_is = front_taken (replicate 32780 0) (released_book u b) eo en released_files.book_fits
 
     pub own_files : files_refusal (take n own) s ≡ 0
-    own_files = rw own_is (released_files.files_same s ∙ files_ok (call_terms set l table) b s ok)
+    own_files = rw own_is (released_files.files_same s ∙ files_ok (terms_in set table) b s ok)
 
     pub own_boats : boats (take n own) ≡ length (used_from u 0 (boats b))
     own_boats = rw own_is released_files.boats_are
@@ -72,31 +73,31 @@ module _ (set : Released) (l : Bool) (table b s : List ℕ) (ok : call_refusal (
     pub own_few : boats (take n own) ≤ 256
     own_few = omega (arith, own_boats, rank_most u 0 (boats b), few_boats)
 
-    pub own_problem : call_problem (terms l table) (take n own) s ≡ call_problem (call_terms set l table) b s
+    pub own_problem : call_problem (terms table) (take n own) s ≡ call_problem (terms_in set table) b s
     unfolding call_problem
-    own_problem = rw own_is (released_files.problem_same (terms l table) s)
+    own_problem = rw own_is (released_files.problem_same (terms table) s)
 
-    pub own_schedule : schedule_refusal (schedule_of l table) ≡ 0
-    own_schedule = schedule_ok (call_terms set l table) b s ok
+    pub own_schedule : schedule_refusal (schedule_in table) ≡ 0
+    own_schedule = schedule_ok (terms_in set table) b s ok
 
-    pub limited_answer : {a : Answer} → a ≡ run_answer (call_problem (terms l table) (take n own) s) → a ≡ run_answer (call_problem (call_terms set l table) b s)
+    pub limited_answer : {a : Answer} → a ≡ run_answer (call_problem (terms table) (take n own) s) → a ≡ run_answer (call_problem (terms_in set table) b s)
     limited_answer q = q ∙ ap run_answer own_problem
 
-    pub limited_slots : set.limited ≡ true → (rest slots : List ℕ) {qs now : List ℕ} {k : ℕ} → qs ≡ (run_iterate (call_problem (terms l table) (take n own) s)).shares ++ rest → k ≡ boats b →
-        now ≡ scatter_from u 0 k qs ++ drop k slots → now ≡ run_slots (call_terms set l table) b s ++ drop (boats b) slots
+    pub limited_slots : set.limited ≡ true → (rest slots : List ℕ) {qs now : List ℕ} {k : ℕ} → qs ≡ (run_iterate (call_problem (terms table) (take n own) s)).shares ++ rest → k ≡ boats b →
+        now ≡ scatter_from u 0 k qs ++ drop k slots → now ≡ run_slots (terms_in set table) b s ++ drop (boats b) slots
     limited_slots limited rest slots {qs} {now} {k} eq ek e =
-        let xs = (run_iterate (call_problem (call_terms set l table) b s)).shares in
+        let xs = (run_iterate (call_problem (terms_in set table) b s)).shares in
         let f : qs ≡ xs ++ rest = eq ∙ ap (λ (p : Problem). (run_iterate p).shares ++ rest) own_problem in
-        let g : scatter_from u 0 (boats b) (xs ++ rest) ≡ scatter u (boats b) xs = scatter_front u 0 (boats b) xs rest (run_share_count (call_terms set l table) b s ok) ∙ sym (scatter_limited set (boats b) xs limited) in
+        let g : scatter_from u 0 (boats b) (xs ++ rest) ≡ scatter u (boats b) xs = scatter_front u 0 (boats b) xs rest (run_share_count (terms_in set table) b s ok) ∙ sym (scatter_limited set (boats b) xs limited) in
         e ∙ rw (f, ek, g)
 
 -- where it is not, the terms have no set
-module _ (set : Released) (l : Bool) (table b s : List ℕ) (limited : set.limited ≡ false) where
-  pub unlimited_terms : call_terms set l table ≡ terms l table
+module _ (set : Released) (table : Option (List ℕ)) (b s : List ℕ) (limited : set.limited ≡ false) where
+  pub unlimited_terms : terms_in set table ≡ terms table
   unlimited_terms = rw limited
 
-  pub unlimited_answer : {a : Answer} → a ≡ run_answer (call_problem (terms l table) b s) → a ≡ run_answer (call_problem (call_terms set l table) b s)
+  pub unlimited_answer : {a : Answer} → a ≡ run_answer (call_problem (terms table) b s) → a ≡ run_answer (call_problem (terms_in set table) b s)
   unlimited_answer q = q ∙ rw limited
 
-  pub unlimited_slots : (rest : List ℕ) {now : List ℕ} → now ≡ (run_iterate (call_problem (terms l table) b s)).shares ++ rest → now ≡ run_slots (call_terms set l table) b s ++ rest
+  pub unlimited_slots : (rest : List ℕ) {now : List ℕ} → now ≡ (run_iterate (call_problem (terms table) b s)).shares ++ rest → now ≡ run_slots (terms_in set table) b s ++ rest
   unlimited_slots rest q = q ∙ rw limited

@@ -4,10 +4,10 @@
 // Helper for other crates, whose callers prove what it requires: run.
 #![tactic(auto)]
 
-ghost use Rattle.std.specs.Prelude.{◌≡◌, true, ◌++◌, ◌≤◌, length, drop};
+ghost use Rattle.std.specs.Prelude.{◌≡◌, true, ◌++◌, ◌≤◌, length, drop, option_copied};
 ghost use Rattle.files.specs.Book.{boats};
 ghost use Rattle.method.specs.Problem.{call_problem};
-ghost use Rattle.method.specs.Calls.{call_terms, call_refusal};
+ghost use Rattle.method.specs.Calls.{terms_in, call_refusal};
 ghost use Rattle.method.specs.Answers.{run_answer, run_slots};
 
 use method::{Answer, Released};
@@ -17,20 +17,19 @@ fn limited_run(
     book: &[u8],
     sheet: &[u8],
     released: Released,
-    lent: bool,
-    table: &[u16],
+    table: Option<&[u16]>,
     shares: &mut [u16],
 ) -> Answer
     requires limited_value { released.limited ≡ true }
-    requires sheet_value { call_refusal (call_terms released lent table.now) book.now sheet.now ≡ 0 }
+    requires sheet_value { call_refusal (terms_in released (option_copied table)) book.now sheet.now ≡ 0 }
     requires book_in_bounds { boats book.now ≤ length shares.old }
-    ensures value { result ≡ run_answer (call_problem (call_terms released lent table.now) book.now sheet.now) }
-    ensures shares_after { shares.new ≡ run_slots (call_terms released lent table.now) book.now sheet.now ++ drop (boats book.now) shares.old }
+    ensures value { result ≡ run_answer (call_problem (terms_in released (option_copied table.entry)) book.now sheet.now) }
+    ensures shares_after { shares.new ≡ run_slots (terms_in released (option_copied table.entry)) book.now sheet.now ++ drop (boats book.now) shares.old }
 {
     let mut own_book = [0u8; 32780];
     let n = released_book::put_book(&mut own_book, book, released);
     let mut own = [0u16; 256];
-    let answer = factored_run::run(&own_book[..n], sheet, lent, table, &mut own);
+    let answer = factored_run::run(&own_book[..n], sheet, table, &mut own);
     released_set::scatter(&own, released, files::boats(book), shares);
     answer
 }
@@ -41,17 +40,16 @@ pub fn run(
     book: &[u8],
     sheet: &[u8],
     released: Released,
-    lent: bool,
-    table: &[u16],
+    table: Option<&[u16]>,
     shares: &mut [u16],
 ) -> Answer
-    requires sheet_value { call_refusal (call_terms released lent table.now) book.now sheet.now ≡ 0 }
+    requires sheet_value { call_refusal (terms_in released (option_copied table)) book.now sheet.now ≡ 0 }
     requires book_in_bounds { boats book.now ≤ length shares.old }
-    ensures value { result ≡ run_answer (call_problem (call_terms released lent table.now) book.now sheet.now) }
-    ensures shares_after { shares.new ≡ run_slots (call_terms released lent table.now) book.now sheet.now ++ drop (boats book.now) shares.old }
+    ensures value { result ≡ run_answer (call_problem (terms_in released (option_copied table.entry)) book.now sheet.now) }
+    ensures shares_after { shares.new ≡ run_slots (terms_in released (option_copied table.entry)) book.now sheet.now ++ drop (boats book.now) shares.old }
 {
     if released.limited {
-        return limited_run(book, sheet, released, lent, table, shares);
+        return limited_run(book, sheet, released, table, shares);
     }
-    factored_run::run(book, sheet, lent, table, shares)
+    factored_run::run(book, sheet, table, shares)
 }

@@ -4,9 +4,11 @@
 #![tactic(auto)]
 
 ghost use Rattle.std.specs.Prelude.{◌≡◌, ◌++◌, ◌-◌, ◌≤◌, ◌<◌, length, get_or, take, drop, replicate, true, cond};
+ghost use Rattle.refusals.specs.Numbers.{refusal_number};
 ghost use Rattle.method.specs.ReleasedBoats.{only, usable, may_use, used_from, set_refusal, kept, scatter_from};
 
 use method::Released;
+use refusals::Refusal;
 
 // The most boats of a book, and the bits of a set.
 const MOST_BOATS: usize = 256;
@@ -37,21 +39,21 @@ pub fn count(set: Released, first: usize, end: usize) -> usize
     n
 }
 
-// 52 where a set that is handed in has none of a book's boats, or a boat that the book does not have; else 0.
-pub fn set_refusal(set: Released, boats: usize) -> u32
+// Whether a set that is handed in is refused, by 52: it has none of a book's boats, or a boat that the book does not have.
+pub fn set_refusal(set: Released, boats: usize) -> Result<(), Refusal>
     requires { boats ≤ 256 }
-    ensures { result ≡ set_refusal boats (usable set) }
+    ensures { refusal_number result ≡ set_refusal boats (usable set) }
 {
     if !set.limited {
-        return 0;
+        return Ok(());
     }
     if count(set, 0, boats) == 0 {
-        return 52;
+        return Err(Refusal::ReleasedBoats);
     }
     if count(set, boats, MOST_BOATS) != 0 {
-        return 52;
+        return Err(Refusal::ReleasedBoats);
     }
-    0
+    Ok(())
 }
 
 // Of a boat that may be used the next share, of another 0.

@@ -3,9 +3,9 @@
 // Helpers for other crates, whose callers prove what they require: add_shares, step, run_from.
 #![tactic(auto)]
 
-ghost use Rattle.std.specs.Prelude.{◌≡◌, ◌++◌, ◌+◌, ◌*◌, ◌≤◌, ◌<◌, length, get_or, set, drop};
+ghost use Rattle.std.specs.Prelude.{◌≡◌, ◌++◌, ◌+◌, ◌*◌, ◌≤◌, ◌<◌, length, get_or, set, drop, option_copied};
 ghost use Rattle.method.specs.Problem.{allowed_steps};
-ghost use Rattle.method.specs.Calls.{schedule_of, schedule_refusal};
+ghost use Rattle.method.specs.Calls.{schedule_in, schedule_refusal};
 ghost use Rattle.method.specs.Plain.{plain_problem};
 ghost use Rattle.method.specs.Answers.{run_answer, run_iterate};
 ghost use Rattle.files.specs.Book.{boats};
@@ -65,8 +65,7 @@ pub fn step(
     state: State,
     book: &[u8],
     sheet: &[u8],
-    lent: bool,
-    table: &[u16],
+    table: Option<&[u16]>,
     layout: Layout,
     shares: &mut [u16],
     scores: &mut [i64],
@@ -75,20 +74,20 @@ pub fn step(
     memory: &mut [i32],
 ) -> State
     requires sheet_value { files_refusal book.now sheet.now ≡ 0 }
-    requires table_value { schedule_refusal (schedule_of lent table.now) ≡ 0 }
+    requires table_value { schedule_refusal (schedule_in (option_copied table)) ≡ 0 }
     requires layout_value { layout ≡ file_layout book.now sheet.now }
-    requires holds { Holds (schedule_of lent table.now) book.now sheet.now state.steps state }
-    requires steps_bound { state.steps < allowed_steps (schedule_of lent table.now) State.MOST_STEPS }
-    requires shares_at { SharesAt (schedule_of lent table.now) book.now sheet.now state.steps shares.old }
-    requires scores_at { ScoresAt (schedule_of lent table.now) book.now sheet.now state.steps scores.old }
+    requires holds { Holds (schedule_in (option_copied table)) book.now sheet.now state.steps state }
+    requires steps_bound { state.steps < allowed_steps (schedule_in (option_copied table)) State.MOST_STEPS }
+    requires shares_at { SharesAt (schedule_in (option_copied table)) book.now sheet.now state.steps shares.old }
+    requires scores_at { ScoresAt (schedule_in (option_copied table)) book.now sheet.now state.steps scores.old }
     requires remembered { Remembered book.now sheet.now (memory_of tags.old targets.old memory.old) }
-    ensures holds_2 { Holds (schedule_of lent table.now) book.now sheet.now (state.steps + 1) result }
-    ensures shares_after { shares.new ≡ (iterate_of (schedule_of lent table.now) book.now sheet.now (state.steps + 1)).shares ++ drop (boats book.now) shares.old }
-    ensures scores_after { scores.new ≡ scores_of (schedule_of lent table.now) book.now sheet.now (state.steps + 1) ++ drop (boats book.now) scores.old }
+    ensures holds_2 { Holds (schedule_in (option_copied table.entry)) book.now sheet.now (state.steps + 1) result }
+    ensures shares_after { shares.new ≡ (iterate_of (schedule_in (option_copied table.entry)) book.now sheet.now (state.steps + 1)).shares ++ drop (boats book.now) shares.old }
+    ensures scores_after { scores.new ≡ scores_of (schedule_in (option_copied table.entry)) book.now sheet.now (state.steps + 1) ++ drop (boats book.now) scores.old }
     ensures memory_after { memory_of tags.new targets.new memory.new ≡ remembering book.now sheet.now state.best (memory_of tags.old targets.old memory.old) }
 {
     let best = state.best;
-    let k = schedules::share(lent, table, state.steps);
+    let k = schedules::share(table, state.steps);
     let boats = layout.boats;
     let slot = remember(best, book, sheet, layout, tags, targets, memory);
     let at = slot * boats;
@@ -108,25 +107,24 @@ pub fn run_from(
     steps: u32,
     book: &[u8],
     sheet: &[u8],
-    lent: bool,
-    table: &[u16],
+    table: Option<&[u16]>,
     layout: Layout,
     shares: &mut [u16],
     scores: &mut [i64],
     memory: &mut [i32],
 ) -> Answer
     requires sheet_value { files_refusal book.now sheet.now ≡ 0 }
-    requires table_value { schedule_refusal (schedule_of lent table.now) ≡ 0 }
+    requires table_value { schedule_refusal (schedule_in (option_copied table)) ≡ 0 }
     requires layout_value { layout ≡ file_layout book.now sheet.now }
-    requires steps_value { steps ≡ allowed_steps (schedule_of lent table.now) (Sheets.sheet sheet.now).steps }
-    requires holds { Holds (schedule_of lent table.now) book.now sheet.now 0 start }
-    requires shares_at { SharesAt (schedule_of lent table.now) book.now sheet.now 0 shares.old }
-    requires scores_at { ScoresAt (schedule_of lent table.now) book.now sheet.now 0 scores.old }
+    requires steps_value { steps ≡ allowed_steps (schedule_in (option_copied table)) (Sheets.sheet sheet.now).steps }
+    requires holds { Holds (schedule_in (option_copied table)) book.now sheet.now 0 start }
+    requires shares_at { SharesAt (schedule_in (option_copied table)) book.now sheet.now 0 shares.old }
+    requires scores_at { ScoresAt (schedule_in (option_copied table)) book.now sheet.now 0 scores.old }
     requires book_in_bounds { 64 * boats book.now ≤ length memory.old }
-    ensures value { result ≡ run_answer (plain_problem (schedule_of lent table.now) book.now sheet.now) }
-    ensures shares_after { shares.new ≡ (run_iterate (plain_problem (schedule_of lent table.now) book.now sheet.now)).shares ++ drop (boats book.now) shares.old }
-    ensures scores_after { scores.new ≡ scores_of (schedule_of lent table.now) book.now sheet.now (run_answer (plain_problem (schedule_of lent table.now) book.now sheet.now)).steps ++ drop (boats book.now) scores.old }
-    ensures memory_after { memory.new ≡ (memory_after (schedule_of lent table.now) book.now sheet.now (run_answer (plain_problem (schedule_of lent table.now) book.now sheet.now)).steps memory.old).products }
+    ensures value { result ≡ run_answer (plain_problem (schedule_in (option_copied table.entry)) book.now sheet.now) }
+    ensures shares_after { shares.new ≡ (run_iterate (plain_problem (schedule_in (option_copied table.entry)) book.now sheet.now)).shares ++ drop (boats book.now) shares.old }
+    ensures scores_after { scores.new ≡ scores_of (schedule_in (option_copied table.entry)) book.now sheet.now (run_answer (plain_problem (schedule_in (option_copied table.entry)) book.now sheet.now)).steps ++ drop (boats book.now) scores.old }
+    ensures memory_after { memory.new ≡ (memory_after (schedule_in (option_copied table.entry)) book.now sheet.now (run_answer (plain_problem (schedule_in (option_copied table.entry)) book.now sheet.now)).steps memory.old).products }
 {
     let mut tags = [0u8; 257];
     let mut targets = [0i32; 64];
@@ -136,7 +134,6 @@ pub fn run_from(
             state,
             book,
             sheet,
-            lent,
             table,
             layout,
             shares,

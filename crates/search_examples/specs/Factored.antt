@@ -7,7 +7,7 @@ use Rattle.files.specs.Book.{rows}
 use Rattle.files.specs.Sheet.{WSH2}
 use Rattle.method.specs.declared.Verdict.TheVariants.{Within, Beyond, Spent}
 use Rattle.method.specs.declared.Test.TheVariants.{Sharper}
-use Rattle.method.specs.declared.Searched.TheVariants.{Refused, Answered}
+use Rattle.method.specs.Searched.{Refused, Answered}
 use Rattle.method.specs.Problem.{problem}
 use Rattle.method.specs.Iterates.{diameter}
 use Rattle.card_format.specs.Format.{card_bytes}

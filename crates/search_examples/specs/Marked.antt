@@ -5,8 +5,8 @@ use Rattle.files.specs.Book.{WBK1}
 use Rattle.files.specs.Sheet.{WSH1}
 use Rattle.method.specs.declared.Verdict.TheVariants.{Within, Beyond, Spent}
 use Rattle.files.specs.Bytes.{number_bytes}
-use Rattle.method.specs.declared.Searched.{Searched}
-use Rattle.method.specs.declared.Searched.TheVariants.{Refused, Answered}
+use Rattle.method.specs.Searched.{Searched}
+use Rattle.method.specs.Searched.{Refused, Answered}
 use Rattle.method.specs.Problem.{problem}
 use Rattle.method.specs.Answers.{outcome, run_iterate, run_answer, search_refusal, slots_after}
 

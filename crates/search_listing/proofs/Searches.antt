@@ -5,7 +5,7 @@ use Prim.Native.Nat.{ℕ}
 use native.Mathlib.Omega.{arith}
 use lib.ListN.{length}
 use Rattle.files.specs.Sheet.{files_refusal}
-use Rattle.method.specs.declared.Searched.{Searched}
+use Rattle.method.specs.Searched.{Searched}
 use Rattle.method.specs.Problem.{problem, plain_terms}
 use Rattle.method.specs.Answers.{refusal_number, outcome, search_refusal, slots_after, run_answer, run_iterate}
 use Rattle.method.specs.Promise.{OutcomeRight}

@@ -1,7 +1,7 @@
 -- The listing of a search. Definitions only. Assumes nothing.
 use Rattle.std.specs.Prelude.{List, ℕ}
 use Rattle.files.specs.Sheet.{files_refusal}
-use Rattle.method.specs.declared.Searched.{Searched}
+use Rattle.method.specs.Searched.{Searched}
 use Rattle.method.specs.Problem.{problem}
 use Rattle.method.specs.Answers.{outcome, run_answer, run_iterate}
 use Rattle.listing.specs.Lines.{outcome_listing}

@@ -1,4 +1,5 @@
 -- The outcomes of `write_card_with`, refused by the terms or the files, refused by a short buffer, or filed, are those of the definitions.
+use Rattle.std.specs.Prelude.{Option}
 use mathlib.Core.Path.{◌≡◌, refl, ap, ◌∙◌}
 use mathlib.Core.Bool.{Bool, true, false}
 use mathlib.Core.List.{List, ◌++◌}
@@ -15,7 +16,7 @@ use Rattle.method.specs.declared.Test.TheVariants.{Sharper}
 use Rattle.method.specs.declared.Answer.{Answer}
 use Rattle.method.specs.declared.Released.{Released}
 use Rattle.method.specs.Problem.{Terms, plain_terms, call_problem}
-use Rattle.method.specs.Calls.{call_terms, call_refusal}
+use Rattle.method.specs.Calls.{terms_in, call_refusal}
 use Rattle.method.specs.Iterates.{support}
 use Rattle.method.specs.Answers.{slots_after, run_answer, run_slots}
 use Rattle.method.proofs.Promise.{run_slot_count}
@@ -31,9 +32,9 @@ use Rattle.buffers.proofs.Placing.{placed_next}
 
 -- ---- Outcomes
 
-module _ (set : Released) (l : Bool) (table b s out : List ℕ) where
+module _ (set : Released) (table : Option (List ℕ)) (b s out : List ℕ) where
   abbrev m : Terms
-  m = call_terms set l table
+  m = terms_in set table
 
   -- what the writer gives back and leaves in the buffer, by the refusal number
   abbrev Gives : (refusal : ℕ) → Written → List ℕ → Type 0

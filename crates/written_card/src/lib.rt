@@ -3,9 +3,9 @@
 // Entries, which ask nothing of their caller: write_card_with, write_card.
 #![tactic(auto)]
 
-ghost use Rattle.std.specs.Prelude.{◌≡◌, false, length};
+ghost use Rattle.std.specs.Prelude.{◌≡◌, false, length, option_copied};
 ghost use Rattle.method.specs.Problem.{plain_terms, call_problem, problem};
-ghost use Rattle.method.specs.Calls.{call_terms};
+ghost use Rattle.method.specs.Calls.{terms_in};
 ghost use Rattle.method.specs.Answers.{slots_after, run_answer};
 ghost use Rattle.card_format.specs.Format.{run_card_with, run_card};
 ghost use Rattle.card_format.specs.Checks.{write_refusal_with, write_refusal};
@@ -23,22 +23,21 @@ pub fn write_card_with(
     book: &[u8],
     sheet: &[u8],
     released: Released,
-    lent: bool,
-    table: &[u16],
+    table: Option<&[u16]>,
     output: &mut [u8],
 ) -> Written
-    ensures value { result ≡ filing (write_refusal_with (call_terms released lent table.now) book.now sheet.now (length output.old)) (run_answer (call_problem (call_terms released lent table.now) book.now sheet.now)) (length (run_card_with (call_terms released lent table.now) book.now sheet.now)) }
-    ensures output_after { output.new ≡ slots_after (write_refusal_with (call_terms released lent table.now) book.now sheet.now (length output.old)) (run_card_with (call_terms released lent table.now) book.now sheet.now) output.old }
-    ensures filing_right_with { FilingRightWith (call_terms released lent table.now) book.now sheet.now result output.new }
-    ensures table_value { released.limited ≡ false → lent ≡ false → call_terms released lent table.now ≡ plain_terms }
+    ensures value { result ≡ filing (write_refusal_with (terms_in released (option_copied table.entry)) book.now sheet.now (length output.old)) (run_answer (call_problem (terms_in released (option_copied table.entry)) book.now sheet.now)) (length (run_card_with (terms_in released (option_copied table.entry)) book.now sheet.now)) }
+    ensures output_after { output.new ≡ slots_after (write_refusal_with (terms_in released (option_copied table.entry)) book.now sheet.now (length output.old)) (run_card_with (terms_in released (option_copied table.entry)) book.now sheet.now) output.old }
+    ensures filing_right_with { FilingRightWith (terms_in released (option_copied table.entry)) book.now sheet.now result output.new }
+    ensures table_value { released.limited ≡ false → lent ≡ false → terms_in released (option_copied table.entry) ≡ plain_terms }
 {
-    let refusal = calls::call_refusal(book, sheet, released, lent, table);
+    let refusal = calls::call_refusal(book, sheet, released, table);
     if refusal != 0 {
         return Written::Refused(refusal);
     }
     let boats = files::boats(book);
     let mut shares = [0u16; 256];
-    let answer = released_run::run(book, sheet, released, lent, table, &mut shares);
+    let answer = released_run::run(book, sheet, released, table, &mut shares);
     let back = 4 * card_output::holding(shares, boats);
     if output.len() < back + 36 {
         return Written::Refused(22);
@@ -67,5 +66,5 @@ pub fn write_card(book: &[u8], sheet: &[u8], output: &mut [u8]) -> Written
         limited: false,
         boats: [0u8; 32],
     };
-    write_card_with(book, sheet, every_boat, false, &[0u16; 0], output)
+    write_card_with(book, sheet, every_boat, None, output)
 }

@@ -1,27 +1,29 @@
 -- `calls::limited_refusal` meets its contract.
-use mathlib.Core.Path.{sym, ◌∙◌}
+use mathlib.Core.Path.{refl, sym}
 use native.Mathlib.Omega.{arith}
+use Rattle.refusals.proofs.Numbers.{positive, passed_on}
 use Rattle.files.proofs.Accepted.{book_accepted}
 use Rattle.calls.proofs.Order.{book_refuses, set_refuses, sheet_refuses}
-use borrow.Author.Rules.{rules}
 use Rattle.calls.proofs.limited_refusal.Goals as goal
 
-pub returns-then-of_book-ne0 : goal.returns-then-of_book-ne0
-returns-then-of_book-ne0 c = book_refuses c.args.released _ _ c.requires _ c.book_refusal-of_book.ensures c.if-of_book-ne0.true
+pub returns-in_err-book_refusal : goal.returns-in_err-book_refusal
+returns-in_err-book_refusal c = passed_on _ _ c.from_residual.ensures (book_refuses c.args.released _ _ c.requires _ c.in_err-book_refusal.ensures (positive _))
 
 pub boats-requires : goal.boats-requires
-boats-requires c = (book_accepted _ (sym c.book_refusal-of_book.ensures ∙ c.if-of_book-ne0.false)).at_least
+boats-requires c = (book_accepted _ (sym c.in_ok-book_refusal.ensures)).at_least
 
-pub set_refusal-of_set-requires : goal.set_refusal-of_set-requires
-set_refusal-of_set-requires c = omega (arith, c.boats.ensures, (book_accepted _ (sym c.book_refusal-of_book.ensures ∙ c.if-of_book-ne0.false)).most_boats)
+pub set_refusal-requires : goal.set_refusal-requires
+set_refusal-requires c = omega (arith, c.boats.ensures, (book_accepted _ (sym c.in_ok-book_refusal.ensures)).most_boats)
 
-pub returns-then-of_set-ne0 : goal.returns-then-of_set-ne0
-returns-then-of_set-ne0 c = set_refuses c.args.released _ _ c.requires c.book_refusal-of_book.ensures c.if-of_book-ne0.false c.boats.ensures _ c.set_refusal-of_set.ensures c.if-of_set-ne0.true
+pub returns-in_err-set_refusal : goal.returns-in_err-set_refusal
+returns-in_err-set_refusal c =
+    passed_on _ _ c.from_residual-in_err-set_refusal.ensures
+    (set_refuses c.args.released _ _ c.requires c.in_ok-book_refusal.ensures refl c.boats.ensures _ c.in_err-set_refusal.ensures (positive _))
 
 pub columns-requires : goal.columns-requires
-columns-requires c = (book_accepted _ (sym c.book_refusal-of_book.ensures ∙ c.if-of_book-ne0.false)).at_least
+columns-requires c = (book_accepted _ (sym c.in_ok-book_refusal.ensures)).at_least
 
 pub returns : goal.returns
 returns c =
-    sheet_refuses c.args.released _ _ c.requires c.book_refusal-of_book.ensures c.if-of_book-ne0.false c.boats.ensures _ c.set_refusal-of_set.ensures c.if-of_set-ne0.false
+    sheet_refuses c.args.released _ _ c.requires c.in_ok-book_refusal.ensures refl c.boats.ensures _ c.in_ok-set_refusal.ensures refl
     c.columns.ensures.value c.sheet_refusal.ensures

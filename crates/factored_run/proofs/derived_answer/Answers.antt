@@ -1,4 +1,5 @@
 -- `factored_run::derived_answer` meets its contract: the laws of `Factored` say what the derived files have of the others.
+use Rattle.std.specs.Prelude.{option_copied}
 use mathlib.Core.Path.{refl, sym}
 use Prim.Native.Nat.{ℕ}
 use native.Mathlib.Nat.{le_refl, le_of_eq}
@@ -40,7 +41,7 @@ pub slice_bounds-plain_answer-end-2 : goal.slice_bounds-plain_answer-end-2
 slice_bounds-plain_answer-end-2 c = sym (length-take-le _ _ (sheet_inside _ _ c.requires.sheet_value c.factors_of-factors.ensures c.put_book-n.ensures.output_after c.put_book-n.ensures.value c.put_sheet-m.ensures.output_after c.put_sheet-m.ensures.value))
 
 pub plain_answer-requires : goal.plain_answer-requires
-plain_answer-requires c = record { sheet_value = derived_passed _ _ c.requires.sheet_value c.factors_of-factors.ensures c.put_book-n.ensures.output_after c.put_book-n.ensures.value c.put_sheet-m.ensures.output_after c.put_sheet-m.ensures.value; table_value = c.requires.table_value; fact = c.requires.fact; shares_value = derived_total _ _ c.requires.sheet_value c.factors_of-factors.ensures c.put_book-n.ensures.output_after c.put_book-n.ensures.value c.put_sheet-m.ensures.output_after c.put_sheet-m.ensures.value (terms c.args.lent c.args.table.now) _ _ c.requires.shares_value }
+plain_answer-requires c = record { sheet_value = derived_passed _ _ c.requires.sheet_value c.factors_of-factors.ensures c.put_book-n.ensures.output_after c.put_book-n.ensures.value c.put_sheet-m.ensures.output_after c.put_sheet-m.ensures.value; table_value = c.requires.table_value; fact = c.requires.fact; shares_value = derived_total _ _ c.requires.sheet_value c.factors_of-factors.ensures c.put_book-n.ensures.output_after c.put_book-n.ensures.value c.put_sheet-m.ensures.output_after c.put_sheet-m.ensures.value (terms (option_copied c.args.table)) _ _ c.requires.shares_value }
 
 pub returns : goal.returns
-returns c = derived_answer _ _ c.requires.sheet_value c.factors_of-factors.ensures c.put_book-n.ensures.output_after c.put_book-n.ensures.value c.put_sheet-m.ensures.output_after c.put_sheet-m.ensures.value (terms c.args.lent c.args.table.now) _ _ _ c.plain_answer.ensures
+returns c = derived_answer _ _ c.requires.sheet_value c.factors_of-factors.ensures c.put_book-n.ensures.output_after c.put_book-n.ensures.value c.put_sheet-m.ensures.output_after c.put_sheet-m.ensures.value (terms (option_copied c.args.table)) _ _ _ c.plain_answer.ensures

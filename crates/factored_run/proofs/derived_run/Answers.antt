@@ -1,4 +1,5 @@
 -- `factored_run::derived_run` meets its contract: the laws of `Factored` say what the derived files have of the others.
+use Rattle.std.specs.Prelude.{option_copied}
 use borrow.Author.Rules.{rules}
 use mathlib.Core.Path.{refl, sym}
 use Prim.Native.Nat.{ℕ}
@@ -45,4 +46,4 @@ pub run-requires : goal.run-requires
 run-requires c = record { sheet_value = derived_passed _ _ c.requires.sheet_value c.factors_of-factors.ensures c.put_book-n.ensures.output_after c.put_book-n.ensures.value c.put_sheet-m.ensures.output_after c.put_sheet-m.ensures.value; table_value = c.requires.table_value; book_in_bounds = omega (arith, derived_boats _ _ c.requires.sheet_value c.factors_of-factors.ensures c.put_book-n.ensures.output_after c.put_book-n.ensures.value c.put_sheet-m.ensures.output_after c.put_sheet-m.ensures.value, c.requires.book_in_bounds) }
 
 pub returns : goal.returns
-returns c = record { value = derived_run _ _ c.requires.sheet_value c.factors_of-factors.ensures c.put_book-n.ensures.output_after c.put_book-n.ensures.value c.put_sheet-m.ensures.output_after c.put_sheet-m.ensures.value (terms c.args.lent c.args.table.now) c.run.ensures.value; shares_after = derived_shares _ _ c.requires.sheet_value c.factors_of-factors.ensures c.put_book-n.ensures.output_after c.put_book-n.ensures.value c.put_sheet-m.ensures.output_after c.put_sheet-m.ensures.value (terms c.args.lent c.args.table.now) _ c.run.ensures.shares_after }
+returns c = record { value = derived_run _ _ c.requires.sheet_value c.factors_of-factors.ensures c.put_book-n.ensures.output_after c.put_book-n.ensures.value c.put_sheet-m.ensures.output_after c.put_sheet-m.ensures.value (terms (option_copied c.args.table)) c.run.ensures.value; shares_after = derived_shares _ _ c.requires.sheet_value c.factors_of-factors.ensures c.put_book-n.ensures.output_after c.put_book-n.ensures.value c.put_sheet-m.ensures.output_after c.put_sheet-m.ensures.value (terms (option_copied c.args.table)) _ c.run.ensures.shares_after }

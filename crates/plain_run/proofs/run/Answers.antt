@@ -1,6 +1,7 @@
 -- `plain_run::run` meets its contract.
+use Rattle.std.specs.Prelude.{option_copied}
 use mathlib.Core.Path.{◌∙◌}
-use Rattle.method.specs.Calls.{schedule_of}
+use Rattle.method.specs.Calls.{schedule_in}
 use Rattle.method.specs.Plain.{plain_problem}
 use Rattle.method.specs.Answers.{run_iterate}
 use Rattle.method.proofs.Schedules.{schedule_sized}
@@ -14,17 +15,17 @@ use Rattle.plain_run.proofs.run.Goals as goal
 
 pub clear-requires : goal.clear-requires
 clear-requires c =
-    let S = schedule_sized (schedule_of c.args.lent c.args.table.now) c.requires.table_value in
+    let S = schedule_sized (schedule_in (option_copied c.args.table)) c.requires.table_value in
     boats_fit _ _ c.requires.sheet_value S c.layout_of-layout.ensures c.requires.book_in_bounds
 
 pub fresh-start-requires : goal.fresh-start-requires
 fresh-start-requires c =
-    let S = schedule_sized (schedule_of c.args.lent c.args.table.now) c.requires.table_value in
+    let S = schedule_sized (schedule_in (option_copied c.args.table)) c.requires.table_value in
     record { sheet_value = c.requires.sheet_value; layout_value = c.layout_of-layout.ensures }
 
 pub first_answer-answer-requires : goal.first_answer-answer-requires
 first_answer-answer-requires c =
-    let S = schedule_sized (schedule_of c.args.lent c.args.table.now) c.requires.table_value in
+    let S = schedule_sized (schedule_in (option_copied c.args.table)) c.requires.table_value in
     record { sheet_value = c.requires.sheet_value; table_value = c.requires.table_value; layout_value = c.layout_of-layout.ensures; boat_value = (c.fresh-start.ensures _).best_is }
 
 pub steps-requires : goal.steps-requires
@@ -32,46 +33,46 @@ steps-requires c = (sheet_fits _ _ c.requires.sheet_value).at_least
 
 pub add_shares-requires : goal.add_shares-requires
 add_shares-requires c =
-    let S = schedule_sized (schedule_of c.args.lent c.args.table.now) c.requires.table_value in
+    let S = schedule_sized (schedule_in (option_copied c.args.table)) c.requires.table_value in
     rw (first_weight _ _ c.requires.sheet_value S c.first_answer-answer.ensures)
     (share_room _ _ c.requires.sheet_value S (c.fresh-start.ensures _) (omega arith) (cleared _ _ c.requires.sheet_value S c.layout_of-layout.ensures _ c.requires.book_in_bounds c.clear.ensures))
 
 pub returns-then-stops : goal.returns-then-stops
 returns-then-stops c =
-    let S = schedule_sized (schedule_of c.args.lent c.args.table.now) c.requires.table_value in
+    let S = schedule_sized (schedule_in (option_copied c.args.table)) c.requires.table_value in
     let ok = c.requires.sheet_value in
     let d = first_done _ _ ok S c.first_answer-answer.ensures (c.steps-steps.ensures ∙ rw c.steps.ensures) c.stops.ensures c.if-stops.true in
     record { value = d.0; shares_after = shared_end (shares_next _ _ ok S (c.fresh-start.ensures _) (omega arith) (cleared _ _ ok S c.layout_of-layout.ensures _ c.requires.book_in_bounds c.clear.ensures) (rw (first_weight _ _ ok S c.first_answer-answer.ensures) at c.add_shares.ensures)) d.1 }
 
 pub run_from-requires : goal.run_from-requires
 run_from-requires c =
-    let S = schedule_sized (schedule_of c.args.lent c.args.table.now) c.requires.table_value in
+    let S = schedule_sized (schedule_in (option_copied c.args.table)) c.requires.table_value in
     let ok = c.requires.sheet_value in
     record { sheet_value = ok; table_value = c.requires.table_value; layout_value = c.layout_of-layout.ensures; steps_value = c.steps-steps.ensures ∙ rw c.steps.ensures; holds = c.fresh-start.ensures _; shares_at = cleared_shares _ _ ok S c.layout_of-layout.ensures _ c.requires.book_in_bounds c.clear.ensures; scores_at = scores_for _ _ ok S 16 c.layout_of-layout.ensures c.if-boats-le16.true; book_in_bounds = room_for _ _ 16 c.layout_of-layout.ensures c.if-boats-le16.true }
 
 pub returns-then-boats-le16 : goal.returns-then-boats-le16
 returns-then-boats-le16 c =
-    let S = schedule_sized (schedule_of c.args.lent c.args.table.now) c.requires.table_value in
-    record { value = c.run_from.ensures.value; shares_after = behind (run_iterate (plain_problem (schedule_of c.args.lent c.args.table.now) c.args.book.now c.args.sheet.now)).shares c.run_from.ensures.shares_after (cleared_rest _ _ c.requires.sheet_value S c.layout_of-layout.ensures _ c.requires.book_in_bounds c.clear.ensures) }
+    let S = schedule_sized (schedule_in (option_copied c.args.table)) c.requires.table_value in
+    record { value = c.run_from.ensures.value; shares_after = behind (run_iterate (plain_problem (schedule_in (option_copied c.args.table)) c.args.book.now c.args.sheet.now)).shares c.run_from.ensures.shares_after (cleared_rest _ _ c.requires.sheet_value S c.layout_of-layout.ensures _ c.requires.book_in_bounds c.clear.ensures) }
 
 pub run_from-requires-then-boats-le64 : goal.run_from-requires-then-boats-le64
 run_from-requires-then-boats-le64 c =
-    let S = schedule_sized (schedule_of c.args.lent c.args.table.now) c.requires.table_value in
+    let S = schedule_sized (schedule_in (option_copied c.args.table)) c.requires.table_value in
     let ok = c.requires.sheet_value in
     record { sheet_value = ok; table_value = c.requires.table_value; layout_value = c.layout_of-layout.ensures; steps_value = c.steps-steps.ensures ∙ rw c.steps.ensures; holds = c.fresh-start.ensures _; shares_at = cleared_shares _ _ ok S c.layout_of-layout.ensures _ c.requires.book_in_bounds c.clear.ensures; scores_at = scores_for _ _ ok S 64 c.layout_of-layout.ensures c.if-boats-le64.true; book_in_bounds = room_for _ _ 64 c.layout_of-layout.ensures c.if-boats-le64.true }
 
 pub returns-then-boats-le64 : goal.returns-then-boats-le64
 returns-then-boats-le64 c =
-    let S = schedule_sized (schedule_of c.args.lent c.args.table.now) c.requires.table_value in
-    record { value = c.run_from-then-boats-le64.ensures.value; shares_after = behind (run_iterate (plain_problem (schedule_of c.args.lent c.args.table.now) c.args.book.now c.args.sheet.now)).shares c.run_from-then-boats-le64.ensures.shares_after (cleared_rest _ _ c.requires.sheet_value S c.layout_of-layout.ensures _ c.requires.book_in_bounds c.clear.ensures) }
+    let S = schedule_sized (schedule_in (option_copied c.args.table)) c.requires.table_value in
+    record { value = c.run_from-then-boats-le64.ensures.value; shares_after = behind (run_iterate (plain_problem (schedule_in (option_copied c.args.table)) c.args.book.now c.args.sheet.now)).shares c.run_from-then-boats-le64.ensures.shares_after (cleared_rest _ _ c.requires.sheet_value S c.layout_of-layout.ensures _ c.requires.book_in_bounds c.clear.ensures) }
 
 pub run_from-requires-2 : goal.run_from-requires-2
 run_from-requires-2 c =
-    let S = schedule_sized (schedule_of c.args.lent c.args.table.now) c.requires.table_value in
+    let S = schedule_sized (schedule_in (option_copied c.args.table)) c.requires.table_value in
     let ok = c.requires.sheet_value in
     record { sheet_value = ok; table_value = c.requires.table_value; layout_value = c.layout_of-layout.ensures; steps_value = c.steps-steps.ensures ∙ rw c.steps.ensures; holds = c.fresh-start.ensures _; shares_at = cleared_shares _ _ ok S c.layout_of-layout.ensures _ c.requires.book_in_bounds c.clear.ensures; scores_at = scores_start _ _ ok S 256 (book_fits _ _ ok).most_boats; book_in_bounds = room_always _ _ ok }
 
 pub returns : goal.returns
 returns c =
-    let S = schedule_sized (schedule_of c.args.lent c.args.table.now) c.requires.table_value in
-    record { value = c.run_from-2.ensures.value; shares_after = behind (run_iterate (plain_problem (schedule_of c.args.lent c.args.table.now) c.args.book.now c.args.sheet.now)).shares c.run_from-2.ensures.shares_after (cleared_rest _ _ c.requires.sheet_value S c.layout_of-layout.ensures _ c.requires.book_in_bounds c.clear.ensures) }
+    let S = schedule_sized (schedule_in (option_copied c.args.table)) c.requires.table_value in
+    record { value = c.run_from-2.ensures.value; shares_after = behind (run_iterate (plain_problem (schedule_in (option_copied c.args.table)) c.args.book.now c.args.sheet.now)).shares c.run_from-2.ensures.shares_after (cleared_rest _ _ c.requires.sheet_value S c.layout_of-layout.ensures _ c.requires.book_in_bounds c.clear.ensures) }

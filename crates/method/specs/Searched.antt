@@ -1,0 +1,14 @@
+-- What a search or a card check comes to: the number that refuses its input, or the answer. Definitions only.
+use Rattle.std.specs.Prelude.{ℕ, Result, Ok, Err}
+use Rattle.refusals.specs.declared.Refusal.{Refusal}
+use Rattle.refusals.specs.Numbers.{number}
+use Rattle.method.specs.declared.Answer.{Answer}
+
+pub data Searched : Type 0 where
+  Refused : (number : ℕ) → Searched
+  Answered : Answer → Searched
+
+-- what the code gives back for it
+abbrev pub searched : Result Answer Refusal → Searched
+searched (Ok a) = Answered a
+searched (Err r) = Refused (number r)
