@@ -59,13 +59,7 @@ pub fn ends_with(b: &[u8], letters: &[u8]) -> bool
     requires { length letters.now ≤ length b.now }
     ensures { result ≡ same (drop (length b.now - length letters.now) b.now) letters.now }
 {
-    let at = b.len() - letters.len();
-    for i in 0..letters.len() {
-        if b[at + i] != letters[i] {
-            return false;
-        }
-    }
-    true
+    b.ends_with(letters)
 }
 
 // The boats of a fleet book.

@@ -1,5 +1,4 @@
 -- `files::u16_at` meets its contract.
-use borrow.Author.Rules.{rules}
 use native.Mathlib.Omega.{arith}
 use Rattle.files.proofs.Numbers.{number_2}
 use Rattle.files.proofs.u16_at.Goals as goal

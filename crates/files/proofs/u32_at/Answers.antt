@@ -1,5 +1,4 @@
 -- `files::u32_at` meets its contract: the number in its two halves.
-use borrow.Author.Rules.{rules}
 use native.Mathlib.Omega.{arith}
 use Rattle.files.proofs.Numbers.{number_add}
 use Rattle.files.proofs.u32_at.Goals as goal
