@@ -25,8 +25,8 @@ pub fn total(list: &[u8]) -> usize
     ensures { result ≡ sum list.now }
 {
     let mut n: usize = 0;
-    for i in 0..list.len() {
-        n += list[i] as usize;
+    for factor in list {
+        n += *factor as usize;
     }
     n
 }
@@ -47,8 +47,8 @@ pub fn factor_total(sheet: &[u8]) -> usize
 fn are_ones(list: &[u8]) -> bool
     ensures { result ≡ all_ones list.now }
 {
-    for i in 0..list.len() {
-        if list[i] != 1 {
+    for factor in list {
+        if *factor != 1 {
             return false;
         }
     }
