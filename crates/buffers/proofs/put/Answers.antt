@@ -1,6 +1,5 @@
 -- `buffers::put` meets its contract; `Inv-loop` is what its loop keeps.
 use borrow.Author.Rules.{rules}
-use Prim.Native.Nat.{◌-◌}
 use Rattle.buffers.proofs.Writing.{put_start, put_more, put_end}
 use Rattle.buffers.proofs.put.Goals as goal
 

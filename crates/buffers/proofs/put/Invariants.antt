@@ -1,6 +1,4 @@
 -- `buffers::put` meets its contract; `Inv-loop` is what its loop keeps.
-use borrow.Author.Rules.{rules}
-use Prim.Native.Nat.{◌-◌}
 use Rattle.buffers.proofs.Writing.{Putting}
 use Rattle.buffers.proofs.put.Given as goal
 

@@ -1,24 +1,13 @@
--- `buffers::put_bytes` meets its contract: the bytes that are left are still to be put.
-use borrow.Author.Rules.{rules}
+-- `buffers::put_bytes` meets its contract: the bytes are the part that is lent.
+use Prim.Native.Nat.{◌+◌}
 use native.Mathlib.Omega.{arith}
-use Prim.Native.Nat.{◌-◌}
-use Rattle.buffers.proofs.Writing.{copying_start, copying_more, copying_end}
+use borrow.Rule.Slice.PartMut.{Post-is}
+use lib.ListN.{length}
+use Rattle.buffers.specs.Placed.{placed}
 use Rattle.buffers.proofs.put_bytes.Goals as goal
 
-pub loop-i-init : goal.loop-i-init
-loop-i-init c = copying_start
-
-pub overflow_add-output : goal.overflow_add-output
-overflow_add-output c = omega (arith, c.loop-i.invariant.so_far.long)
-
-pub bounds-output-at : goal.bounds-output-at
-bounds-output-at c = omega (arith, c.loop-i.invariant.so_far.long)
-
-pub loop-i-preserved : goal.loop-i-preserved
-loop-i-preserved c = search (rules, copying_more)
-
-pub shape_of-output : goal.shape_of-output
-shape_of-output c = c.loop-i.invariant.so_far.long
-
 pub returns : goal.returns
-returns c = search (rules, copying_end)
+unfolding placed
+returns c =
+    let at = c.args.at in
+    rw (Post-is at (at + length c.args.bytes.now) c.args.output.now (omega arith), c.copy_from_slice.ensures.after)
