@@ -2,7 +2,7 @@
 use mathlib.Core.Path.{◌≡◌, refl, sym, ap, ◌∙◌}
 use mathlib.Core.Bool.{Bool, true, false, cond}
 use mathlib.Core.List.{List, [], ◌∷◌}
-use Prim.Native.Nat.{ℕ, suc, ◌+◌, ◌*◌, ◌-◌, ◌/◌, ◌%◌, ◌≤◌, ◌<◌}
+use Prim.Native.Nat.{ℕ, zero, suc, ◌+◌, ◌*◌, ◌-◌, ◌/◌, ◌%◌, ◌≤◌, ◌<◌}
 use native.Mathlib.Omega.{arith}
 use borrow.Author.Tests.{eq-eqb, ne_eqb, lt-ltb, le-ltb}
 use lib.Dec.{eqb}
@@ -91,6 +91,12 @@ module _ (b s : List ℕ) {r : ℕ} {t : Text} where
     pub told_other : (r ≡ 6 → ⊥) → (r ≡ 13 → ⊥) → (r ≡ 17 → ⊥) → Holds [] t → Holds (detail b s r) t
     unfolding detail line_of
     told_other x y z h = rw (eq-eqb (files_refusal b s) r e, ne_eqb r 6 x, ne_eqb r 13 y, ne_eqb r 17 z) h
+
+-- accepted files have no line
+pub accepted : (b s : List ℕ) (r : ℕ) {t : Text} → 0 ≡ files_refusal b s → Holds [] t → Holds (detail b s r) t
+unfolding detail line_of
+accepted b s zero e h = rw (← e) h
+accepted b s (suc r) e h = rw (← e, ne_eqb 0 (suc r) (λ z. omega (arith, z))) h
 
 -- ---- the row of the first boat
 different : (xs ys : List ℕ) → (length xs ≡ length ys → ⊥) → same xs ys ≡ false

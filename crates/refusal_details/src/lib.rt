@@ -195,7 +195,10 @@ pub fn known_detail(book: &[u8], sheet: &[u8], refusal: u32) -> Text
 pub fn detail(book: &[u8], sheet: &[u8], refusal: u32) -> Text
     ensures { Holds (detail book.now sheet.now refusal) result }
 {
-    if validation::files_refusal(book, sheet) != refusal {
+    let Err(reason) = validation::files_refusal(book, sheet) else {
+        return Text::empty();
+    };
+    if reason.number() != refusal {
         return Text::empty();
     }
     known_detail(book, sheet, refusal)

@@ -1,10 +1,10 @@
 -- `refusal_details::detail` meets its contract.
-use mathlib.Core.Path.{sym, ◌∙◌}
-use Rattle.refusal_details.proofs.Lines.{not_refused}
+use mathlib.Core.Path.{◌∙◌}
+use Rattle.refusal_details.proofs.Lines.{not_refused, accepted}
 use Rattle.refusal_details.proofs.detail.Goals as goal
 
-pub returns-then-files_refusal-refusal : goal.returns-then-files_refusal-refusal
-returns-then-files_refusal-refusal c = not_refused _ _ c.files_refusal.ensures c.if-files_refusal-refusal.true c.empty.ensures
+pub returns-in_default : goal.returns-in_default
+returns-in_default c = accepted _ _ _ c.in_default.ensures c.empty.ensures
 
-pub known_detail-requires : goal.known_detail-requires
-known_detail-requires c = sym c.files_refusal.ensures ∙ c.if-files_refusal-refusal.false
+pub returns-then-number-refusal : goal.returns-then-number-refusal
+returns-then-number-refusal c = not_refused _ _ c.in-Err.ensures (λ e. c.if-number-refusal.true (c.number.ensures ∙ e)) c.empty-then-number-refusal.ensures
