@@ -88,14 +88,7 @@ fn derived_answer(
     let n = derived_files::put_book(&mut own_book, book, factors);
     let mut own_sheet = [0u8; 144];
     let m = derived_files::put_sheet(&mut own_sheet, sheet, factors);
-    plain_answer(
-        test,
-        &own_book[..n],
-        &own_sheet[..m],
-        table,
-        shares,
-        t,
-    )
+    plain_answer(test, &own_book[..n], &own_sheet[..m], table, shares, t)
 }
 
 // The answer of the first shares, one a boat, after t steps, judged by the test.
