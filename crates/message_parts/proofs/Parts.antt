@@ -22,10 +22,10 @@ module _ (s : List ℕ) {old new : List ℕ} {at i : ℕ} (d : Copying old at (m
   shown_more h e = rw (e ∙ sym (get_or_shown s i h)) (copying_more d (rw (length-map s shown) (omega arith)) (rw (length-map s shown) h))
 
 pub shown_end : {t : Text} (s : List ℕ) {new : List ℕ} {i : ℕ} → Copying t.bytes t.len (map shown s) i new → t.len + length s ≤ text_limit → length t.bytes ≡ text_limit → length s ≤ i →
-    Adds t (map shown s) (record { bytes = new; len = t.len + i })
+    Adds t (map shown s) (record { bytes = new; len = t.len + length s })
 shown_end {t} s d r l h =
     let e : length (map shown s) ≡ length s = length-map s shown in
-    adds_placed (rw e r) l (copying_end d (rw e h)) (omega (arith, d.within))
+    adds_placed (rw e r) l (copying_end d (rw e h)) (omega (arith, d.within, e))
 
 -- ---- nothing added
 pub nothing_added : (t : Text) → t.len ≤ text_limit → Adds t [] t

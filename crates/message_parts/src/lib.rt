@@ -23,14 +23,12 @@ pub fn with_shown(text: Text, name: &[u8]) -> Text
 {
     let start = text.len;
     let mut bytes = text.bytes;
-    let mut i = 0;
-    while i < name.len() {
-        bytes[start + i] = shown(name[i]);
-        i += 1;
+    for (i, byte) in name.iter().enumerate() {
+        bytes[start + i] = shown(*byte);
     }
     Text {
         bytes,
-        len: start + i,
+        len: start + name.len(),
     }
 }
 

@@ -1,5 +1,4 @@
 -- `message_parts::with_part` meets its contract.
-use borrow.Author.Rules.{rules}
 use Rattle.message_parts.proofs.Parts.{part_none, part_some}
 use Rattle.message_parts.proofs.with_part.Goals as goal
 
