@@ -47,8 +47,8 @@ pub fn checksum(bytes: &[u8]) -> u64
     ensures { result ≡ checksum bytes.now }
 {
     let mut sum = 0;
-    for i in 0..bytes.len() {
-        sum = (257 * sum + wide(bytes[i])) % 1000003;
+    for byte in bytes {
+        sum = (257 * sum + wide(*byte)) % 1000003;
     }
     sum
 }
@@ -90,8 +90,8 @@ pub fn put_bytes(buffer: &mut [u8], at: usize, bytes: &[u8]) -> usize
     ensures { Puts buffer.old at bytes.now buffer.new result }
 {
     let mut next = at;
-    for i in 0..bytes.len() {
-        next = put(buffer, next, bytes[i]);
+    for byte in bytes {
+        next = put(buffer, next, *byte);
     }
     next
 }

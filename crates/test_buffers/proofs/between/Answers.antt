@@ -1,5 +1,4 @@
 -- `test_buffers::between` meets its contract.
-use borrow.Author.Rules.{rules}
 use borrow.Author.Tests.{le-leb, lt-leb}
 use Rattle.test_buffers.specs.Buffers.{part}
 use Rattle.test_buffers.proofs.between.Goals as goal

@@ -1,12 +1,11 @@
 -- `test_buffers::checksum` meets its contract.
 use borrow.Author.Rules.{rules}
 use native.Mathlib.Omega.{arith}
-use Prim.Native.Nat.{◌-◌}
 use Rattle.test_buffers.proofs.Sums.{sum_more, sum_end}
 use Rattle.test_buffers.proofs.checksum.Goals as goal
 
-pub loop-i-preserved : goal.loop-i-preserved
-loop-i-preserved c = (omega arith, sum_more c.args.bytes.now c.loop-i.i c.loop-i.sum c.loop-i.invariant.1 (search rules) c.wide.ensures.value)
+pub loop-byte-preserved : goal.loop-byte-preserved
+loop-byte-preserved c = (omega arith, sum_more c.args.bytes.now c.loop-byte.byte-index c.loop-byte.sum c.loop-byte.invariant.1 (search rules) c.wide.ensures.value)
 
 pub returns : goal.returns
-returns c = sum_end c.args.bytes.now c.loop-i.i c.loop-i.sum c.loop-i.invariant.1 (search rules)
+returns c = sum_end c.args.bytes.now c.loop-byte.byte-index c.loop-byte.sum c.loop-byte.invariant.1 (search rules)

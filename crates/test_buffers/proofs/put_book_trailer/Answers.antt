@@ -1,5 +1,4 @@
 -- `test_buffers::put_book_trailer` meets its contract.
-use borrow.Author.Rules.{rules}
 use Rattle.files.specs.Bytes.{number_bytes}
 use Rattle.test_buffers.proofs.Putting.{puts_then}
 use Rattle.test_buffers.proofs.put_book_trailer.Goals as goal

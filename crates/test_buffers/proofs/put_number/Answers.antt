@@ -1,6 +1,5 @@
 -- `test_buffers::put_number` meets its contract.
 use borrow.Author.Rules.{rules}
-use Prim.Native.Nat.{◌-◌}
 use native.Mathlib.Nat.{sub-zero}
 use Rattle.test_buffers.proofs.Putting.{putting_start, number_end, number_more}
 use Rattle.test_buffers.proofs.put_number.Goals as goal

@@ -1,5 +1,4 @@
 -- `test_buffers::put_number` meets its contract.
-use borrow.Author.Rules.{rules}
 use Prim.Native.Nat.{◌-◌}
 use Rattle.files.specs.Bytes.{number_bytes}
 use Rattle.test_buffers.proofs.Putting.{Putting}
