@@ -1,7 +1,7 @@
 -- The columns of a derived file, by number, and the bytes of a row in these columns, as the loops write them.
 use mathlib.Core.Path.{◌≡◌, refl, ap, ◌∙◌}
 use mathlib.Core.List.{List, [], ◌∷◌, ◌++◌}
-use Prim.Native.Nat.{ℕ, suc, ◌+◌, ◌*◌, ◌-◌, ◌≤◌, ◌<◌}
+use Prim.Native.Nat.{ℕ, suc, ◌+◌, ◌*◌, ◌≤◌, ◌<◌}
 use native.Mathlib.Omega.{arith}
 use native.Mathlib.Numerals.{add-one}
 use lib.ListN.{length, get_or, drop, set, replicate, length-append, length-replicate, length-set, drop_of_length-le}
@@ -11,26 +11,6 @@ use Rattle.buffers.specs.Placed.{placed}
 use Rattle.buffers.proofs.Placing.{placed_set, placed_then}
 use Rattle.buffers.proofs.Writing.{Writing, writing_start, writing_room, writing_more, writing_end}
 use Rattle.derived_files.specs.Places.{places, cells}
-
--- ---- one column
-pub record Filling (out : List ℕ) (at times column i : ℕ) (now : List ℕ) : Type 0 where
-  pub within : i ≤ times
-  pub written : Writing out at (replicate times column) (at + i) (replicate (times - i) column) now
-
-pub fill_start : {out : List ℕ} {at times column : ℕ} → Filling out at times column 0 out
-fill_start {at = at} {times = times} =
-    let e : times - 0 ≡ times = omega arith in
-    let p : at + 0 ≡ at = omega arith in
-    record { within = omega arith; written = rw (e, p) writing_start }
-
-module _ {out : List ℕ} {at times column i : ℕ} {now : List ℕ} (d : Filling out at times column i now) where
-  pub fill_more : at + times ≤ length out → i < times → Filling out at times column (i + 1) (set now (at + i) column)
-  fill_more h k =
-      let e : times - i ≡ suc (times - (i + 1)) = omega arith in
-      record { within = omega arith; written = writing_more d.written (column ∷ []) (replicate (times - (i + 1)) column) (rw e) (omega (arith, length-replicate times column)) (omega arith) (placed_set now (at + i) column (omega (arith, d.written.long))) }
-
-  pub fill_end : times ≤ i → now ≡ placed out at (replicate times column)
-  fill_end h = let e : times - i ≡ 0 = omega arith in writing_end d.written (rw e)
 
 -- ---- the places of all columns
 pub length_places : (j : ℕ) (fs : List ℕ) → length (places j fs) ≡ sum fs

@@ -25,10 +25,9 @@ fn put_column(list: &mut [u8], at: usize, times: usize, column: usize) -> usize
     ensures value { result ≡ at + times }
     ensures list_after { list.new ≡ placed list.old at (replicate times column) }
 {
-    for i in 0..times {
-        list[at + i] = column as u8;
-    }
-    at + times
+    let end = at + times;
+    list[at..end].fill(column as u8);
+    end
 }
 
 // The columns of a derived file by number, from the list's first byte on; gives back how many.
@@ -39,8 +38,8 @@ fn put_places(list: &mut [u8], factors: &[u8]) -> usize
     ensures list_after { list.new ≡ placed list.old 0 (places 0 factors.now) }
 {
     let mut at = 0;
-    for j in 0..factors.len() {
-        at = put_column(list, at, index(factors[j]), j);
+    for (j, factor) in factors.iter().enumerate() {
+        at = put_column(list, at, index(*factor), j);
     }
     at
 }
@@ -51,8 +50,8 @@ fn copy_row(output: &mut [u8], at: usize, bytes: &[u8], from: usize, places: &[u
     requires inside { Inside bytes.now from places.now }
     ensures { output.new ≡ placed output.old at (cells bytes.now from places.now) }
 {
-    for k in 0..places.len() {
-        let cell = from + 2 * index(places[k]);
+    for (k, place) in places.iter().enumerate() {
+        let cell = from + 2 * index(*place);
         let low = bytes[cell];
         let high = bytes[cell + 1];
         output[at + 2 * k] = low;

@@ -3,7 +3,6 @@ use native.Mathlib.Omega.{arith}
 use lib.ListN.{replicate}
 use Rattle.files.proofs.Accepted.{book_accepted}
 use Rattle.derived_files.proofs.Files.{places_long, places_taken, places_serve, derived_cells, book_put}
-use borrow.Author.Rules.{rules}
 use Rattle.derived_files.proofs.put_book.Goals as goal
 
 pub boats-boats-requires : goal.boats-boats-requires

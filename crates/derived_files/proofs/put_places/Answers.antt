@@ -1,10 +1,7 @@
 -- `derived_files::put_places` meets its contract. The loop keeps `Placing`: the places of the columns before j are written, each as often as its factor says.
 -- A turn writes column j so often by `put_column`.
--- It ends: the columns that are left fall by one.
 use native.Mathlib.Omega.{arith}
-use Prim.Native.Nat.{◌-◌}
 use Rattle.derived_files.proofs.Columns.{places_start, place_room, places_next, places_end}
-use borrow.Author.Rules.{rules}
 use Rattle.derived_files.proofs.put_places.Goals as goal
 
 pub loop-j-init : goal.loop-j-init

@@ -1,11 +1,6 @@
 -- `derived_files::put_places` meets its contract. The loop keeps `Placing`: the places of the columns before j are written, each as often as its factor says.
 -- A turn writes column j so often by `put_column`.
--- It ends: the columns that are left fall by one.
-use native.Mathlib.Omega.{arith}
-use Prim.Native.Nat.{◌-◌}
-use lib.ListN.{length}
 use Rattle.derived_files.proofs.Columns.{Placing}
-use borrow.Author.Rules.{rules}
 use Rattle.derived_files.proofs.put_places.Given as goal
 
 abbrev pub invariant-loop-j : goal.invariant-loop-j

@@ -1,12 +1,10 @@
 -- `derived_files::put_rows` meets its contract. The loop keeps `Rowing`: the rows of the first i boats are written, each column as often as its factor says.
 -- A turn writes the row of boat i behind them by `copy_row`.
--- It ends: the boats that are left fall by one.
 use native.Mathlib.Omega.{arith}
-use Prim.Native.Nat.{◌-◌, ◌<◌}
+use Prim.Native.Nat.{◌<◌}
 use Rattle.files.specs.Book.{boats}
 use Rattle.files.proofs.Accepted.{book_accepted}
 use Rattle.derived_files.proofs.Rows.{row_starts, cell_starts, row_inside, rowing_start, row_room, rowing_more, rowing_end}
-use borrow.Author.Rules.{rules}
 use Rattle.derived_files.proofs.put_rows.Goals as goal
 
 pub boats-boats-requires : goal.boats-boats-requires

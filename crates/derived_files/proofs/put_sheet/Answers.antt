@@ -2,7 +2,6 @@
 use native.Mathlib.Omega.{arith}
 use lib.ListN.{replicate}
 use Rattle.derived_files.proofs.Files.{places_long, places_taken, target_inside, sheet_put}
-use borrow.Author.Rules.{rules}
 use Rattle.derived_files.proofs.put_sheet.Goals as goal
 
 pub slice_bounds-copy_row-end : goal.slice_bounds-copy_row-end
