@@ -18,9 +18,7 @@ pub fn clear(list: &mut [u16], count: usize)
     requires { count ≤ length list.old }
     ensures { list.new ≡ replicate count 0 ++ drop count list.old }
 {
-    for i in 0..count {
-        list[i] = 0;
-    }
+    list[..count].fill(0);
 }
 
 // The run of files and shares that are not refused, with every factor 1: steps until one stops it. It leaves the shares in the first slots, one a boat.

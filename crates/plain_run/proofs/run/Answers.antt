@@ -10,7 +10,6 @@ use Rattle.run_loop.proofs.Memory.{room_for, room_always}
 use Rattle.run_loop.proofs.Runs.{first_weight, first_done}
 use Rattle.run_loop.proofs.Keeping.{boats_fit, share_room, shares_next, cleared, cleared_shares, cleared_rest, behind, shared_end, scores_start, scores_for}
 use native.Mathlib.Omega.{arith}
-use borrow.Author.Rules.{rules}
 use Rattle.plain_run.proofs.run.Goals as goal
 
 pub clear-requires : goal.clear-requires
