@@ -1,7 +1,7 @@
 -- The rows of two books put one after the other: what the loop over the second book keeps, and its laws.
 use mathlib.Core.Path.{◌≡◌, refl, sym, ap, ◌∙◌}
 use mathlib.Core.Bool.{Bool, true, false}
-use mathlib.Core.List.{List, [], ◌∷◌, ◌++◌}
+use mathlib.Core.List.{List, [], ◌∷◌}
 use Prim.Native.Nat.{ℕ, suc, ◌+◌, ◌*◌, ◌-◌, ◌≤◌, ◌<◌}
 use native.Mathlib.Nat.{suc-mul, add-mul, zero-mul, mul-le-mul, mul-le-mul_right}
 use native.Mathlib.Numerals.{add-one}

@@ -9,12 +9,13 @@ ghost use Rattle.files.specs.Book.{columns, rows_from, book_refusal};
 ghost use Rattle.method.specs.Answers.{slots_after};
 ghost use Rattle.buffers.specs.Placed.{placed};
 ghost use Rattle.book_output.specs.Output.{rows_bytes};
-ghost use Rattle.merged_book.specs.Merging.{is_among, with_row, merged_rows, merged_book, merge_refusal, merging};
+ghost use Rattle.refusals.specs.Numbers.{refusal_number};
+ghost use Rattle.merged_book.specs.Merging.{is_among, with_row, merged_rows, merged_book, merge_refusal, merging, as_merged};
 ghost use Rattle.merged_book.specs.Promise.{MergeRight};
 ghost use Rattle.merge_books.specs.Putting.{new_bytes};
 
 use buffers::put_bytes;
-use merged_book::Merged;
+use refusals::Refusal;
 
 // The most boats of a book.
 const MOST_BOATS: usize = 256;
@@ -79,56 +80,46 @@ fn put_rows(rows: &mut [u8], first: &[u8], second: &[u8]) -> usize
     count
 }
 
-// A refusal by `n`: no byte was written.
-fn refused(n: u32) -> Merged
-    ensures { result ≡ record { refusal = n; len = 0 } }
-{
-    Merged { refusal: n, len: 0 }
-}
-
-// `merge_books` for a caller who has judged the first book and hands in the number that refuses it, 0 where none does: it is not judged again.
-pub fn merge_known(first: &[u8], second: &[u8], output: &mut [u8], of_first: u32) -> Merged
-    requires { of_first ≡ book_refusal first.now }
-    ensures value { result ≡ merging (merge_refusal first.now second.now (length output.old)) (length (merged_book first.now second.now)) }
+// `merge_books` for a caller who has judged the first book and hands in what came of it: it is not judged again.
+pub fn merge_known(
+    first: &[u8],
+    second: &[u8],
+    output: &mut [u8],
+    of_first: Result<(), Refusal>,
+) -> Result<usize, Refusal>
+    requires { refusal_number of_first ≡ book_refusal first.now }
+    ensures value { as_merged result ≡ merging (merge_refusal first.now second.now (length output.old)) (length (merged_book first.now second.now)) }
     ensures output_after { output.new ≡ slots_after (merge_refusal first.now second.now (length output.old)) (merged_book first.now second.now) output.old }
-    ensures merge_right { MergeRight first.now second.now result output.new }
+    ensures merge_right { MergeRight first.now second.now (as_merged result) output.new }
 {
-    if of_first != 0 {
-        return refused(of_first);
-    }
-    let of_second = validation::book_refusal(second);
-    if of_second != 0 {
-        return refused(of_second);
-    }
+    of_first?;
+    validation::book_refusal(second)?;
     let columns = files::columns(first);
     if columns != files::columns(second) {
-        return refused(55);
+        return Err(Refusal::MergedColumns);
     }
     let mut rows = [0u8; 32896];
     let boats = put_rows(&mut rows, first, second);
     if MOST_BOATS < boats {
-        return refused(56);
+        return Err(Refusal::MergedBoats);
     }
     let back = 2 * (boats * columns);
     if output.len() < back + 12 {
-        return refused(57);
+        return Err(Refusal::MergedRoom);
     }
     put_bytes(output, 0, &rows[..back]);
     book_output::put_book_trailer(output, back, boats, columns);
-    Merged {
-        refusal: 0,
-        len: back + 12,
-    }
+    Ok(back + 12)
 }
 
 // ENTRY. One fleet book from two, written to the first bytes of `output` without front text: the first book's rows, then each row of the
 // second that equals no row before it. Refuses the first book, then the second (1 to 6), then columns that differ (55), more than 256
 // boats (56) and a buffer shorter than the merged book (57), and leaves the buffer as it was; else gives the merged book's length. Later
 // bytes are as they were. The third clause says what holds of the rows and of every mixture of them (MergeRight).
-pub fn merge_books(first: &[u8], second: &[u8], output: &mut [u8]) -> Merged
-    ensures value { result ≡ merging (merge_refusal first.now second.now (length output.old)) (length (merged_book first.now second.now)) }
+pub fn merge_books(first: &[u8], second: &[u8], output: &mut [u8]) -> Result<usize, Refusal>
+    ensures value { as_merged result ≡ merging (merge_refusal first.now second.now (length output.old)) (length (merged_book first.now second.now)) }
     ensures output_after { output.new ≡ slots_after (merge_refusal first.now second.now (length output.old)) (merged_book first.now second.now) output.old }
-    ensures merge_right { MergeRight first.now second.now result output.new }
+    ensures merge_right { MergeRight first.now second.now (as_merged result) output.new }
 {
     merge_known(first, second, output, validation::book_refusal(first))
 }

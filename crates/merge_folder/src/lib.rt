@@ -2,6 +2,9 @@
 // printed and filed to the reference.
 
 #![tactic(auto)]
+
+use refusals::Refusal;
+
 // Says on standard error what is wrong with a file of a folder.
 fn tell_of(rt: &HostRuntime, folder: &[u8], name: &[u8], fault: &[u8]) {
     let path = paths::path_in(folder, name);
@@ -9,20 +12,23 @@ fn tell_of(rt: &HostRuntime, folder: &[u8], name: &[u8], fault: &[u8]) {
     file_io::tell(rt, file_io::first_bytes(&bytes, path.len), fault);
 }
 
-// Says on standard error which of two books is refused, by the number that refuses the first and the number that refuses the merge: one
-// of 1 to 6 is the second's where the first has none.
-fn tell_refused(rt: &HostRuntime, folder: &[u8], first: u32, refusal: u32) {
-    if first != 0 {
+// Says on standard error which of two books is refused, by what came of the first and of the merge: a number of 1 to 6 is the second's
+// where the first has none.
+fn tell_refused(
+    rt: &HostRuntime,
+    folder: &[u8],
+    first: Result<(), Refusal>,
+    merged: Result<usize, Refusal>,
+) {
+    if first.is_err() {
         tell_of(rt, folder, b"fleet.wbk", b": this book is refused\n");
         return;
     }
-    if refusal == 0 {
-        return;
+    if let Err(refusal) = merged {
+        if refusal.number() <= 6 {
+            tell_of(rt, folder, b"bought.wbk", b": this book is refused\n");
+        }
     }
-    if 6 < refusal {
-        return;
-    }
-    tell_of(rt, folder, b"bought.wbk", b": this book is refused\n");
 }
 
 // Files one book from fleet.wbk and bought.wbk of a folder there as merged.wbk, without front text, and prints its boats and columns. The
@@ -36,11 +42,11 @@ pub fn file_merged(rt: &HostRuntime, folder: &[u8]) {
     let mut output = [0u8; merged_book::MOST_BYTES];
     let listed = merge_listing::merge_text(&first[..n], &second[..m], &mut output);
     let merged = listed.merged;
-    tell_refused(rt, folder, listed.first, merged.refusal);
+    tell_refused(rt, folder, listed.first, merged);
     let path = paths::path_in(folder, b"merged.wbk");
     let bytes = path.bytes;
     let name = file_io::first_bytes(&bytes, path.len);
-    if file_io::replace_or_leave(rt, name, &output, merged.len) {
+    if file_io::replace_or_leave(rt, name, &output, merged.unwrap_or(0)) {
         file_io::print(rt, listed.text);
     }
 }

@@ -1,20 +1,22 @@
 -- The line of what was written is that of the merged book.
-use mathlib.Core.Path.{◌≡◌, refl}
+use mathlib.Core.Path.{◌≡◌, refl, ap}
 use mathlib.Core.List.{List, []}
-use Prim.Native.Nat.{ℕ, zero, suc, ◌-◌}
+use Prim.Native.Nat.{ℕ, zero, suc}
 use native.Mathlib.Omega.{arith}
-use lib.ListN.{length, take, drop}
+use lib.ListN.{length, take}
 use lib.Seq.{take_at}
-use Rattle.files.specs.Book.{boats, columns, book_refusal}
+use Rattle.files.specs.Book.{boats, columns}
 use Rattle.method.specs.Answers.{slots_after}
 use Rattle.text.specs.Lines.{pair_line}
 use Rattle.text.specs.Texts.{Holds, Adds}
 use Rattle.text.specs.declared.Text.{Text}
 use Rattle.text.proofs.Texts.{adds_to_empty}
 use Rattle.listing.specs.Lines.{fleet_word, refused_line}
-use Rattle.merged_book.specs.declared.Merged.{Merged}
-use Rattle.merged_book.specs.Merging.{merging}
-use Rattle.merged_book.specs.Promise.{MergeRight}
+use Rattle.std.specs.Prelude.{Ok, Err}
+use Rattle.refusals.specs.declared.Refusal.{Refusal}
+use Rattle.refusals.specs.Numbers.{number}
+use Rattle.refusals.proofs.Numbers.{positive}
+use Rattle.merged_book.specs.Merging.{merging, as_merged}
 use Rattle.merge_listing.specs.Listings.{merge_line}
 
 module _ {t u : Text} (n : ℕ) (b : List ℕ) where
@@ -30,12 +32,17 @@ module _ {t u : Text} (n : ℕ) (b : List ℕ) where
   book_listed e ek ec p q = rw e (adds_to_empty p (rw (ek, ec) at q))
 
 -- what was written is the merged book
-pub merge_listed : (n : ℕ) (bs out : List ℕ) {r : Merged} {now : List ℕ} {t : Text} → r ≡ merging n (length bs) → now ≡ slots_after n bs out →
-    Holds (merge_line r.refusal (take (r.len - 0) (drop 0 now))) t → Holds (merge_line n bs) t
+pub merge_listed : (n : ℕ) (bs out : List ℕ) {size : ℕ} {now : List ℕ} {t : Text} → as_merged (Ok size) ≡ merging n (length bs) → now ≡ slots_after n bs out →
+    Holds (merge_line 0 (take size now)) t → Holds (merge_line n bs) t
 unfolding merging slots_after merge_line
-merge_listed zero bs out {r} {now} er ew h = let z : length bs - 0 ≡ length bs = omega arith in rw (er, ew, z, take_at bs _ (length bs) refl) at h
-merge_listed (suc n) bs out er ew h = rw er at h
+merge_listed zero bs out {size} er ew h = let z : size ≡ length bs = ap (λ r. r.len) er in rw (ew, z, take_at bs _ (length bs) refl) at h
+merge_listed (suc n) bs out er ew h = absurd (omega (arith, ap (λ r. r.refusal) er))
 
--- and it is accepted where nothing is refused
-pub part_accepted : {a b : List ℕ} {r : Merged} {now : List ℕ} → MergeRight a b r now → r.refusal ≡ 0 → book_refusal (take (r.len - 0) (drop 0 now)) ≡ 0
-part_accepted {r = r} d h = let z : r.len - 0 ≡ r.len = omega arith in rw z (d.wrote h).accepted
+refusal_is : (n size : ℕ) (e : Refusal) → as_merged (Err e) ≡ merging n size → number e ≡ n
+unfolding merging
+refusal_is zero size e er = ap (λ r. r.refusal) er
+refusal_is (suc n) size e er = ap (λ r. r.refusal) er
+
+pub reason_listed : (n : ℕ) (bs : List ℕ) (e : Refusal) {t u : Text} → as_merged (Err e) ≡ merging n (length bs) → Holds [] t → Adds t (refused_line (number e)) u →
+    Holds (merge_line n bs) u
+reason_listed n bs e er p q = rw (refusal_is n (length bs) e er) at (refused_listed (number e) bs (positive e) p q)

@@ -4,32 +4,30 @@
 #![tactic(auto)]
 
 ghost use Rattle.std.specs.Prelude.{◌≡◌, length};
+ghost use Rattle.refusals.specs.Numbers.{number, refusal_number};
 ghost use Rattle.files.specs.Book.{book_refusal};
 ghost use Rattle.method.specs.Answers.{slots_after};
 ghost use Rattle.text.specs.Texts.{Holds};
-ghost use Rattle.merged_book.specs.Merging.{merged_book, merge_refusal, merging};
+ghost use Rattle.merged_book.specs.Merging.{merged_book, merge_refusal, merging, as_merged};
 ghost use Rattle.merged_book.specs.Promise.{MergeRight};
 ghost use Rattle.merge_listing.specs.Listings.{merge_line};
 
-use merged_book::Merged;
+use refusals::Refusal;
 use text::Text;
 
-// What two books leave to be filed and to be said, and the number that refuses the first of them, 0 where none does.
+// What came of two books, how many bytes are to be filed or why they are refused; what came of the first of them alone; and what is to be said.
 #[derive(Clone, Copy)]
 pub struct Listed {
-    pub merged: Merged,
-    pub first: u32,
+    pub merged: Result<usize, Refusal>,
+    pub first: Result<(), Refusal>,
     pub text: Text,
 }
 
-// The line of a book, or of the number that refuses.
-fn line_of(book: &[u8], refusal: u32) -> Text
-    requires { refusal ≡ 0 → book_refusal book.now ≡ 0 }
-    ensures { Holds (merge_line refusal book.now) result }
+// The line of a book.
+fn book_line(book: &[u8]) -> Text
+    requires { book_refusal book.now ≡ 0 }
+    ensures { Holds (merge_line 0 book.now) result }
 {
-    if refusal != 0 {
-        return Text::empty().with_line(b"refused ", refusal as u64);
-    }
     let boats = files::boats(book);
     let columns = files::columns(book);
     Text::empty().with_pair(b"fleet ", boats as u64, columns as u64)
@@ -38,17 +36,18 @@ fn line_of(book: &[u8], refusal: u32) -> Text
 // ENTRY. One fleet book from two, as `merge_books` writes it, and its line. Where a book is refused, the second clause tells which. The last
 // clause says what holds of the merged book, as `merge_books` promises it.
 pub fn merge_text(first: &[u8], second: &[u8], output: &mut [u8]) -> Listed
-    ensures merged_value { result.merged ≡ merging (merge_refusal first.now second.now (length output.old)) (length (merged_book first.now second.now)) }
-    ensures first_value { result.first ≡ book_refusal first.now }
+    ensures merged_value { as_merged result.merged ≡ merging (merge_refusal first.now second.now (length output.old)) (length (merged_book first.now second.now)) }
+    ensures first_value { refusal_number result.first ≡ book_refusal first.now }
     ensures output_after { output.new ≡ slots_after (merge_refusal first.now second.now (length output.old)) (merged_book first.now second.now) output.old }
     ensures holds { Holds (merge_line (merge_refusal first.now second.now (length output.old)) (merged_book first.now second.now)) result.text }
-    ensures merge_right { MergeRight first.now second.now result.merged output.new }
+    ensures merge_right { MergeRight first.now second.now (as_merged result.merged) output.new }
 {
     let of_first = validation::book_refusal(first);
     let merged = merge_books::merge_known(first, second, output, of_first);
-    let start = 0;
-    let len = merged.len;
-    let text = line_of(&output[start..len], merged.refusal);
+    let text = match merged {
+        Ok(len) => book_line(&output[..len]),
+        Err(refusal) => Text::empty().with_line(b"refused ", refusal.number() as u64),
+    };
     Listed {
         merged,
         first: of_first,

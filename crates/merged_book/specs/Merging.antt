@@ -1,5 +1,7 @@
 -- One fleet book from two: its rows, its bytes, what refuses the call and what it gives back. Definitions only.
-use Rattle.std.specs.Prelude.{Bool, true, false, ◌&&◌, ◌||◌, not, cond, List, [], ◌∷◌, ◌++◌, ℕ, zero, suc, eqb, ltb, length, ℤ, pos, negsuc}
+use Rattle.std.specs.Prelude.{Bool, true, false, ◌&&◌, ◌||◌, not, cond, List, [], ◌∷◌, ◌++◌, ℕ, zero, suc, eqb, ltb, length, ℤ, pos, negsuc, Result, Ok, Err}
+use Rattle.refusals.specs.declared.Refusal.{Refusal}
+use Rattle.refusals.specs.Numbers.{number}
 use Rattle.files.specs.Book.{columns, rows, book_refusal}
 use Rattle.book_output.specs.Output.{book_bytes}
 use Rattle.merged_book.specs.declared.Merged.{Merged}
@@ -60,3 +62,8 @@ merge_refusal a b room =
 unfoldable pub merging : (refusal size : ℕ) → Merged
 merging zero size = record { refusal = 0; len = size }
 merging (suc n) size = record { refusal = suc n; len = 0 }
+
+-- the same of a result of the code: how many bytes were written, or the reason
+abbrev pub as_merged : Result ℕ Refusal → Merged
+as_merged (Ok size) = record { refusal = 0; len = size }
+as_merged (Err r) = record { refusal = number r; len = 0 }

@@ -2,24 +2,33 @@
 // by tests/merges.py, the expected output by tests/expected/test_merge.py.
 #![tactic(auto)]
 
-use merged_book::Merged;
+use refusals::Refusal;
 use test_buffers::{between, u16_at};
 
 // One book from two in the first `room` bytes of a buffer, all of them where it has fewer.
-fn merged_within(first: &[u8], second: &[u8], output: &mut [u8], room: usize) -> Merged {
+fn merged_within(
+    first: &[u8],
+    second: &[u8],
+    output: &mut [u8],
+    room: usize,
+) -> Result<usize, Refusal> {
     if output.len() < room {
         return merge_books::merge_books(first, second, output);
     }
-    let start = 0;
-    merge_books::merge_books(first, second, &mut output[start..room])
+    merge_books::merge_books(first, second, &mut output[..room])
 }
 
-// Prints what is given back for two books and a buffer of `room` bytes, and a sum of all bytes of a longer one.
+// Prints what is given back for two books and a buffer of `room` bytes, the number that refuses them, 0 for none, and how many bytes were
+// written; and a sum of all bytes of a longer one.
 fn merged(rt: &HostRuntime, first: &[u8], second: &[u8], room: usize) {
     let mut output = [7u8; merged_book::MOST_BYTES];
     let made = merged_within(first, second, &mut output, room);
-    test_printing::line(rt, b"refused", made.refusal as u64);
-    test_printing::line(rt, b"bytes", made.len as u64);
+    let refused = match made {
+        Ok(_) => 0,
+        Err(refusal) => refusal.number(),
+    };
+    test_printing::line(rt, b"refused", refused as u64);
+    test_printing::line(rt, b"bytes", made.unwrap_or(0) as u64);
     test_printing::line(rt, b"sum", test_buffers::checksum(&output));
 }
 

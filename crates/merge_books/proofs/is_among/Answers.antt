@@ -3,8 +3,6 @@
 -- It ends: the rows that are left, count - i, fall by one.
 use native.Mathlib.Omega.{arith}
 use mathlib.Core.Path.{refl, ◌∙◌}
-use Prim.Native.Nat.{◌-◌}
-use borrow.Author.Rules.{rules}
 use Rattle.merge_books.proofs.Looking.{looking_start, looking_inside, looking_found, looking_more, looking_end, row_compared}
 use Rattle.merge_books.proofs.is_among.Goals as goal
 

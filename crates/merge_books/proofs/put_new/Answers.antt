@@ -3,7 +3,6 @@ use mathlib.Core.Path.{sym, ◌∙◌}
 use native.Mathlib.Omega.{arith}
 use Rattle.derived_files.proofs.Rows.{cells_most}
 use Rattle.merge_books.proofs.Putting.{put_known, put_fresh}
-use borrow.Author.Rules.{rules}
 use Rattle.merge_books.proofs.put_new.Goals as goal
 
 pub is_among-requires : goal.is_among-requires

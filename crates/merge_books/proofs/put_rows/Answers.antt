@@ -3,9 +3,8 @@
 -- It ends: the rows that are left, boats - i, fall by one.
 use native.Mathlib.Omega.{arith}
 use mathlib.Core.Path.{refl}
-use Prim.Native.Nat.{◌+◌, ◌*◌, ◌-◌, ◌<◌}
+use Prim.Native.Nat.{◌+◌, ◌*◌, ◌<◌}
 use Rattle.files.specs.Book.{boats}
-use borrow.Author.Rules.{rules}
 use Rattle.files.proofs.Accepted.{book_accepted}
 use Rattle.merge_books.proofs.Merging.{Pair, book_cells, body_inside, body_room, first_put, merging_start, row_inside, part_long, merging_more, merging_end, merging_full}
 use Rattle.merge_books.proofs.put_rows.Goals as goal

@@ -1,5 +1,5 @@
 -- `test_merge::each` meets its contract.
-use Prim.Native.Nat.{◌-◌, ◌≤◌}
+use Prim.Native.Nat.{◌≤◌}
 use Rattle.test_merge.proofs.each.Given as goal
 
 abbrev pub invariant-loop-number : goal.invariant-loop-number

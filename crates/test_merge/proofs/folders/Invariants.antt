@@ -1,5 +1,5 @@
 -- `test_merge::folders` meets its contract.
-use Prim.Native.Nat.{◌-◌, ◌≤◌}
+use Prim.Native.Nat.{◌≤◌}
 use Rattle.test_merge.proofs.folders.Given as goal
 
 abbrev pub invariant-loop-number : goal.invariant-loop-number
