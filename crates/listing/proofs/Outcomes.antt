@@ -12,9 +12,12 @@ use Rattle.files.specs.Book.{boats, columns}
 use Rattle.files.specs.Sheet.{sheet, files_refusal}
 use Rattle.files.proofs.Accepted.{files_accepted}
 use Rattle.method.specs.declared.Answer.{Answer}
-use Rattle.method.specs.Searched.{Searched}
-use Rattle.method.specs.Searched.{Refused, Answered}
-use Rattle.method.specs.Answers.{refusal_number, outcome, search_refusal, slots_after, search_refusal_with}
+use Rattle.std.specs.Prelude.{Result, Ok, Err}
+use Rattle.refusals.specs.declared.Refusal.{Refusal}
+use Rattle.refusals.specs.Numbers.{number, refusal_number}
+use Rattle.method.specs.Searched.{Searched, Answered, searched}
+use Rattle.method.specs.Answers as Answers
+use Rattle.method.specs.Answers.{outcome, search_refusal, slots_after, search_refusal_with}
 use Rattle.listing.specs.Lines.{refused_line, boat_lines, head_lines, listing_of, outcome_listing, Listable}
 use Rattle.text.specs.Texts.{Holds, Adds}
 use Rattle.text.specs.declared.Text.{Text}
@@ -37,17 +40,24 @@ pub answer_listed : {t u : Text} {n c tolerance steps : ℕ} (b s : List ℕ) (a
 unfolding outcome_listing listing_of
 answer_listed b s a slots en ec et es h p = rw (← en, ← ec, ← et, ← es) (holds_more h p)
 
-pub refusal_listed : {t : Text} {r : Searched} (b s slots : List ℕ) (n : ℕ) → r ≡ Refused n → Holds (refused_line n) t → (n ≡ refusal_number r) × Holds (outcome_listing b s r slots) t
-unfolding outcome_listing refusal_number
-refusal_listed b s slots n e h = rw e (refl, h)
+pub refusal_listed : {t : Text} {r : Result Answer Refusal} (b s slots : List ℕ) (e : Refusal) → r ≡ Err e → Holds (refused_line (number e)) t →
+    (number e ≡ refusal_number r) × Holds (outcome_listing b s (searched r) slots) t
+unfolding outcome_listing
+refusal_listed b s slots e q h = rw q (refl, h)
 
-pub outcome_listed : {t : Text} {r : Searched} (b s slots : List ℕ) (a : Answer) → r ≡ Answered a → Holds (outcome_listing b s (Answered a) slots) t → (0 ≡ refusal_number r) × Holds (outcome_listing b s r slots) t
-unfolding refusal_number
-outcome_listed b s slots a e h = rw e (refl, h)
+pub outcome_listed : {t : Text} {r : Result Answer Refusal} (b s slots : List ℕ) (a : Answer) → r ≡ Ok a → Holds (outcome_listing b s (Answered a) slots) t →
+    (0 ≡ refusal_number r) × Holds (outcome_listing b s (searched r) slots) t
+outcome_listed b s slots a q h = rw q (refl, h)
 
-pub listable_files : {r : Searched} (b s : List ℕ) (a : Answer) → r ≡ Answered a → Listable b s r → files_refusal b s ≡ 0
+pub listable_files : {r : Result Answer Refusal} (b s : List ℕ) (a : Answer) → r ≡ Ok a → Listable b s (searched r) → files_refusal b s ≡ 0
 unfolding Listable
-listable_files b s a e h = rw e at h
+listable_files b s a q h = rw q at h
+
+-- the number that a search or a card check comes to is that of what the code gives back
+pub number_searched : (r : Result Answer Refusal) → Answers.refusal_number (searched r) ≡ refusal_number r
+unfolding Answers.refusal_number
+number_searched (Ok a) = refl
+number_searched (Err e) = refl
 
 -- an answer is listable where no refusal of the files is left out
 pub listable : (b s : List ℕ) (n : ℕ) (a : Answer) → (n ≡ 0 → files_refusal b s ≡ 0) → Listable b s (outcome n a)

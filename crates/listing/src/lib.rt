@@ -5,12 +5,14 @@
 
 ghost use Rattle.std.specs.Prelude.{◌≡◌, ◌+◌, ◌≤◌, ◌<◌, take};
 ghost use Rattle.files.specs.Sheet.{files_refusal};
-ghost use Rattle.method.specs.Answers.{refusal_number};
+ghost use Rattle.refusals.specs.Numbers.{number, refusal_number};
+ghost use Rattle.method.specs.Searched.{Answered, searched};
 ghost use Rattle.text.specs.Lines.{pair_line};
 ghost use Rattle.text.specs.Texts.{text_limit, Holds, Adds};
 ghost use Rattle.listing.specs.Lines.{verdict_word, boat_line, boat_lines, head_lines, refused_line, outcome_listing, Listable};
 
-use method::{Answer, Searched, Verdict};
+use method::{Answer, Verdict};
+use refusals::Refusal;
 use text::Text;
 
 // The text followed by the line of a verdict after `steps` steps with the total `weight`.
@@ -66,7 +68,7 @@ fn head(boats: usize, columns: usize, tolerance: u32, steps: u32, a: Answer) -> 
 // The listing of an answer.
 fn answer_listing(book: &[u8], sheet: &[u8], a: Answer, shares: [u16; 256]) -> Text
     requires { files_refusal book.now sheet.now ≡ 0 }
-    ensures { Holds (outcome_listing book.now sheet.now (Searched.Answered a) shares) result }
+    ensures { Holds (outcome_listing book.now sheet.now (Answered a) shares) result }
 {
     let boats = files::boats(book);
     let begun = head(
@@ -79,33 +81,38 @@ fn answer_listing(book: &[u8], sheet: &[u8], a: Answer, shares: [u16; 256]) -> T
     with_boats(begun, shares, boats)
 }
 
-// A listing, and the number that refuses where it is a refusal's, else 0.
+// A listing, and the reason where it is a refusal's.
 #[derive(Clone, Copy)]
 pub struct Listed {
-    pub refusal: u32,
+    pub refusal: Result<(), Refusal>,
     pub text: Text,
 }
 
-// The listing of a number that refuses.
-pub fn refused_listing(n: u32) -> Text
-    ensures { Holds (refused_line n) result }
+// The listing of a refusal.
+pub fn refused_listing(refusal: Refusal) -> Text
+    ensures { Holds (refused_line (number refusal)) result }
 {
-    Text::empty().with_line(b"refused ", n as u64)
+    Text::empty().with_line(b"refused ", refusal.number() as u64)
 }
 
-// The listing of what a search or a card check of files gave back, with the shares it left, and its number.
-pub fn outcome_listing(book: &[u8], sheet: &[u8], outcome: Searched, shares: [u16; 256]) -> Listed
-    requires { Listable book.now sheet.now outcome }
-    ensures { (result.refusal ≡ refusal_number outcome) × Holds (outcome_listing book.now sheet.now outcome shares) result.text }
+// The listing of what a search or a card check of files gave back, with the shares it left, and the reason where it was refused.
+pub fn outcome_listing(
+    book: &[u8],
+    sheet: &[u8],
+    outcome: Result<Answer, Refusal>,
+    shares: [u16; 256],
+) -> Listed
+    requires { Listable book.now sheet.now (searched outcome) }
+    ensures { (refusal_number result.refusal ≡ refusal_number outcome) × Holds (outcome_listing book.now sheet.now (searched outcome) shares) result.text }
 {
     match outcome {
-        Searched::Refused(n) => Listed {
-            refusal: n,
-            text: refused_listing(n),
+        Err(refusal) => Listed {
+            refusal: Err(refusal),
+            text: refused_listing(refusal),
         },
-        Searched::Answered(a) => Listed {
-            refusal: 0,
-            text: answer_listing(book, sheet, a, shares),
+        Ok(answer) => Listed {
+            refusal: Ok(()),
+            text: answer_listing(book, sheet, answer, shares),
         },
     }
 }

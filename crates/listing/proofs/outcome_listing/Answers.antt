@@ -1,13 +1,12 @@
 -- `listing::outcome_listing` meets its contract.
 use Rattle.listing.proofs.Outcomes.{refusal_listed, outcome_listed, listable_files}
-use borrow.Author.Rules.{rules}
 use Rattle.listing.proofs.outcome_listing.Goals as goal
 
 pub answer_listing-requires : goal.answer_listing-requires
-answer_listing-requires c = search (rules, listable_files)
+answer_listing-requires c = listable_files _ _ _ c.in-Ok.is c.requires
 
-pub returns-in-Refused : goal.returns-in-Refused
-returns-in-Refused c = refusal_listed _ _ _ _ c.in-Refused.is c.refused_listing.ensures
+pub returns-in-Err : goal.returns-in-Err
+returns-in-Err c = refusal_listed _ _ _ _ c.in-Err.is c.refused_listing.ensures
 
-pub returns-in-Answered : goal.returns-in-Answered
-returns-in-Answered c = outcome_listed _ _ _ _ c.in-Answered.is c.answer_listing.ensures
+pub returns-in-Ok : goal.returns-in-Ok
+returns-in-Ok c = outcome_listed _ _ _ _ c.in-Ok.is c.answer_listing.ensures
