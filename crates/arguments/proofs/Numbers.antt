@@ -10,7 +10,8 @@ use lib.Dec.{leb, ltb}
 use lib.ListN.{length, drop, get_or, drop_of_length-le}
 use lib.Seq.{drop-cons}
 use Rattle.text.specs.Decimal.{read_after, read_decimal}
-use Rattle.arguments.specs.Numbers.{no_number, is_figure, all_figures, is_number, number_in}
+use Rattle.std.specs.Prelude.{None, Some}
+use Rattle.arguments.specs.Numbers.{is_figure, all_figures, is_number, number_in}
 
 -- figures behind a number never make it less
 grows : (n : ℕ) (bs : List ℕ) → n ≤ read_after n bs
@@ -39,7 +40,7 @@ and_false : (t : Bool) → (t && false) ≡ false
 and_false true = refl
 and_false false = refl
 
-not_a_number : (text : List ℕ) → is_number text ≡ false → no_number ≡ number_in text
+not_a_number : (text : List ℕ) → is_number text ≡ false → None ≡ number_in text
 unfolding number_in
 not_a_number text h = rw h
 
@@ -47,7 +48,7 @@ no_bytes : (text : List ℕ) → length text ≡ 0 → is_number text ≡ false
 unfolding is_number
 no_bytes text h = rw (eq-eqb (length text) 0 h)
 
-pub empty_text : (text : List ℕ) → length text ≡ 0 → no_number ≡ number_in text
+pub empty_text : (text : List ℕ) → length text ≡ 0 → None ≡ number_in text
 empty_text text h = not_a_number text (no_bytes text h)
 
 module _ {text : List ℕ} where
@@ -72,7 +73,7 @@ module _ {text : List ℕ} where
     unfolding is_number
     no_figures h = rw (ne_eqb (length text) 0 r.some, others h)
 
-    pub other_byte : is_figure b ≡ false → no_number ≡ number_in text
+    pub other_byte : is_figure b ≡ false → None ≡ number_in text
     other_byte h = not_a_number text (no_figures h)
 
     -- the number with the byte's figure behind it
@@ -92,7 +93,7 @@ module _ {text : List ℕ} where
       unfolding is_number
       no_room g = rw (ne_eqb (length text) 0 r.some, large g, and_false (all_figures text))
 
-      pub too_large : 4294967295 < 10 * value + (b - 48) → no_number ≡ number_in text
+      pub too_large : 4294967295 < 10 * value + (b - 48) → None ≡ number_in text
       too_large g = not_a_number text (no_room g)
 
       pub reading_more : 10 * value + (b - 48) ≤ 4294967295 → Reading text (10 * value + (b - 48)) (i + 1)
@@ -119,6 +120,6 @@ module _ {text : List ℕ} where
     unfolding is_number
     is_one = rw (ne_eqb (length text) 0 r.some, all_read, value_is, lt-ltb value 4294967296 r.small)
 
-    pub reading_end : record { known = true; value = value } ≡ number_in text
+    pub reading_end : Some value ≡ number_in text
     unfolding number_in
     reading_end = rw (is_one, value_is)

@@ -1,10 +1,6 @@
 -- The number that an argument says in decimal figures. Definitions only. Assumes nothing.
-use Rattle.std.specs.Prelude.{Bool, true, false, ◌&&◌, not, cond, List, [], ◌∷◌, ℕ, eqb, leb, ltb, length}
+use Rattle.std.specs.Prelude.{Bool, true, ◌&&◌, not, cond, List, [], ◌∷◌, ℕ, eqb, leb, ltb, length, Option, None, Some}
 use Rattle.text.specs.Decimal.{read_decimal}
-use Rattle.arguments.specs.declared.Number.{Number}
-
-abbrev pub no_number : Number
-no_number = record { known = false; value = 0 }
 
 -- whether a byte is a figure, 0 (48) to 9 (57)
 unfoldable pub is_figure : ℕ → Bool
@@ -20,5 +16,5 @@ unfoldable pub is_number : (text : List ℕ) → Bool
 is_number bs = not (eqb (length bs) 0) && (all_figures bs && ltb (read_decimal bs) 4294967296)
 
 -- such a number, or none
-unfoldable pub number_in : (text : List ℕ) → Number
-number_in bs = record { known = is_number bs; value = cond (is_number bs) (read_decimal bs) 0 }
+unfoldable pub number_in : (text : List ℕ) → Option ℕ
+number_in bs = cond (is_number bs) (Some (read_decimal bs)) None

@@ -3,9 +3,5 @@
 #![tactic(auto)]
 
 fn main(rt: HostRuntime) {
-    let mut name = [0u8; 4095];
-    let asked = arguments::folder(&rt, b"mixbetter", &mut name);
-    if asked.known {
-        better_folder::file_better(&rt, file_io::first_bytes(&name, asked.len));
-    }
+    arguments::in_folder(&rt, b"mixbetter", better_folder::file_better);
 }

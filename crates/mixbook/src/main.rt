@@ -2,9 +2,5 @@
 #![tactic(auto)]
 
 fn main(rt: HostRuntime) {
-    let mut name = [0u8; 4095];
-    let asked = arguments::folder(&rt, b"mixbook", &mut name);
-    if asked.known {
-        book_folder::file_book(&rt, file_io::first_bytes(&name, asked.len));
-    }
+    arguments::in_folder(&rt, b"mixbook", book_folder::file_book);
 }

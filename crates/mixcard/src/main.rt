@@ -2,9 +2,5 @@
 #![tactic(auto)]
 
 fn main(rt: HostRuntime) {
-    let mut name = [0u8; 4095];
-    let asked = arguments::folder(&rt, b"mixcard", &mut name);
-    if asked.known {
-        card_folder::file_card(&rt, file_io::first_bytes(&name, asked.len));
-    }
+    arguments::in_folder(&rt, b"mixcard", card_folder::file_card);
 }

@@ -2,9 +2,5 @@
 #![tactic(auto)]
 
 fn main(rt: HostRuntime) {
-    let mut name = [0u8; 4095];
-    let asked = arguments::folder(&rt, b"mixcheck", &mut name);
-    if asked.known {
-        card_folder::check_card(&rt, file_io::first_bytes(&name, asked.len));
-    }
+    arguments::in_folder(&rt, b"mixcheck", card_folder::check_card);
 }

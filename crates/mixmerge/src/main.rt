@@ -2,9 +2,5 @@
 #![tactic(auto)]
 
 fn main(rt: HostRuntime) {
-    let mut name = [0u8; 4095];
-    let asked = arguments::folder(&rt, b"mixmerge", &mut name);
-    if asked.known {
-        merge_folder::file_merged(&rt, file_io::first_bytes(&name, asked.len));
-    }
+    arguments::in_folder(&rt, b"mixmerge", merge_folder::file_merged);
 }

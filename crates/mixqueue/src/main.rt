@@ -2,9 +2,5 @@
 #![tactic(auto)]
 
 fn main(rt: HostRuntime) {
-    let mut name = [0u8; 4095];
-    let task = arguments::number_and_folder(&rt, b"mixqueue", b"ALLOWANCE", &mut name);
-    if task.known {
-        queue_folder::list_queue(&rt, file_io::first_bytes(&name, task.len), task.number);
-    }
+    arguments::in_folder_with(&rt, b"mixqueue", b"ALLOWANCE", queue_folder::list_queue);
 }

@@ -2,9 +2,5 @@
 #![tactic(auto)]
 
 fn main(rt: HostRuntime) {
-    let mut name = [0u8; 4095];
-    let asked = arguments::folder(&rt, b"mixsheet", &mut name);
-    if asked.known {
-        sheet_folder::file_sheet(&rt, file_io::first_bytes(&name, asked.len));
-    }
+    arguments::in_folder(&rt, b"mixsheet", sheet_folder::file_sheet);
 }
