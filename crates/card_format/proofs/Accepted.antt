@@ -22,7 +22,7 @@ use Rattle.method.specs.declared.Verdict.{Verdict}
 use Rattle.method.specs.declared.Verdict.TheVariants.{Within, Beyond, Spent}
 use Rattle.method.specs.ReleasedBoats.{Usable, every, only, may_use, used_from, gather, RestsOn}
 use Rattle.method.specs.Problem.{Terms, call_steps, call_problem, weight}
-use Rattle.method.specs.Iterates.{support, distance, gap}
+use Rattle.method.specs.Iterates.{support}
 use Rattle.method.specs.Answers.{verdict_number, stops}
 use Rattle.method.specs.Bounds.{answer_of, AnswerBounds}
 use Rattle.method.proofs.ReleasedBoats.{every_used, length_gather, sum_gather, support_gather}

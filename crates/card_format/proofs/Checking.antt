@@ -9,7 +9,7 @@ use Rattle.files.specs.Bytes.{all_bytes}
 use Rattle.files.specs.Book.{boats}
 use Rattle.files.proofs.Accepted.{files_accepted}
 use Rattle.method.specs.Searched.{Searched}
-use Rattle.method.specs.Problem.{Terms, call_problem}
+use Rattle.method.specs.Problem.{Terms}
 use Rattle.method.specs.Answers.{refusal_number, outcome, search_refusal_with, slots_after}
 use Rattle.method.proofs.Accepted.{files_ok}
 use Rattle.method.proofs.Promise.{search_accepted, outcome_number, outcome_refused, outcome_answered, length_after, slots_kept}

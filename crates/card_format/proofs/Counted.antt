@@ -1,6 +1,6 @@
 -- With a table that counts 1, 2, 3, .. as far as the sheet asks for steps, cards are those without it, and so are their refusals.
-use mathlib.Core.Path.{◌≡◌, refl, sym, ap, ◌∙◌}
-use mathlib.Core.Bool.{Bool, true, false, not, ◌||◌, cond}
+use mathlib.Core.Path.{◌≡◌, refl}
+use mathlib.Core.Bool.{not, ◌||◌, cond}
 use mathlib.Core.List.{List}
 use Prim.Native.Nat.{ℕ, zero, suc, ◌≤◌}
 use lib.Dec.{eqb, ltb, eqb-suc-zero}
@@ -12,14 +12,14 @@ use Rattle.files.proofs.Refusal.{and_true, between_true}
 use Rattle.files.proofs.Accepted.{passed}
 use Rattle.method.specs.declared.Test.TheVariants.{Former, Sharper}
 use Rattle.method.specs.ReleasedBoats.{gather}
-use Rattle.method.specs.Problem.{Terms, call_steps, call_problem, weight}
+use Rattle.method.specs.Problem.{Terms, call_problem}
 use Rattle.method.specs.Calls.{call_refusal}
-use Rattle.method.specs.Answers.{run_answer, run_iterate, search_refusal_with}
+use Rattle.method.specs.Answers.{search_refusal_with}
 use Rattle.method.specs.Bounds.{mixture_iterate}
 use Rattle.method.specs.Promise.{Counts, without_table}
 use Rattle.method.proofs.Counted.{counted_steps, counted_weight, counted_answer}
-use Rattle.method.proofs.Promise.{counted_call, counted_search, counted_run, search_accepted}
-use Rattle.card_format.specs.Format.{card_fields, lettered, card_test, pair_count, card_shares, card_answer_with, run_card_with}
+use Rattle.method.proofs.Promise.{counted_call, counted_search, counted_run}
+use Rattle.card_format.specs.Format.{card_fields, lettered, card_test, card_shares, card_answer_with, run_card_with}
 use Rattle.card_format.specs.Checks.{counts_agree, steps_fit, form_refusal, rests, shares_total, truth_refusal, card_refusal_with, write_refusal_with, check_refusal_with}
 use Rattle.card_format.proofs.Accepted.{both_zero}
 

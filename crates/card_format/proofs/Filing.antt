@@ -17,8 +17,8 @@ use Rattle.method.specs.Promise.{without_table}
 use Rattle.method.specs.Answers.{slots_after, run_answer, run_slots}
 use Rattle.method.proofs.Promise.{same_problem, problem_behind, run_right, run_gathered, run_in_book, length_after, slots_kept, counted_run}
 use Rattle.method.proofs.BookNumbers.{problem_isolated, call_isolated, call_all, problem_all}
-use Rattle.card_format.specs.declared.Written.{Written}
-use Rattle.card_format.specs.declared.Written.TheVariants.{Refused, Filed}
+use Rattle.card_format.specs.Written.{Written}
+use Rattle.card_format.specs.Written.{Refused, Filed}
 use Rattle.card_format.specs.Format.{run_card_with}
 use Rattle.card_format.specs.Checks.{write_refusal_with}
 use Rattle.card_format.specs.Truth.{WrittenAccepted, WrittenShort}

@@ -1,5 +1,5 @@
 -- Cards of books that a call cannot tell apart, and of a set of all boats: their bytes, refusals and answers are the same.
-use mathlib.Core.Path.{◌≡◌, refl, sym, ◌∙◌}
+use mathlib.Core.Path.{◌≡◌, refl, ◌∙◌}
 use mathlib.Core.Bool.{Bool, true, false}
 use mathlib.Core.List.{List}
 use Prim.Native.Nat.{ℕ, zero, suc}
@@ -9,8 +9,7 @@ use lib.Dec.{ltb}
 use lib.ListN.{length, get_or, drop, replicate, length-set, length-replicate, get_or-eq_default}
 use Rattle.files.specs.Book.{boats, book_refusal}
 use Rattle.method.specs.ReleasedBoats.{may_use, gather}
-use Rattle.method.specs.Problem.{Terms, call_problem}
-use Rattle.method.specs.Calls.{call_refusal}
+use Rattle.method.specs.Problem.{Terms}
 use Rattle.method.specs.Answers.{search_refusal_with}
 use Rattle.method.specs.BookNumbers.{SameReleased, AllBoats}
 use Rattle.method.specs.Promise.{without_set}

@@ -11,3 +11,4 @@ pub mod Counted
 pub mod Isolated
 pub mod Filing
 pub mod Checking
+pub mod Written

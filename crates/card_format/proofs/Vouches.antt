@@ -6,7 +6,6 @@ use Rattle.method.specs.Calls.{call_refusal}
 use Rattle.files.proofs.Accepted.{files_accepted}
 use Rattle.method.specs.ReleasedBoats.{gather}
 use Rattle.method.specs.Problem.{Terms, call_problem}
-use Rattle.method.specs.Iterates.{distance, gap}
 use Rattle.method.specs.Answers.{answer_at}
 use Rattle.method.specs.Bounds.{answer_of}
 use Rattle.method.proofs.Accepted.{files_ok, fleet_formed}

@@ -12,8 +12,8 @@ use Rattle.method.specs.BookNumbers.{ReleasedRun, SameReleased, AllBoats}
 use Rattle.method.specs.Promise.{RunRight, Counts, without_table, without_set}
 use Rattle.card_format.specs.Format.{card_shares, card_answer_with, run_card_with}
 use Rattle.card_format.specs.Checks.{card_refusal_with, write_refusal_with}
-use Rattle.card_format.specs.declared.Written.{Written}
-use Rattle.card_format.specs.declared.Written.TheVariants.{Refused, Filed}
+use Rattle.card_format.specs.Written.{Written}
+use Rattle.card_format.specs.Written.{Refused, Filed}
 
 -- ---- The enum by number
 

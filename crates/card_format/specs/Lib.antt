@@ -1,5 +1,6 @@
 -- The definitions of this crate.
 pub mod Format
+pub mod Written
 pub mod Checks
 pub mod Truth
 pub mod Front

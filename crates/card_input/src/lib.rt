@@ -4,11 +4,13 @@
 #![tactic(auto)]
 
 ghost use Rattle.std.specs.Prelude.{◌||◌, ◌≡◌, ◌*◌, ◌-◌, ◌≤◌, ◌<◌, length};
+ghost use Rattle.refusals.specs.Numbers.{refusal_number};
 ghost use Rattle.method.specs.declared.Test.TheVariants.{Former, Sharper};
 ghost use Rattle.card_format.specs.Format.{card_fields, lettered, card_test, pair_count};
 ghost use Rattle.card_format.specs.Checks.{back_fits, counts_agree, steps_fit, form_refusal};
 
 use method::Test;
+use refusals::Refusal;
 
 // Whether a card ends with the letters of either edition.
 fn is_lettered(card: &[u8]) -> bool
@@ -91,29 +93,29 @@ pub fn pair_count(card: &[u8]) -> usize
     files::u32_at(card, card.len() - 36) as usize / 4
 }
 
-// The number, 31 to 36, that refuses a card's form, or 0.
-pub fn form_refusal(card: &[u8], boats: usize, columns: usize, steps: u32) -> u32
+// The first reason, 31 to 36, that refuses a card's form.
+pub fn form_refusal(card: &[u8], boats: usize, columns: usize, steps: u32) -> Result<(), Refusal>
     requires { boats ≤ 256 }
-    ensures { result ≡ form_refusal boats columns steps card.now }
+    ensures { refusal_number result ≡ form_refusal boats columns steps card.now }
 {
     if !file_parts::is_between(36, 40000, card.len()) {
-        return 31;
+        return Err(Refusal::CardLength);
     }
     if !is_lettered(card) {
-        return 32;
+        return Err(Refusal::CardLetters);
     }
     if !counts_agree(card, boats, columns) {
-        return 33;
+        return Err(Refusal::CardCounts);
     }
     if !steps_fit(card, steps) {
-        return 34;
+        return Err(Refusal::CardVerdict);
     }
     if !back_fits(card, boats) {
-        return 35;
+        return Err(Refusal::CardBack);
     }
     let count = pair_count(card);
     if !card_pairs::pairs_in_order(card, card.len() - 36 - 4 * count, count, boats) {
-        return 36;
+        return Err(Refusal::CardBoats);
     }
-    0
+    Ok(())
 }

@@ -7,6 +7,7 @@ ghost use Rattle.std.specs.Prelude.{◌≡◌, ◌≤◌, length, take, option_c
 ghost use Rattle.files.specs.Book.{boats};
 ghost use Rattle.files.specs.Sheet.{files_refusal};
 ghost use Rattle.files.specs.Sheet as Sheets;
+ghost use Rattle.method.specs.Searched.{searched};
 ghost use Rattle.method.specs.Problem.{allowed_steps, call_problem};
 ghost use Rattle.method.specs.Calls.{schedule_in, schedule_refusal, terms};
 ghost use Rattle.method.specs.Answers.{outcome};
@@ -17,7 +18,8 @@ ghost use Rattle.card_format.specs.Checks.{shares_total, numbers_agree, truth_re
 ghost use Rattle.card_truth.specs.Readable.{CardReadable};
 
 use iteration::{Layout, State};
-use method::{Answer, Searched};
+use method::Answer;
+use refusals::Refusal;
 
 // Whether a card's boats that hold shares are no more than its steps used, and the shares total what so many steps give.
 fn shares_total(table: Option<&[u16]>, card: &[u8], shares: [u16; 256], boats: usize) -> bool
@@ -50,8 +52,8 @@ fn numbers_agree(card: &[u8], steps: u32, a: Answer) -> bool
     verdicts::stops(steps, card_input::steps_used(card), verdict)
 }
 
-// What a card says judged by the first shares, one a boat, and the test of its letters: the number, 37 to 39, that refuses it, or
-// its answer.
+// What a card says judged by the first shares, one a boat, and the test of its letters: its answer, or the first reason, 37 to 39, that
+// refuses it.
 pub fn judged(
     book: &[u8],
     sheet: &[u8],
@@ -59,15 +61,15 @@ pub fn judged(
     layout: Layout,
     card: &[u8],
     shares: [u16; 256],
-) -> Searched
+) -> Result<Answer, Refusal>
     requires sheet_value { files_refusal book.now sheet.now ≡ 0 }
     requires table_value { schedule_refusal (schedule_in (option_copied table)) ≡ 0 }
     requires layout_value { layout ≡ file_layout book.now sheet.now }
     requires card_readable { CardReadable (allowed_steps (schedule_in (option_copied table)) (Sheets.sheet sheet.now).steps) card.now }
-    ensures { result ≡ outcome (truth_refusal (call_problem (terms (option_copied table.entry)) book.now sheet.now) (take (boats book.now) shares) card.now) (answer_of (card_test card.now) (call_problem (terms (option_copied table.entry)) book.now sheet.now) (take (boats book.now) shares) (card_fields card.now).steps) }
+    ensures { searched result ≡ outcome (truth_refusal (call_problem (terms (option_copied table.entry)) book.now sheet.now) (take (boats book.now) shares) card.now) (answer_of (card_test card.now) (call_problem (terms (option_copied table.entry)) book.now sheet.now) (take (boats book.now) shares) (card_fields card.now).steps) }
 {
     if !shares_total(table, card, shares, layout.boats) {
-        return Searched::Refused(37);
+        return Err(Refusal::CardShares);
     }
     let answer = factored_run::answer_of(
         card_input::test_of(card),
@@ -79,10 +81,10 @@ pub fn judged(
     );
     let steps = schedules::steps(table, files::steps(sheet));
     if !numbers_agree(card, steps, answer) {
-        return Searched::Refused(38);
+        return Err(Refusal::CardDistance);
     }
     if files::u32_at(card, card.len() - 28) != files::tolerance(sheet) {
-        return Searched::Refused(39);
+        return Err(Refusal::CardTolerance);
     }
-    Searched::Answered(answer)
+    Ok(answer)
 }

@@ -7,7 +7,7 @@ use Rattle.method.specs.Problem.{problem}
 use Rattle.method.specs.Answers.{outcome, search_refusal, slots_after, run_answer, run_iterate}
 use Rattle.card_format.specs.Format.{card_shares, card_answer, run_card}
 use Rattle.card_format.specs.Checks.{write_refusal, check_refusal}
-use Rattle.card_format.specs.declared.Written.{Written}
+use Rattle.card_format.specs.Written.{Written}
 use Rattle.card_format.specs.Filing.{filing}
 use Rattle.better_card_promise.specs.Choices.{better_refusal, better_part, choice}
 

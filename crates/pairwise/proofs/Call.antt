@@ -32,7 +32,7 @@ use Rattle.method.proofs.Accepted.{both, files_ok, call_schedule, fleet_formed, 
 use Rattle.method.proofs.ReleasedBoats.{length_scatter, scatter_outside, gather_scatter, scatter_whole}
 use Rattle.method.proofs.BookNumbers.{gathered_same, released_answer, run_count, rows_count, problem_isolated, call_isolated, call_all, problem_all}
 use Rattle.method.proofs.Promise.{same_call, same_problem, call_behind, problem_behind, length_after, slots_kept}
-use Rattle.card_format.specs.declared.Written.{Written}
+use Rattle.card_format.specs.Written.{Written}
 use Rattle.card_format.specs.Format.{card_limit, pairs, trailer_bytes, answer_fields, card_bytes}
 use Rattle.card_format.specs.Truth.{CardTrueWith}
 use Rattle.card_format.specs.Filing.{writing_number, written_size, filing, ReadsBackWith}

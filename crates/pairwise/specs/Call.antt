@@ -15,8 +15,8 @@ use Rattle.method.specs.Calls.{before, call_refusal}
 use Rattle.method.specs.Answers.{run_slots, slots_after}
 use Rattle.method.specs.BookNumbers.{ReleasedRun, SameReleased, AllBoats}
 use Rattle.method.specs.Promise.{without_set}
-use Rattle.card_format.specs.declared.Written.{Written}
-use Rattle.card_format.specs.declared.Written.TheVariants.{Refused, Filed}
+use Rattle.card_format.specs.Written.{Written}
+use Rattle.card_format.specs.Written.{Refused, Filed}
 use Rattle.card_format.specs.Format.{card_limit, card_bytes, card_shares}
 use Rattle.card_format.specs.Filing.{writing_number, written_size, filing, ReadsBackWith}
 use Rattle.pairwise.specs.Moves.{moves_refusal, worked_shares, worked_answer}

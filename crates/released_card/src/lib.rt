@@ -7,6 +7,7 @@
 ghost use Rattle.std.specs.Prelude.{◌≡◌, true, ◌||◌, ◌≤◌, eqb, length, take, option_copied};
 ghost use Rattle.files.specs.Book.{boats};
 ghost use Rattle.files.specs.Sheet.{files_refusal};
+ghost use Rattle.method.specs.Searched.{searched};
 ghost use Rattle.method.specs.ReleasedBoats.{usable, gather};
 ghost use Rattle.method.specs.Problem.{call_steps, call_problem};
 ghost use Rattle.method.specs.Calls.{terms, terms_in, schedule_in, schedule_refusal, call_refusal};
@@ -16,7 +17,8 @@ ghost use Rattle.card_format.specs.Format.{card_fields, card_test};
 ghost use Rattle.card_format.specs.Checks.{rests, truth_refusal};
 ghost use Rattle.card_truth.specs.Readable.{CardReadable};
 
-use method::{Released, Searched};
+use method::{Answer, Released};
+use refusals::Refusal;
 
 // Whether a share may stand: its boat may be used, or it is 0.
 fn may_stand(used: bool, share: u16) -> bool
@@ -44,18 +46,18 @@ pub fn rests(shares: [u16; 256], released: Released, boats: usize) -> bool
     true
 }
 
-// What a card says judged by the first shares, one a boat of the book: the number, 37 to 39, that refuses it, or its answer.
+// What a card says judged by the first shares, one a boat of the book: its answer, or the first reason, 37 to 39, that refuses it.
 fn plain_judged(
     book: &[u8],
     sheet: &[u8],
     table: Option<&[u16]>,
     card: &[u8],
     shares: [u16; 256],
-) -> Searched
+) -> Result<Answer, Refusal>
     requires sheet_value { files_refusal book.now sheet.now ≡ 0 }
     requires table_value { schedule_refusal (schedule_in (option_copied table)) ≡ 0 }
     requires card_readable { CardReadable (call_steps (terms (option_copied table)) sheet.now) card.now }
-    ensures { result ≡ outcome (truth_refusal (call_problem (terms (option_copied table.entry)) book.now sheet.now) (take (boats book.now) shares) card.now) (answer_of (card_test card.now) (call_problem (terms (option_copied table.entry)) book.now sheet.now) (take (boats book.now) shares) (card_fields card.now).steps) }
+    ensures { searched result ≡ outcome (truth_refusal (call_problem (terms (option_copied table.entry)) book.now sheet.now) (take (boats book.now) shares) card.now) (answer_of (card_test card.now) (call_problem (terms (option_copied table.entry)) book.now sheet.now) (take (boats book.now) shares) (card_fields card.now).steps) }
 {
     let layout = iteration::layout_of(book, sheet);
     card_truth::judged(book, sheet, table, layout, card, shares)
@@ -69,10 +71,10 @@ fn limited_judged(
     table: Option<&[u16]>,
     card: &[u8],
     shares: [u16; 256],
-) -> Searched
+) -> Result<Answer, Refusal>
     requires sheet_value { call_refusal (terms_in released (option_copied table)) book.now sheet.now ≡ 0 }
     requires card_readable { CardReadable (call_steps (terms (option_copied table)) sheet.now) card.now }
-    ensures { result ≡ outcome (truth_refusal (call_problem (terms_in released (option_copied table.entry)) book.now sheet.now) (gather (usable released) (take (boats book.now) shares)) card.now) (answer_of (card_test card.now) (call_problem (terms_in released (option_copied table.entry)) book.now sheet.now) (gather (usable released) (take (boats book.now) shares)) (card_fields card.now).steps) }
+    ensures { searched result ≡ outcome (truth_refusal (call_problem (terms_in released (option_copied table.entry)) book.now sheet.now) (gather (usable released) (take (boats book.now) shares)) card.now) (answer_of (card_test card.now) (call_problem (terms_in released (option_copied table.entry)) book.now sheet.now) (gather (usable released) (take (boats book.now) shares)) (card_fields card.now).steps) }
 {
     let mut own_book = [0u8; 32780];
     let n = released_book::put_book(&mut own_book, book, released);
@@ -88,10 +90,10 @@ pub fn judged(
     table: Option<&[u16]>,
     card: &[u8],
     shares: [u16; 256],
-) -> Searched
+) -> Result<Answer, Refusal>
     requires sheet_value { call_refusal (terms_in released (option_copied table)) book.now sheet.now ≡ 0 }
     requires card_readable { CardReadable (call_steps (terms (option_copied table)) sheet.now) card.now }
-    ensures { result ≡ outcome (truth_refusal (call_problem (terms_in released (option_copied table.entry)) book.now sheet.now) (gather (usable released) (take (boats book.now) shares)) card.now) (answer_of (card_test card.now) (call_problem (terms_in released (option_copied table.entry)) book.now sheet.now) (gather (usable released) (take (boats book.now) shares)) (card_fields card.now).steps) }
+    ensures { searched result ≡ outcome (truth_refusal (call_problem (terms_in released (option_copied table.entry)) book.now sheet.now) (gather (usable released) (take (boats book.now) shares)) card.now) (answer_of (card_test card.now) (call_problem (terms_in released (option_copied table.entry)) book.now sheet.now) (gather (usable released) (take (boats book.now) shares)) (card_fields card.now).steps) }
 {
     if released.limited {
         return limited_judged(book, sheet, released, table, card, shares);

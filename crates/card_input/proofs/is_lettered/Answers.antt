@@ -1,5 +1,4 @@
 -- `card_input::is_lettered` meets its contract.
-use borrow.Author.Rules.{rules}
 use Rattle.card_input.proofs.Reading.{former_lettered, other_lettered}
 use Rattle.card_input.proofs.is_lettered.Goals as goal
 

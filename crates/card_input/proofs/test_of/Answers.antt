@@ -1,5 +1,4 @@
 -- `card_input::test_of` meets its contract.
-use borrow.Author.Rules.{rules}
 use Rattle.card_input.proofs.Reading.{tested_sharper, tested_former}
 use Rattle.card_input.proofs.test_of.Goals as goal
 
