@@ -8,17 +8,19 @@ ghost use Rattle.files.specs.Limits.{file_limit};
 ghost use Rattle.buffers.specs.Placed.{placed};
 ghost use Rattle.sheet_output.specs.Output.{values_bytes, edition_bytes};
 ghost use Rattle.csv_slots.specs.Slots.{Room, Held};
+ghost use Rattle.csv_sheet_rows.specs.Numbers.{kind_number};
 ghost use Rattle.csv_sheet_rows.specs.Rows.{rows_fault};
 ghost use Rattle.csv_sheet_parts.specs.Parts.{row_for, target_of, has_factors, factor_at, factors_of, steps_of, tolerance_for, tolerance_of, sheet_of, sheet_at};
 ghost use Rattle.csv_sheet_parts.specs.Ready.{Ready};
 
 use buffers::put;
+use csv_sheet_rows::Kind;
 
 // The last row that stands for a kind, 0 where there is none.
-fn row_for(csv: &[u8], kind: u32) -> usize
+fn row_for(csv: &[u8], kind: Kind) -> usize
     requires csv_len_bound { length csv.now ≤ 200000 }
     requires csv_value { (rows_fault csv.now).fault ≡ 0 }
-    ensures { result ≡ row_for kind csv.now }
+    ensures { result ≡ row_for (kind_number kind) csv.now }
 {
     let last = csv_sheet_rows::last_row(csv);
     csv_sheet_rows::row_of(csv, kind, last)
@@ -30,7 +32,7 @@ fn put_target(csv: &[u8], places: &[u8], output: &mut [u8])
     requires places_in_bounds { 2 * length places.now ≤ length output.old }
     ensures { output.new ≡ placed output.old 0 (values_bytes (target_of places.now csv.now)) }
 {
-    let row = row_for(csv, csv_sheet_rows::HULL);
+    let row = row_for(csv, Kind::Hull);
     let mut sizes = [0u8; 65];
     let mut cells = [0u8; 13000];
     csv_slots::put_rows(csv, row, 1, &mut sizes, &mut cells);
@@ -66,7 +68,7 @@ pub fn put_factors(csv: &[u8], places: &[u8], output: &mut [u8])
     requires places_in_bounds { length places.now ≤ length output.old }
     ensures { output.new ≡ placed output.old 0 (factors_of places.now csv.now) }
 {
-    let row = row_for(csv, csv_sheet_rows::FACTORS);
+    let row = row_for(csv, Kind::Factors);
     let mut sizes = [0u8; 65];
     let mut cells = [0u8; 13000];
     csv_slots::put_rows(csv, row, 1, &mut sizes, &mut cells);
@@ -81,7 +83,7 @@ pub fn steps_of(csv: &[u8]) -> u32
     requires csv_value { (rows_fault csv.now).fault ≡ 0 }
     ensures { result ≡ steps_of csv.now }
 {
-    let cell = csv_sheet_rows::cell_at(csv, row_for(csv, csv_sheet_rows::STEPS), 1);
+    let cell = csv_sheet_rows::cell_at(csv, row_for(csv, Kind::Steps), 1);
     cell.magnitude
 }
 
@@ -92,10 +94,10 @@ pub fn tolerance_for(csv: &[u8], total: usize) -> u64
     requires total_bound { total ≤ 64 }
     ensures { result ≡ tolerance_for total csv.now }
 {
-    let row = row_for(csv, csv_sheet_rows::TOLERANCE);
+    let row = row_for(csv, Kind::Tolerance);
     let cell = csv_sheet_rows::cell_at(csv, row, 1);
     let number = cell.magnitude as u64;
-    if csv_sheet_rows::kind_at(csv, row) == csv_sheet_rows::EACH {
+    if csv_sheet_rows::kind_at(csv, row) == Kind::Each {
         return number * number * total as u64;
     }
     number
@@ -119,7 +121,7 @@ fn put_sheet(
 {
     let columns = places.len();
     put_target(csv, places, output);
-    if row_for(csv, csv_sheet_rows::FACTORS) == 0 {
+    if row_for(csv, Kind::Factors) == 0 {
         sheet_output::put_sheet_trailer(output, 2 * columns, columns, steps, tolerance);
         return 2 * columns + 16;
     }

@@ -1,47 +1,23 @@
 -- What is wrong with the rows of a sheet's CSV: a law for each way that a function can go.
 use mathlib.Core.Path.{◌≡◌, refl, sym, ap, ◌∙◌}
-use mathlib.Core.Bool.{Bool, true, false, cond, not}
+use mathlib.Core.Bool.{Bool, true, false, cond}
 use mathlib.Core.List.{List}
-use Prim.Native.Nat.{ℕ, suc, ◌+◌, ◌-◌, ◌≤◌, ◌<◌}
+use Prim.Native.Nat.{ℕ, zero, suc, ◌+◌, ◌-◌, ◌≤◌, ◌<◌}
 use native.Mathlib.Numerals.{add-one}
 use native.Mathlib.Omega.{arith}
 use borrow.Author.Tests.{eq-eqb, ne_eqb, lt-ltb, le-ltb}
 use lib.Dec.{ltb, eqb}
 use lib.ListN.{length}
-use Rattle.files.specs.Limits.{step_limit}
 use Rattle.csv_bytes.specs.Cells.{is_number, read}
 use Rattle.csv_bytes.specs.declared.Cell.{Cell}
 use Rattle.csv_cells.specs.Cells.{last_place, cell_text, line_of, width}
 use Rattle.csv_cells.specs.declared.Place.{Place}
 use Rattle.csv_sheet_rows.specs.declared.Finding.{Finding}
 use Rattle.csv_sheet_rows.specs.Kinds.{kind_at, place, row_of}
-use Rattle.csv_sheet_rows.specs.Rows.{count_of, least, most, is_out, number_fault, is_left_out, is_open, value_fault, field_fault, faulty_field, none, found_in, many_finding, numbers_finding, kind_finding, row_finding, rows_finding, sheet_names, nameless, names_finding, last_row, factor_row, without, missing_finding, content_finding, rows_fault}
+use Rattle.csv_sheet_rows.specs.Rows.{count_of, is_out, number_fault, is_left_out, is_open, value_fault, field_fault, faulty_field, none, found_in, many_finding, numbers_finding, kind_finding, row_finding, rows_finding, sheet_names, nameless, names_finding, last_row, factor_row, without, missing_finding, content_finding, rows_fault}
 use Rattle.csv_sheet_rows.proofs.First.{first_stays}
 
--- ---- how many numbers, and from where to where
-module _ (k c : ℕ) where
-  pub count_hull : k ≡ 0 → c ≡ count_of k c
-  unfolding count_of
-  count_hull h = rw h
-
-  module _ (h : k ≡ 0 → ⊥) where
-    pub count_factors : k ≡ 2 → c ≡ count_of k c
-    unfolding count_of
-    count_factors p = rw p
-
-    module _ (p : k ≡ 2 → ⊥) where
-      pub count_units : k < 3 → 0 ≡ count_of k c
-      unfolding count_of
-      count_units q = rw (ne_eqb k 0 h, ne_eqb k 2 p, lt-ltb k 3 q)
-
-      pub count_one : 3 ≤ k → k < 6 → 1 ≡ count_of k c
-      unfolding count_of
-      count_one q l = rw (ne_eqb k 0 h, ne_eqb k 2 p, le-ltb k 3 q, lt-ltb k 6 l)
-
-      pub count_none : 3 ≤ k → 6 ≤ k → 0 ≡ count_of k c
-      unfolding count_of
-      count_none q l = rw (ne_eqb k 0 h, ne_eqb k 2 p, le-ltb k 3 q, le-ltb k 6 l)
-
+-- ---- how many numbers
 few_by : (a b d e : Bool) (c : ℕ) → c ≤ 64 → cond a c (cond b c (cond d 0 (cond e 1 0))) ≤ 64
 few_by true b d e c h = omega arith
 few_by false true d e c h = omega arith
@@ -53,60 +29,7 @@ pub count_few : (k : ℕ) {c : ℕ} → c ≤ 64 → {n : ℕ} → n ≡ count_o
 unfolding count_of
 count_few k {c} h e = rw e (few_by (eqb k 0) (eqb k 2) (ltb k 3) (ltb k 6) c h)
 
-module _ (k : ℕ) where
-  pub least_steps : k ≡ 3 → 1 ≡ least k
-  unfolding least
-  least_steps h = rw h
-
-  pub least_other : (k ≡ 3 → ⊥) → 0 ≡ least k
-  unfolding least
-  least_other h = rw (ne_eqb k 3 h)
-
-  pub most_hull : k ≡ 0 → 2000 ≡ most k
-  unfolding most
-  most_hull h = rw h
-
-  pub most_factors : k ≡ 2 → 64 ≡ most k
-  unfolding most
-  most_factors h = rw h
-
-  pub most_steps : k ≡ 3 → step_limit ≡ most k
-  unfolding most
-  most_steps h = rw h
-
-  pub most_tolerance : k ≡ 4 → 1024000000 ≡ most k
-  unfolding most
-  most_tolerance h = rw h
-
-  pub most_each : (k ≡ 0 → ⊥) → (k ≡ 2 → ⊥) → (k ≡ 3 → ⊥) → (k ≡ 4 → ⊥) → 32000 ≡ most k
-  unfolding most
-  most_each a b d e = rw (ne_eqb k 0 a, ne_eqb k 2 b, ne_eqb k 3 d, ne_eqb k 4 e)
-
 -- ---- a number
-module _ (k : ℕ) (c : Cell) {m : ℕ} (em : m ≡ most k) where
-  pub out_above : m < c.magnitude → true ≡ is_out k c
-  unfolding is_out
-  out_above h = rw (← em, lt-ltb m c.magnitude h)
-
-  module _ (h : c.magnitude ≤ m) {l : ℕ} (el : l ≡ least k) where
-    pub out_below : c.magnitude < l → true ≡ is_out k c
-    unfolding is_out
-    out_below p = rw (← em, le-ltb m c.magnitude h, ← el, lt-ltb c.magnitude l p)
-
-    module _ (p : l ≤ c.magnitude) where
-      pub out_hull : k ≡ 0 → false ≡ is_out k c
-      unfolding is_out
-      out_hull z = rw (← em, le-ltb m c.magnitude h, ← el, le-ltb c.magnitude l p, eq-eqb k 0 z)
-
-      module _ (z : k ≡ 0 → ⊥) where
-        pub out_negative : c.negative ≡ true → not (eqb c.magnitude 0) ≡ is_out k c
-        unfolding is_out
-        out_negative q = rw (← em, le-ltb m c.magnitude h, ← el, le-ltb c.magnitude l p, ne_eqb k 0 z, q)
-
-        pub out_none : c.negative ≡ false → false ≡ is_out k c
-        unfolding is_out
-        out_none q = rw (← em, le-ltb m c.magnitude h, ← el, le-ltb c.magnitude l p, ne_eqb k 0 z, q)
-
 module _ (k : ℕ) (c : Cell) where
   pub number_valueless : c.size ≡ 0 → 5 ≡ number_fault k c
   unfolding number_fault
@@ -142,19 +65,6 @@ module _ (w : ℕ) (c : Cell) where
     left_other p = rw (ne_eqb w 0 h, ← eb, p)
 
 module _ (k w : ℕ) (v c : Cell) where
-  pub open_other : (k ≡ 0 → ⊥) → false ≡ is_open k w v c
-  unfolding is_open
-  open_other h = rw (ne_eqb k 0 h)
-
-  module _ (h : k ≡ 0) where
-    pub open_valued : (v.size ≡ 0 → ⊥) → false ≡ is_open k w v c
-    unfolding is_open
-    open_valued p = rw (eq-eqb k 0 h, ne_eqb v.size 0 p)
-
-    pub open_left : v.size ≡ 0 → {b : Bool} → b ≡ is_left_out w c → b ≡ is_open k w v c
-    unfolding is_open
-    open_left p e = e ∙ rw (eq-eqb k 0 h, eq-eqb v.size 0 p)
-
   module _ {o : Bool} (eo : o ≡ is_open k w v c) where
     pub value_open : o ≡ true → 0 ≡ value_fault k w v c
     unfolding value_fault
@@ -174,27 +84,35 @@ faulty_step : (k w r : ℕ) (csv : List ℕ) (n : ℕ) →
 unfolding faulty_field
 faulty_step k w r csv n = refl
 
--- none of fields 1 to f is faulty
-pub record Faultless (k w r n : ℕ) (csv : List ℕ) (f : ℕ) : Type 0 where
-  pub within : f ≤ n
-  pub so_far : faulty_field k w r f csv ≡ 0
-
-pub faultless_start : {k w r n : ℕ} {csv : List ℕ} → Faultless k w r n csv 0
+faulty_at : (k w r : ℕ) (csv : List ℕ) (f : ℕ) → 1 ≤ f →
+    faulty_field k w r f csv ≡ cond (eqb (faulty_field k w r (f - 1) csv) 0) (cond (eqb (field_fault k w r f csv) 0) 0 f) (faulty_field k w r (f - 1) csv)
 unfolding faulty_field
-faultless_start = record { within = omega arith; so_far = refl }
+faulty_at k w r csv zero h = absurd (omega arith)
+faulty_at k w r csv (suc f) h = let e : suc f - 1 ≡ f = omega arith in rw e
+
+-- none of the fields before f is faulty
+pub record Faultless (k w r n : ℕ) (csv : List ℕ) (f : ℕ) : Type 0 where
+  pub some : 1 ≤ f
+  pub within : f ≤ n + 1
+  pub so_far : faulty_field k w r (f - 1) csv ≡ 0
+
+pub faultless_start : {k w r n : ℕ} {csv : List ℕ} → Faultless k w r n csv 1
+unfolding faulty_field
+faultless_start = record { some = omega arith; within = omega arith; so_far = refl }
 
 module _ {k w r n : ℕ} {csv : List ℕ} {f : ℕ} (d : Faultless k w r n csv f) where
-  pub faultless_more : f < n → {x : ℕ} → x ≡ field_fault k w r (f + 1) csv → x ≡ 0 → Faultless k w r n csv (f + 1)
-  faultless_more l ex h = record { within = omega arith; so_far = rw add-one (faulty_step k w r csv f ∙ rw (d.so_far, ← (rw add-one at ex), h)) }
+  pub faultless_more : f ≤ n → {x : ℕ} → x ≡ field_fault k w r f csv → x ≡ 0 → Faultless k w r n csv (f + 1)
+  faultless_more l ex h =
+      record { some = omega arith; within = omega arith; so_far = let e : f + 1 - 1 ≡ f = omega arith in rw e (faulty_at k w r csv f d.some ∙ rw (d.so_far, ← ex, h)) }
 
-  pub faultless_found : f < n → {x : ℕ} → x ≡ field_fault k w r (f + 1) csv → (x ≡ 0 → ⊥) → f + 1 ≡ faulty_field k w r n csv
+  pub faultless_found : f ≤ n → {x : ℕ} → x ≡ field_fault k w r f csv → (x ≡ 0 → ⊥) → f ≡ faulty_field k w r n csv
   faultless_found l {x} ex h =
-      let e : faulty_field k w r (f + 1) csv ≡ f + 1 = rw add-one (faulty_step k w r csv f ∙ rw (d.so_far, ← (rw add-one at ex), ne_eqb x 0 h)) in
+      let e : faulty_field k w r f csv ≡ f = faulty_at k w r csv f d.some ∙ rw (d.so_far, ← ex, ne_eqb x 0 h) in
       sym e
-      ∙ first_stays (λ y. y) (λ m. faulty_field k w r m csv) (λ m. cond (eqb (field_fault k w r m csv) 0) 0 m) (faulty_step k w r csv) (f + 1) n (omega arith) (λ z. omega (arith, e))
+      ∙ first_stays (λ y. y) (λ m. faulty_field k w r m csv) (λ m. cond (eqb (field_fault k w r m csv) 0) 0 m) (faulty_step k w r csv) f n l (λ z. omega (arith, e, d.some))
 
-  pub faultless_end : n ≤ f → 0 ≡ faulty_field k w r n csv
-  faultless_end h = let e : n ≡ f = omega (arith, d.within) in rw e (sym d.so_far)
+  pub faultless_end : n + 1 ≤ f → 0 ≡ faulty_field k w r n csv
+  faultless_end h = let e : n ≡ f - 1 = omega (arith, d.within) in rw e (sym d.so_far)
 
 -- ---- the first column without a name
 nameless_step : (csv : List ℕ) (n : ℕ) →
@@ -202,27 +120,35 @@ nameless_step : (csv : List ℕ) (n : ℕ) →
 unfolding nameless
 nameless_step csv n = refl
 
--- each of columns 1 to f has a name
-pub record Named (n : ℕ) (csv : List ℕ) (f : ℕ) : Type 0 where
-  pub within : f ≤ n
-  pub so_far : nameless f csv ≡ 0
-
-pub named_start : {n : ℕ} {csv : List ℕ} → Named n csv 0
+nameless_at : (csv : List ℕ) (f : ℕ) → 1 ≤ f →
+    nameless f csv ≡ cond (eqb (nameless (f - 1) csv) 0) (cond (eqb (length (cell_text 0 f csv)) 0) f 0) (nameless (f - 1) csv)
 unfolding nameless
-named_start = record { within = omega arith; so_far = refl }
+nameless_at csv zero h = absurd (omega arith)
+nameless_at csv (suc f) h = let e : suc f - 1 ≡ f = omega arith in rw e
+
+-- each of the columns before f has a name
+pub record Named (n : ℕ) (csv : List ℕ) (f : ℕ) : Type 0 where
+  pub some : 1 ≤ f
+  pub within : f ≤ n + 1
+  pub so_far : nameless (f - 1) csv ≡ 0
+
+pub named_start : {n : ℕ} {csv : List ℕ} → Named n csv 1
+unfolding nameless
+named_start = record { some = omega arith; within = omega arith; so_far = refl }
 
 module _ {n : ℕ} {csv : List ℕ} {f : ℕ} (d : Named n csv f) where
-  pub named_more : f < n → {x : ℕ} → x ≡ length (cell_text 0 (f + 1) csv) → (x ≡ 0 → ⊥) → Named n csv (f + 1)
-  named_more l {x} ex h = record { within = omega arith; so_far = rw add-one (nameless_step csv f ∙ rw (d.so_far, ← (rw add-one at ex), ne_eqb x 0 h)) }
+  pub named_more : f ≤ n → {x : ℕ} → x ≡ length (cell_text 0 f csv) → (x ≡ 0 → ⊥) → Named n csv (f + 1)
+  named_more l {x} ex h =
+      record { some = omega arith; within = omega arith; so_far = let e : f + 1 - 1 ≡ f = omega arith in rw e (nameless_at csv f d.some ∙ rw (d.so_far, ← ex, ne_eqb x 0 h)) }
 
-  pub named_found : f < n → {x : ℕ} → x ≡ length (cell_text 0 (f + 1) csv) → x ≡ 0 → f + 1 ≡ nameless n csv
+  pub named_found : f ≤ n → {x : ℕ} → x ≡ length (cell_text 0 f csv) → x ≡ 0 → f ≡ nameless n csv
   named_found l ex h =
-      let e : nameless (f + 1) csv ≡ f + 1 = rw add-one (nameless_step csv f ∙ rw (d.so_far, ← (rw add-one at ex), h)) in
+      let e : nameless f csv ≡ f = nameless_at csv f d.some ∙ rw (d.so_far, ← ex, h) in
       sym e
-      ∙ first_stays (λ y. y) (λ m. nameless m csv) (λ m. cond (eqb (length (cell_text 0 m csv)) 0) m 0) (nameless_step csv) (f + 1) n (omega arith) (λ z. omega (arith, e))
+      ∙ first_stays (λ y. y) (λ m. nameless m csv) (λ m. cond (eqb (length (cell_text 0 m csv)) 0) m 0) (nameless_step csv) f n l (λ z. omega (arith, e, d.some))
 
-  pub named_end : n ≤ f → 0 ≡ nameless n csv
-  named_end h = let e : n ≡ f = omega (arith, d.within) in rw e (sym d.so_far)
+  pub named_end : n + 1 ≤ f → 0 ≡ nameless n csv
+  named_end h = let e : n ≡ f - 1 = omega (arith, d.within) in rw e (sym d.so_far)
 
 -- ---- a row
 pub found_made : (r f x : ℕ) (csv : List ℕ) {l : ℕ} → l ≡ line_of r csv → record { fault = x; line = l; row = r; field = f } ≡ found_in r f x csv

@@ -85,12 +85,6 @@ module _ (r : ℕ) (csv : List ℕ) {n : ℕ} (en : n ≡ length (cell_text r 0 
     at_nameless h = rw (← ew, ne_eqb w 0 h, kind_empty (cell_text r 0 csv) (sym en ∙ z))
 
 -- ---- the row of a kind
-pub place_each : (k : ℕ) → k ≡ 5 → 4 ≡ place k
-place_each k h = rw h
-
-pub place_other : (k : ℕ) → (k ≡ 5 → ⊥) → k ≡ place k
-place_other k h = rw (ne_eqb k 5 h)
-
 row_step : (k r : ℕ) (csv : List ℕ) → (r ≡ 0 → ⊥) → row_of k r csv ≡ cond (eqb (place (kind_at r csv)) k) r (row_of k (r - 1) csv)
 unfolding row_of
 row_step k zero csv h = absurd (h refl)

@@ -1,4 +1,5 @@
 -- The definitions of this crate.
+pub mod Numbers
 pub mod Kinds
 pub mod Rows
 pub mod Sound

@@ -7,29 +7,26 @@ ghost use Rattle.std.specs.Prelude.{List, ◌≡◌, ℕ, ◌≤◌, length};
 ghost use Rattle.csv_bytes.specs.Cells.{read};
 ghost use Rattle.csv_cells.specs.Cells.{cell_text};
 ghost use Rattle.csv_slots.specs.Slots.{Room, Held};
+ghost use Rattle.csv_sheet_rows.specs.Numbers.{kind_number};
 ghost use Rattle.csv_sheet_rows.specs.Kinds.{kind_of, kind_at, place, row_of};
 ghost use Rattle.csv_sheet_rows.specs.Rows.{count_of, least, most, is_out, number_fault, is_left_out, is_open, value_fault, field_fault, faulty_field, none, found_in, many_finding, numbers_finding, kind_finding, row_finding, rows_finding, sheet_names, nameless, names_finding, last_row, without, missing_finding, content_finding, rows_fault};
 
 use csv_bytes::Cell;
 
-// What a row is: a hull, units, factors, steps, a tolerance in all or for each column, two for the report, or without text.
-pub const HULL: u32 = 0;
-
-pub const UNITS: u32 = 1;
-
-pub const FACTORS: u32 = 2;
-
-pub const STEPS: u32 = 3;
-
-pub const TOLERANCE: u32 = 4;
-
-pub const EACH: u32 = 5;
-
-pub const DISPLACEMENT: u32 = 6;
-
-pub const LENGTH: u32 = 7;
-
-pub const BLANK: u32 = 8;
+// What a row is, each with the number that the definitions give it. The last three are two rows for the report and one without text.
+#[derive(Clone, Copy, Debug, PartialEq, Eq)]
+pub enum Kind {
+    Hull = 0,
+    Units = 1,
+    Factors = 2,
+    Steps = 3,
+    Tolerance = 4,
+    // a tolerance for each column
+    Each = 5,
+    Displacement = 6,
+    Length = 7,
+    Blank = 8,
+}
 
 // What is wrong, besides what csv_cells finds: no name, no column, no value, no whole number, a value out of range, more than 16 rows,
 // a second row of a kind, no hull, no steps, no tolerance, more values than the row has numbers.
@@ -65,37 +62,37 @@ pub struct Finding {
 }
 
 // What a row is by its first field.
-pub fn kind_of(name: &[u8]) -> u32
-    ensures { result ≡ kind_of name.now }
+pub fn kind_of(name: &[u8]) -> Kind
+    ensures { kind_number result ≡ kind_of name.now }
 {
     if equal_bytes::is_same(name, b"unit") {
-        return UNITS;
+        return Kind::Units;
     }
     if equal_bytes::is_same(name, b"factor") {
-        return FACTORS;
+        return Kind::Factors;
     }
     if equal_bytes::is_same(name, b"steps") {
-        return STEPS;
+        return Kind::Steps;
     }
     if equal_bytes::is_same(name, b"tolerance") {
-        return TOLERANCE;
+        return Kind::Tolerance;
     }
     if equal_bytes::is_same(name, b"tolerance each") {
-        return EACH;
+        return Kind::Each;
     }
     if equal_bytes::is_same(name, b"displacement t") {
-        return DISPLACEMENT;
+        return Kind::Displacement;
     }
     if equal_bytes::is_same(name, b"length m") {
-        return LENGTH;
+        return Kind::Length;
     }
-    HULL
+    Kind::Hull
 }
 
 // What a row is. All its fields are looked at only where the first is empty.
-pub fn kind_at(csv: &[u8], row: usize) -> u32
+pub fn kind_at(csv: &[u8], row: usize) -> Kind
     requires { length csv.now ≤ 200000 }
-    ensures { result ≡ kind_at row csv.now }
+    ensures { kind_number result ≡ kind_at row csv.now }
 {
     let mut name = [0u8; 200];
     let n = csv_cells::put_cell(csv, row, 0, &mut name);
@@ -103,52 +100,50 @@ pub fn kind_at(csv: &[u8], row: usize) -> u32
         return kind_of(&name[..n]);
     }
     if csv_cells::width(csv, row) == 0 {
-        return BLANK;
+        return Kind::Blank;
     }
-    HULL
+    Kind::Hull
 }
 
 // The two kinds of tolerance stand for each other.
-fn place(kind: u32) -> u32
-    ensures { result ≡ place kind }
+fn place(kind: Kind) -> Kind
+    ensures { kind_number result ≡ place (kind_number kind) }
 {
-    if kind == EACH {
-        return TOLERANCE;
+    match kind {
+        Kind::Each => Kind::Tolerance,
+        _ => kind,
     }
-    kind
 }
 
 // What a row is, by the slots of the first 16 rows.
-fn kind_in(sizes: &[u8], cells: &[u8], row: usize) -> u32
+fn kind_in(sizes: &[u8], cells: &[u8], row: usize) -> Kind
     requires room { Room 16 sizes.now cells.now }
     requires row_bound { row ≤ 15 }
-    ensures { (csv : List ℕ) → Held 0 16 csv sizes.now cells.now → result ≡ kind_at row csv }
+    ensures { (csv : List ℕ) → Held 0 16 csv sizes.now cells.now → kind_number result ≡ kind_at row csv }
 {
     let name = csv_slots::cell(cells, sizes, 65 * row);
     if name.len() != 0 {
         return kind_of(name);
     }
     if csv_slots::width_in(sizes, row) == 0 {
-        return BLANK;
+        return Kind::Blank;
     }
-    HULL
+    Kind::Hull
 }
 
 // The last row from 1 to `n` that stands for a kind, 0 if there is none. All rows are read in one pass.
-pub fn row_of(csv: &[u8], kind: u32, n: usize) -> usize
+pub fn row_of(csv: &[u8], kind: Kind, n: usize) -> usize
     requires csv_len_bound { length csv.now ≤ 200000 }
     requires n_bound { n ≤ 15 }
-    ensures { result ≡ row_of kind n csv.now }
+    ensures { result ≡ row_of (kind_number kind) n csv.now }
 {
     let mut sizes = [0u8; 1040];
     let mut cells = [0u8; 208000];
     csv_slots::put_rows(csv, 0, 16, &mut sizes, &mut cells);
-    let mut row = n;
-    while row != 0 {
+    for row in (1..=n).rev() {
         if place(kind_in(&sizes, &cells, row)) == kind {
             return row;
         }
-        row -= 1;
     }
     0
 }
@@ -159,8 +154,8 @@ pub fn read(text: &[u8]) -> Cell
     ensures { result ≡ read text.now }
 {
     let mut cell = Cell::empty();
-    for i in 0..text.len() {
-        cell = cell.with_byte(text[i]);
+    for byte in text {
+        cell = cell.with_byte(*byte);
     }
     cell
 }
@@ -185,56 +180,46 @@ fn size_at(csv: &[u8], row: usize, field: usize) -> usize
 }
 
 // How many numbers a row has.
-fn count_of(kind: u32, columns: usize) -> usize
-    ensures { result ≡ count_of kind columns }
+#[tactic(auto, unfolding(crate::specs::Rows::count_of))]
+fn count_of(kind: Kind, columns: usize) -> usize
+    ensures { result ≡ count_of (kind_number kind) columns }
 {
-    if kind == HULL {
-        return columns;
+    match kind {
+        Kind::Hull | Kind::Factors => columns,
+        Kind::Steps | Kind::Tolerance | Kind::Each => 1,
+        Kind::Units | Kind::Displacement | Kind::Length | Kind::Blank => 0,
     }
-    if kind == FACTORS {
-        return columns;
-    }
-    if kind < STEPS {
-        return 0;
-    }
-    if kind < DISPLACEMENT {
-        return 1;
-    }
-    0
 }
 
 // The least number that a row may have.
-fn least(kind: u32) -> u32
-    ensures { result ≡ least kind }
+#[tactic(auto, unfolding(crate::specs::Rows::least))]
+fn least(kind: Kind) -> u32
+    ensures { result ≡ least (kind_number kind) }
 {
-    if kind == STEPS {
-        return 1;
+    match kind {
+        Kind::Steps => 1,
+        _ => 0,
     }
-    0
 }
 
 // The largest number that a row may have, without its sign.
-fn most(kind: u32) -> u32
-    ensures { result ≡ most kind }
+#[tactic(auto, unfolding(crate::specs::Rows::most))]
+fn most(kind: Kind) -> u32
+    ensures { result ≡ most (kind_number kind) }
 {
-    if kind == HULL {
-        return 2000;
+    match kind {
+        Kind::Hull => 2000,
+        Kind::Factors => 64,
+        Kind::Steps => files::MOST_STEPS,
+        Kind::Tolerance => 1024000000,
+        _ => 32000,
     }
-    if kind == FACTORS {
-        return 64;
-    }
-    if kind == STEPS {
-        return files::MOST_STEPS;
-    }
-    if kind == TOLERANCE {
-        return 1024000000;
-    }
-    32000
 }
 
 // Whether a number is out of range: only a hull's may be below 0.
-fn is_out(kind: u32, cell: Cell) -> bool
-    ensures { result ≡ is_out kind cell }
+#[tactic(auto, unfolding(crate::specs::Rows::is_out))]
+fn is_out(kind: Kind, cell: Cell) -> bool
+    ensures { result ≡ is_out (kind_number kind) cell }
 {
     if most(kind) < cell.magnitude {
         return true;
@@ -242,7 +227,7 @@ fn is_out(kind: u32, cell: Cell) -> bool
     if cell.magnitude < least(kind) {
         return true;
     }
-    if kind == HULL {
+    if kind == Kind::Hull {
         return false;
     }
     if cell.negative {
@@ -252,8 +237,8 @@ fn is_out(kind: u32, cell: Cell) -> bool
 }
 
 // What is wrong with a number of a row, or 0.
-fn number_fault(kind: u32, cell: Cell) -> u32
-    ensures { result ≡ number_fault kind cell }
+fn number_fault(kind: Kind, cell: Cell) -> u32
+    ensures { result ≡ number_fault (kind_number kind) cell }
 {
     if cell.size == 0 {
         return NO_VALUE;
@@ -281,10 +266,11 @@ fn is_left_out(factors: usize, factor: Cell) -> bool
 }
 
 // Whether a hull's value is left open.
-fn is_open(kind: u32, factors: usize, value: Cell, factor: Cell) -> bool
-    ensures { result ≡ is_open kind factors value factor }
+#[tactic(auto, unfolding(crate::specs::Rows::is_open))]
+fn is_open(kind: Kind, factors: usize, value: Cell, factor: Cell) -> bool
+    ensures { result ≡ is_open (kind_number kind) factors value factor }
 {
-    if kind != HULL {
+    if kind != Kind::Hull {
         return false;
     }
     if value.size != 0 {
@@ -294,8 +280,8 @@ fn is_open(kind: u32, factors: usize, value: Cell, factor: Cell) -> bool
 }
 
 // What is wrong with a number of a row, or 0: a hull may have none in a column that is left out.
-fn value_fault(kind: u32, factors: usize, value: Cell, factor: Cell) -> u32
-    ensures { result ≡ value_fault kind factors value factor }
+fn value_fault(kind: Kind, factors: usize, value: Cell, factor: Cell) -> u32
+    ensures { result ≡ value_fault (kind_number kind) factors value factor }
 {
     if is_open(kind, factors, value, factor) {
         return 0;
@@ -304,9 +290,9 @@ fn value_fault(kind: u32, factors: usize, value: Cell, factor: Cell) -> u32
 }
 
 // What is wrong with a field of a row, or 0.
-fn field_fault(csv: &[u8], kind: u32, factors: usize, row: usize, field: usize) -> u32
+fn field_fault(csv: &[u8], kind: Kind, factors: usize, row: usize, field: usize) -> u32
     requires { length csv.now ≤ 200000 }
-    ensures { result ≡ field_fault kind factors row field csv.now }
+    ensures { result ≡ field_fault (kind_number kind) factors row field csv.now }
 {
     let value = cell_at(csv, row, field);
     let factor = cell_at(csv, factors, field);
@@ -324,10 +310,10 @@ fn read_slot(sizes: &[u8], cells: &[u8], field: usize) -> Cell
 }
 
 // The first of fields 1 to `n` that is faulty, 0 if none is.
-fn faulty_field(csv: &[u8], kind: u32, factors: usize, row: usize, n: usize) -> usize
+fn faulty_field(csv: &[u8], kind: Kind, factors: usize, row: usize, n: usize) -> usize
     requires csv_len_bound { length csv.now ≤ 200000 }
     requires n_bound { n ≤ 64 }
-    ensures { result ≡ faulty_field kind factors row n csv.now }
+    ensures { result ≡ faulty_field (kind_number kind) factors row n csv.now }
 {
     let mut sizes = [0u8; 65];
     let mut cells = [0u8; 13000];
@@ -335,9 +321,7 @@ fn faulty_field(csv: &[u8], kind: u32, factors: usize, row: usize, n: usize) -> 
     let mut factor_sizes = [0u8; 65];
     let mut factor_cells = [0u8; 13000];
     csv_slots::put_rows(csv, factors, 1, &mut factor_sizes, &mut factor_cells);
-    let mut field = 0;
-    while field < n {
-        field += 1;
+    for field in 1..=n {
         let value = read_slot(&sizes, &cells, field);
         let factor = read_slot(&factor_sizes, &factor_cells, field);
         if value_fault(kind, factors, value, factor) != 0 {
@@ -385,10 +369,10 @@ fn many_finding(csv: &[u8], n: usize, row: usize) -> Finding
 }
 
 // What is wrong with the `n` numbers of a row.
-fn numbers_finding(csv: &[u8], kind: u32, factors: usize, n: usize, row: usize) -> Finding
+fn numbers_finding(csv: &[u8], kind: Kind, factors: usize, n: usize, row: usize) -> Finding
     requires csv_len_bound { length csv.now ≤ 200000 }
     requires n_bound { n ≤ 64 }
-    ensures { result ≡ numbers_finding kind factors n row csv.now }
+    ensures { result ≡ numbers_finding (kind_number kind) factors n row csv.now }
 {
     if n == 0 {
         return none();
@@ -401,14 +385,14 @@ fn numbers_finding(csv: &[u8], kind: u32, factors: usize, n: usize, row: usize) 
 }
 
 // What is wrong with a row of a kind, whose kind may not stand before it.
-fn kind_finding(csv: &[u8], kind: u32, factors: usize, columns: usize, row: usize) -> Finding
+fn kind_finding(csv: &[u8], kind: Kind, factors: usize, columns: usize, row: usize) -> Finding
     requires csv_len_bound { length csv.now ≤ 200000 }
     requires columns_bound { columns ≤ 64 }
     requires le_row { 1 ≤ row }
     requires row_bound { row ≤ 15 }
-    ensures { result ≡ kind_finding kind factors columns row csv.now }
+    ensures { result ≡ kind_finding (kind_number kind) factors columns row csv.now }
 {
-    if kind == BLANK {
+    if kind == Kind::Blank {
         return none();
     }
     if row_of(csv, place(kind), row - 1) != 0 {
@@ -472,9 +456,7 @@ fn nameless(csv: &[u8], n: usize) -> usize
     let mut sizes = [0u8; 65];
     let mut cells = [0u8; 13000];
     csv_slots::put_rows(csv, 0, 1, &mut sizes, &mut cells);
-    let mut field = 0;
-    while field < n {
-        field += 1;
+    for field in 1..=n {
         if sizes[field] == 0 {
             return field;
         }
@@ -528,13 +510,13 @@ fn missing_finding(csv: &[u8], n: usize) -> Finding
     requires n_bound { n ≤ 15 }
     ensures { result ≡ missing_finding n csv.now }
 {
-    if row_of(csv, HULL, n) == 0 {
+    if row_of(csv, Kind::Hull, n) == 0 {
         return without(NO_HULL);
     }
-    if row_of(csv, STEPS, n) == 0 {
+    if row_of(csv, Kind::Steps, n) == 0 {
         return without(NO_STEPS);
     }
-    if row_of(csv, TOLERANCE, n) == 0 {
+    if row_of(csv, Kind::Tolerance, n) == 0 {
         return without(NO_TOLERANCE);
     }
     none()
@@ -553,7 +535,7 @@ fn content_finding(csv: &[u8]) -> Finding
     if names.fault != 0 {
         return names;
     }
-    let factors = row_of(csv, FACTORS, last);
+    let factors = row_of(csv, Kind::Factors, last);
     let rows = rows_finding(csv, factors, columns(csv), last);
     if rows.fault != 0 {
         return rows;

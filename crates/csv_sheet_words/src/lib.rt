@@ -5,30 +5,26 @@
 
 ghost use Rattle.std.specs.Prelude.{◌≡◌, ◌+◌, ◌≤◌, length};
 ghost use Rattle.text.specs.Texts.{text_limit, Holds, Adds};
+ghost use Rattle.csv_sheet_rows.specs.Numbers.{kind_number};
 ghost use Rattle.csv_sheet_words.specs.Words.{range_words, beyond_words, again_words, nameless_words, missing_words, limit_words, words, of_value, wants_row, wants_column, row_line, opening, closing, column_line};
 
 use csv_sheet::Made;
+use csv_sheet_rows::Kind;
 use text::Text;
 
 // The text followed by from where to where the numbers of a row go.
-fn with_range(text: Text, kind: u32) -> Text
+fn with_range(text: Text, kind: Kind) -> Text
     requires { text.len + 50 ≤ text_limit }
-    ensures adds { Adds text (range_words kind) result }
+    ensures adds { Adds text (range_words (kind_number kind)) result }
     ensures len_bound { result.len ≤ text.len + 50 }
 {
-    if kind == csv_sheet_rows::HULL {
-        return text.with_bytes(b" is not from -2000 to 2000");
+    match kind {
+        Kind::Hull => text.with_bytes(b" is not from -2000 to 2000"),
+        Kind::Factors => text.with_bytes(b" is not from 0 to 64"),
+        Kind::Steps => text.with_bytes(b" is not from 1 to 360"),
+        Kind::Tolerance => text.with_bytes(b" is not from 0 to 1024000000"),
+        _ => text.with_bytes(b" is not from 0 to 32000"),
     }
-    if kind == csv_sheet_rows::FACTORS {
-        return text.with_bytes(b" is not from 0 to 64");
-    }
-    if kind == csv_sheet_rows::STEPS {
-        return text.with_bytes(b" is not from 1 to 360");
-    }
-    if kind == csv_sheet_rows::TOLERANCE {
-        return text.with_bytes(b" is not from 0 to 1024000000");
-    }
-    text.with_bytes(b" is not from 0 to 32000")
 }
 
 // The text followed by how many values a row may have, where `field` is the first beyond them.
@@ -44,12 +40,12 @@ fn with_beyond(text: Text, field: usize) -> Text
 }
 
 // The text followed by what is wrong with a second row of a kind.
-fn with_again(text: Text, kind: u32) -> Text
+fn with_again(text: Text, kind: Kind) -> Text
     requires { text.len + 50 ≤ text_limit }
-    ensures adds { Adds text (again_words kind) result }
+    ensures adds { Adds text (again_words (kind_number kind)) result }
     ensures len_bound { result.len ≤ text.len + 50 }
 {
-    if kind == csv_sheet_rows::HULL {
+    if kind == Kind::Hull {
         return text.with_bytes(b"a second hull, or a word that is not known");
     }
     text.with_bytes(b"this line again")
@@ -110,9 +106,9 @@ fn with_limit(text: Text, fault: u32) -> Text
 }
 
 // The text followed by what is wrong.
-fn with_words(text: Text, fault: u32, field: usize, kind: u32, value: &[u8]) -> Text
+fn with_words(text: Text, fault: u32, field: usize, kind: Kind, value: &[u8]) -> Text
     requires { text.len + length value.now + 60 ≤ text_limit }
-    ensures adds { Adds text (words fault field kind value.now) result }
+    ensures adds { Adds text (words fault field (kind_number kind) value.now) result }
     ensures len_bound { result.len ≤ text.len + length value.now + 60 }
 {
     if fault == csv_sheet_rows::NO_VALUE {
@@ -185,24 +181,24 @@ pub fn wants_row(fault: u32) -> bool
     fault == csv_sheet_rows::MANY_VALUES
 }
 
-pub fn wants_column(fault: u32, kind: u32) -> bool
-    ensures { result ≡ wants_column fault kind }
+pub fn wants_column(fault: u32, kind: Kind) -> bool
+    ensures { result ≡ wants_column fault (kind_number kind) }
 {
     if of_value(fault) {
-        if kind == csv_sheet_rows::HULL {
+        if kind == Kind::Hull {
             return true;
         }
-        return kind == csv_sheet_rows::FACTORS;
+        return kind == Kind::Factors;
     }
     false
 }
 
 // The line of a fault in a row, once the names are found.
-pub fn row_line(made: Made, kind: u32, row: &[u8], column: &[u8], value: &[u8]) -> Text
+pub fn row_line(made: Made, kind: Kind, row: &[u8], column: &[u8], value: &[u8]) -> Text
     requires row_len_bound { length row.now ≤ 200 }
     requires column_len_bound { length column.now ≤ 200 }
     requires value_len_bound { length value.now ≤ 200 }
-    ensures { Holds (row_line made kind row.now column.now value.now) result }
+    ensures { Holds (row_line made (kind_number kind) row.now column.now value.now) result }
 {
     let empty = Text::empty();
     let begun = empty.with_bytes(b"sheet.csv");

@@ -1,6 +1,5 @@
 -- `csv_sheet_rows::faulty_field` meets its contract. The loop keeps `Faultless`: none of the fields so far is faulty.
 -- A turn reads the next field of the row, and of the row of factors, from their slots.
--- It ends: the fields that are left fall by one.
 use borrow.Author.Rules.{rules}
 use native.Mathlib.Omega.{arith}
 use Rattle.csv_slots.proofs.Holding.{zeros_room, zeros_empty}
@@ -27,6 +26,9 @@ returns-then-value_fault-ne0 c = faultless_found c.loop-field.invariant c.loop-f
 
 pub loop-field-preserved : goal.loop-field-preserved
 loop-field-preserved c = faultless_more c.loop-field.invariant c.loop-field-test.true (field_read _ _ _ _ _ (c.read_slot-value.ensures _ _ c.put_rows.ensures) (c.read_slot-factor.ensures _ _ c.put_rows-2.ensures) c.value_fault.ensures) c.if-value_fault-ne0.false
+
+pub returns-else-value_fault-ne0 : goal.returns-else-value_fault-ne0
+returns-else-value_fault-ne0 c = faultless_end (faultless_more c.loop-field.invariant c.loop-field-test.true (field_read _ _ _ _ _ (c.read_slot-value.ensures _ _ c.put_rows.ensures) (c.read_slot-factor.ensures _ _ c.put_rows-2.ensures) c.value_fault.ensures) c.if-value_fault-ne0.false) (omega arith)
 
 pub returns : goal.returns
 returns c = search (rules, faultless_end)

@@ -3,8 +3,8 @@ use borrow.Author.Rules.{rules}
 use Rattle.csv_sheet_rows.proofs.Findings.{count_few, row_blank, row_again, row_nameless, row_numbers}
 use Rattle.csv_sheet_rows.proofs.kind_finding.Goals as goal
 
-pub returns-then-kind-eq-BLANK : goal.returns-then-kind-eq-BLANK
-returns-then-kind-eq-BLANK c = search (rules, row_blank)
+pub returns-then-eq : goal.returns-then-eq
+returns-then-eq c = search (rules, row_blank)
 
 pub returns-then-row_of-ne0 : goal.returns-then-row_of-ne0
 returns-then-row_of-ne0 c = search (rules, row_again)

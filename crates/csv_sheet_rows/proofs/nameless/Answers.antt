@@ -20,5 +20,8 @@ returns-then-sizes-field-eq0 c = named_found c.loop-field.invariant c.loop-field
 pub loop-field-preserved : goal.loop-field-preserved
 loop-field-preserved c = named_more c.loop-field.invariant c.loop-field-test.true (size_held c.put_rows.ensures _ (omega (arith, c.loop-field-test.true, c.requires.n_bound))) c.if-sizes-field-eq0.false
 
+pub returns-else-sizes-field-eq0 : goal.returns-else-sizes-field-eq0
+returns-else-sizes-field-eq0 c = named_end (named_more c.loop-field.invariant c.loop-field-test.true (size_held c.put_rows.ensures _ (omega (arith, c.loop-field-test.true, c.requires.n_bound))) c.if-sizes-field-eq0.false) (omega arith)
+
 pub returns : goal.returns
 returns c = search (rules, named_end)
