@@ -8,10 +8,10 @@ use lib.ListN.{length, length-map}
 use Rattle.text.specs.Texts.{Holds, Adds}
 use Rattle.text.specs.declared.Text.{Text}
 use Rattle.text.proofs.Texts.{adds_both, adds_to_empty}
-use Rattle.message_parts.specs.Parts.{COLON, RANGE_WORDS, shown, part}
+use Rattle.message_parts.specs.Parts.{COLON, shown, part}
 use Rattle.csv_book_words.specs.Words.{FILE, NO_COLUMN, NOT_WHOLE_WORDS, place, unnamed_words, many_words, plain_words}
 use Rattle.csv_sheet.specs.declared.Made.{Made}
-use Rattle.csv_sheet_words.specs.Words.{SHEET_FILE, NO_VALUE, FACTOR_RANGE, STEPS_RANGE, TOLERANCE_RANGE, EACH_RANGE, MANY_FOR_ONE, AGAIN, SECOND_HULL, HULL_UNNAMED, FIELDS_WORDS, BYTES_WORDS, LINES_WORDS, NO_HULL, NO_STEPS, NO_TOLERANCE, TOTAL_WORDS, ABOVE_WORDS, TWICE, NOT_IN_FLEET, range_words, beyond_words, again_words, nameless_words, missing_words, limit_words, words, row_line, COLUMN_OPEN, opening, closing, column_line}
+use Rattle.csv_sheet_words.specs.Words.{SHEET_FILE, NO_VALUE, MANY_FOR_ONE, HULL_UNNAMED, FIELDS_WORDS, BYTES_WORDS, LINES_WORDS, NO_HULL, NO_STEPS, NO_TOLERANCE, TOTAL_WORDS, ABOVE_WORDS, TWICE, NOT_IN_FLEET, range_words, beyond_words, again_words, nameless_words, missing_words, limit_words, words, row_line, COLUMN_OPEN, opening, closing, column_line}
 
 -- ---- words
 module _ {t r : Text} {w : List ℕ} (a : Adds t w r) (h : length w ≤ 50) where
@@ -20,35 +20,6 @@ module _ {t r : Text} {w : List ℕ} (a : Adds t w r) (h : length w ≤ 50) wher
 
   pub said_long : {l : List ℕ} → l ≡ w → (Adds t l r) × (r.len ≤ t.len + 60)
   said_long e = rw e (a, omega (arith, a.length_is))
-
-module _ (k : ℕ) where
-  pub range_hull : k ≡ 0 → range_words k ≡ RANGE_WORDS
-  unfolding range_words
-  range_hull e = rw e
-
-  pub range_factors : k ≡ 2 → range_words k ≡ FACTOR_RANGE
-  unfolding range_words
-  range_factors e = rw e
-
-  pub range_steps : k ≡ 3 → range_words k ≡ STEPS_RANGE
-  unfolding range_words
-  range_steps e = rw e
-
-  pub range_tolerance : k ≡ 4 → range_words k ≡ TOLERANCE_RANGE
-  unfolding range_words
-  range_tolerance e = rw e
-
-  pub range_each : (k ≡ 0 → ⊥) → (k ≡ 2 → ⊥) → (k ≡ 3 → ⊥) → (k ≡ 4 → ⊥) → range_words k ≡ EACH_RANGE
-  unfolding range_words
-  range_each a b c d = rw (ne_eqb k 0 a, ne_eqb k 2 b, ne_eqb k 3 c, ne_eqb k 4 d)
-
-  pub again_hull : k ≡ 0 → again_words k ≡ SECOND_HULL
-  unfolding again_words
-  again_hull e = rw e
-
-  pub again_other : (k ≡ 0 → ⊥) → again_words k ≡ AGAIN
-  unfolding again_words
-  again_other a = rw (ne_eqb k 0 a)
 
 module _ (f : ℕ) where
   pub missing_15 : f ≡ 15 → missing_words f ≡ NO_HULL

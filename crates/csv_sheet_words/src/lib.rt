@@ -13,6 +13,7 @@ use csv_sheet_rows::Kind;
 use text::Text;
 
 // The text followed by from where to where the numbers of a row go.
+#[tactic(auto, unfolding(crate::specs::Words::range_words))]
 fn with_range(text: Text, kind: Kind) -> Text
     requires { text.len + 50 ≤ text_limit }
     ensures adds { Adds text (range_words (kind_number kind)) result }
@@ -40,6 +41,7 @@ fn with_beyond(text: Text, field: usize) -> Text
 }
 
 // The text followed by what is wrong with a second row of a kind.
+#[tactic(auto, unfolding(crate::specs::Words::again_words))]
 fn with_again(text: Text, kind: Kind) -> Text
     requires { text.len + 50 ≤ text_limit }
     ensures adds { Adds text (again_words (kind_number kind)) result }
@@ -181,16 +183,11 @@ pub fn wants_row(fault: u32) -> bool
     fault == csv_sheet_rows::MANY_VALUES
 }
 
+#[tactic(auto, unfolding(crate::specs::Words::wants_column))]
 pub fn wants_column(fault: u32, kind: Kind) -> bool
     ensures { result ≡ wants_column fault (kind_number kind) }
 {
-    if of_value(fault) {
-        if kind == Kind::Hull {
-            return true;
-        }
-        return kind == Kind::Factors;
-    }
-    false
+    of_value(fault) && matches!(kind, Kind::Hull | Kind::Factors)
 }
 
 // The line of a fault in a row, once the names are found.

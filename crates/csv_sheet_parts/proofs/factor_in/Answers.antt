@@ -1,5 +1,4 @@
 -- `csv_sheet_parts::factor_in` meets its contract: a law for each return.
-use borrow.Author.Rules.{rules}
 use native.Mathlib.Omega.{arith}
 use mathlib.Core.Path.{ap, ◌∙◌}
 use lib.ListN.{length}

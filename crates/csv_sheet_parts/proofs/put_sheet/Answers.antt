@@ -1,5 +1,4 @@
 -- `csv_sheet_parts::put_sheet` meets its contract: a law for each edition.
-use borrow.Author.Rules.{rules}
 use Rattle.csv_sheet_parts.proofs.Editions.{plain_put, factored_put}
 use Rattle.csv_sheet_parts.proofs.put_sheet.Goals as goal
 

@@ -1,8 +1,6 @@
 -- `csv_sheet_parts::put_target` meets its contract. The loop keeps `ValuesPut`: the values of the first i columns are written, two bytes each.
 -- A turn reads the cell of column i and writes its value.
 -- It ends: the columns that are left fall by one.
-use borrow.Author.Rules.{rules}
-use Prim.Native.Nat.{◌-◌}
 use native.Mathlib.Omega.{arith}
 use mathlib.Core.Path.{◌≡◌, ap, ◌∙◌}
 use lib.ListN.{length, get_or}

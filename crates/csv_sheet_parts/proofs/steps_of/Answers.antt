@@ -1,5 +1,4 @@
 -- `csv_sheet_parts::steps_of` meets its contract.
-use borrow.Author.Rules.{rules}
 use Rattle.csv_sheet_parts.specs.Parts.{steps_of}
 use Rattle.csv_sheet_parts.proofs.steps_of.Goals as goal
 

@@ -1,5 +1,4 @@
 -- `csv_sheet_words::column_line` meets its contract.
-use borrow.Author.Rules.{rules}
 use native.Mathlib.Omega.{arith}
 use lib.ListN.{length-map}
 use Prim.Native.Nat.{◌≤◌}

@@ -1,5 +1,4 @@
 -- `csv_sheet_words::row_line` meets its contract.
-use borrow.Author.Rules.{rules}
 use native.Mathlib.Omega.{arith}
 use Prim.Native.Nat.{◌≤◌}
 use Rattle.csv_sheet_words.proofs.Wording.{row_told}

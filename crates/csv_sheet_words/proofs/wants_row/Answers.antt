@@ -1,5 +1,4 @@
 -- `csv_sheet_words::wants_row` meets its contract.
-use borrow.Author.Rules.{rules}
 use mathlib.Core.Path.{◌∙◌, sym}
 use borrow.Author.Tests.{eq-eqb, ne_eqb}
 use Rattle.csv_sheet_words.specs.Words.{wants_row}

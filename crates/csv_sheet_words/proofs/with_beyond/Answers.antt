@@ -1,5 +1,4 @@
 -- `csv_sheet_words::with_beyond` meets its contract.
-use borrow.Author.Rules.{rules}
 use Rattle.csv_sheet_words.proofs.Wording.{beyond_one, beyond_some}
 use Rattle.csv_sheet_words.proofs.with_beyond.Goals as goal
 

@@ -1,5 +1,4 @@
 -- `csv_sheet_words::with_closing` meets its contract.
-use borrow.Author.Rules.{rules}
 use native.Mathlib.Omega.{arith}
 use Rattle.csv_sheet_words.proofs.Wording.{said, closing_18, closing_20, closing_other}
 use Rattle.csv_sheet_words.proofs.with_closing.Goals as goal

@@ -1,5 +1,4 @@
 -- `csv_sheet_words::with_limit` meets its contract.
-use borrow.Author.Rules.{rules}
 use native.Mathlib.Omega.{arith}
 use Rattle.csv_sheet_words.proofs.Wording.{said, limit_4, limit_10, limit_13, limit_22, limit_23, limit_none}
 use Rattle.csv_sheet_words.proofs.with_limit.Goals as goal

@@ -1,5 +1,4 @@
 -- `csv_sheet_words::with_missing` meets its contract.
-use borrow.Author.Rules.{rules}
 use native.Mathlib.Omega.{arith}
 use Rattle.csv_sheet_words.proofs.Wording.{said, missing_15, missing_16, missing_17, missing_none}
 use Rattle.csv_sheet_words.proofs.with_missing.Goals as goal

@@ -1,5 +1,4 @@
 -- `csv_sheet_words::with_nameless` meets its contract.
-use borrow.Author.Rules.{rules}
 use Rattle.csv_sheet_words.proofs.Wording.{nameless_hull, nameless_column}
 use Rattle.csv_sheet_words.proofs.with_nameless.Goals as goal
 

@@ -1,5 +1,4 @@
 -- `csv_sheet_words::with_opening` meets its contract.
-use borrow.Author.Rules.{rules}
 use native.Mathlib.Omega.{arith}
 use Rattle.csv_sheet_words.proofs.Wording.{said, opening_18, opening_21, opening_other}
 use Rattle.csv_sheet_words.proofs.with_opening.Goals as goal

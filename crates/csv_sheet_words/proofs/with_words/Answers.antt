@@ -1,5 +1,4 @@
 -- `csv_sheet_words::with_words` meets its contract.
-use borrow.Author.Rules.{rules}
 use native.Mathlib.Omega.{arith}
 use lib.ListN.{length-map}
 use Rattle.message_parts.specs.Parts.{shown}
