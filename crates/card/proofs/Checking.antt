@@ -1,5 +1,5 @@
 -- The outcomes of `check_card_with`: refused by the terms or the files, a short share list, the card's form or its numbers, or answered.
-use Rattle.std.specs.Prelude.{Option}
+use Rattle.std.specs.Prelude.{Option, None}
 use mathlib.Core.Path.{◌≡◌, refl, sym, ap, ◌∙◌}
 use mathlib.Core.Bool.{Bool, true, false, not, ◌&&◌, cond}
 use mathlib.Core.List.{List, ◌∷◌, ◌++◌}
@@ -104,7 +104,7 @@ module _ (set : Released) (table : Option (List ℕ)) (b s w slots : List ℕ) w
   pub promised : all_bytes w ≡ true → {r : Searched} {now : List ℕ} → Gives (check_refusal_with m b s w (length slots)) r now →
       (r ≡ outcome (check_refusal_with m b s w (length slots)) (card_answer_with m b s w))
       × ((now ≡ slots_after (check_refusal_with m b s w (length slots)) (card_shares (boats b) w) slots)
-      × (CheckRightWith m b s w r now × (set.limited ≡ false → l ≡ false → m ≡ plain_terms)))
+      × (CheckRightWith m b s w r now × (set.limited ≡ false → table ≡ None → m ≡ plain_terms)))
   promised all g = (g.0, (g.1, (check_right m b s w slots all refl g.0 g.1, λ e f. rw (e, f))))
 
   refused : (n : ℕ) → (n ≡ 0 → ⊥) → Gives n (Refused n) slots
@@ -112,10 +112,13 @@ module _ (set : Released) (table : Option (List ℕ)) (b s w slots : List ℕ) w
   refused zero h = absurd (h refl)
   refused (suc n) h = (refl, refl)
 
-  pub refused_by_call : (n : ℕ) → n ≡ call_refusal m b s → (n ≡ 0 → ⊥) → Gives (check_refusal_with m b s w (length slots)) (Refused n) slots
+  refused_by : (n : ℕ) → n ≡ call_refusal m b s → (n ≡ 0 → ⊥) → Gives (check_refusal_with m b s w (length slots)) (Refused n) slots
   unfolding check_refusal_with search_refusal_with
-  refused_by_call zero e h = absurd (h refl)
-  refused_by_call (suc n) e h = rw (← e, eqb-suc-zero n, eqb-suc-zero n) (refused (suc n) h)
+  refused_by zero e h = absurd (h refl)
+  refused_by (suc n) e h = rw (← e, eqb-suc-zero n, eqb-suc-zero n) (refused (suc n) h)
+
+  pub refused_by_call : {r : Searched} (n : ℕ) → n ≡ call_refusal m b s → (n ≡ 0 → ⊥) → r ≡ Refused n → Gives (check_refusal_with m b s w (length slots)) r slots
+  refused_by_call n e h q = rw q (refused_by n e h)
 
   module _ (ok : call_refusal m b s ≡ 0) {y : Layout} (el : y ≡ file_layout b s) where
     pub refused_short : length slots < y.boats → Gives (check_refusal_with m b s w (length slots)) (Refused 21) slots
@@ -139,8 +142,8 @@ module _ (set : Released) (table : Option (List ℕ)) (b s w slots : List ℕ) w
         unfolding file_layout
         form_is = en ∙ rw (ec, ek, el)
 
-        pub refused_by_form : (n ≡ 0 → ⊥) → Gives (check_refusal_with m b s w (length slots)) (Refused n) slots
-        refused_by_form h = by n form_is h
+        pub refused_by_form : {r : Searched} → (n ≡ 0 → ⊥) → r ≡ Refused n → Gives (check_refusal_with m b s w (length slots)) r slots
+        refused_by_form h q = rw q (by n form_is h)
           where
             by : (n : ℕ) → n ≡ form_refusal (boats b) (columns b) (call_steps m s) w → (n ≡ 0 → ⊥) → Gives (check_refusal_with m b s w (length slots)) (Refused n) slots
             by zero e h = absurd (h refl)
@@ -175,10 +178,10 @@ module _ (set : Released) (table : Option (List ℕ)) (b s w slots : List ℕ) w
               unfolding card_answer_with
               own e = sym (rw ef at e)
 
-              pub refused_by_truth : (j : ℕ) → Judged (Refused j) → Gives (check_refusal_with m b s w (length slots)) (Refused j) slots
-              refused_by_truth j e =
+              pub refused_by_truth : {r : Searched} (j : ℕ) → Judged (Refused j) → r ≡ Refused j → Gives (check_refusal_with m b s w (length slots)) r slots
+              refused_by_truth j e q =
                   let p = outcome_refused (truth_refusal (call_problem m b s) (gather u (card_shares (boats b) w)) w) j (card_answer_with m b s w) (own e) in
-                  rw (by_truth, p.0) (refused j (λ z. omega (arith, p.1)))
+                  rw (q, by_truth, p.0) (refused j (λ z. omega (arith, p.1)))
 
               module _ (lf : length found ≡ 256) where
                 found_count : length (card_shares (boats b) w) ≡ boats b

@@ -1,5 +1,5 @@
 -- The outcomes of `write_card_with`, refused by the terms or the files, refused by a short buffer, or filed, are those of the definitions.
-use Rattle.std.specs.Prelude.{Option}
+use Rattle.std.specs.Prelude.{Option, None}
 use mathlib.Core.Path.{◌≡◌, refl, ap, ◌∙◌}
 use mathlib.Core.Bool.{Bool, true, false}
 use mathlib.Core.List.{List, ◌++◌}
@@ -20,8 +20,8 @@ use Rattle.method.specs.Calls.{terms_in, call_refusal}
 use Rattle.method.specs.Iterates.{support}
 use Rattle.method.specs.Answers.{slots_after, run_answer, run_slots}
 use Rattle.method.proofs.Promise.{run_slot_count}
-use Rattle.card_format.specs.declared.Written.{Written}
-use Rattle.card_format.specs.declared.Written.TheVariants.{Refused, Filed}
+use Rattle.card_format.specs.Written.{Written}
+use Rattle.card_format.specs.Written.{Refused, Filed}
 use Rattle.card_format.specs.Format.{pairs, trailer_bytes, answer_fields, card_bytes, run_card_with}
 use Rattle.card_format.specs.Checks.{write_refusal_with}
 use Rattle.card_format.specs.Filing.{filing, FilingRightWith}
@@ -45,7 +45,7 @@ module _ (set : Released) (table : Option (List ℕ)) (b s out : List ℕ) where
   Promises r now =
       (r ≡ filing (write_refusal_with m b s (length out)) (run_answer (call_problem m b s)) (length (run_card_with m b s)))
       × ((now ≡ slots_after (write_refusal_with m b s (length out)) (run_card_with m b s) out)
-      × (FilingRightWith m b s r now × (set.limited ≡ false → l ≡ false → m ≡ plain_terms)))
+      × (FilingRightWith m b s r now × (set.limited ≡ false → table ≡ None → m ≡ plain_terms)))
 
   promised : {r : Written} {now : List ℕ} → Gives (write_refusal_with m b s (length out)) r now → Promises r now
   promised g = (g.0, (g.1, (filing_right m b s out refl g.0 g.1, λ e f. rw (e, f))))
@@ -55,10 +55,13 @@ module _ (set : Released) (table : Option (List ℕ)) (b s out : List ℕ) where
   refused zero h = absurd (h refl)
   refused (suc n) h = (refl, refl)
 
-  pub refused_by_call : (n : ℕ) → n ≡ call_refusal m b s → (n ≡ 0 → ⊥) → Promises (Refused n) out
+  refused_by : (n : ℕ) → n ≡ call_refusal m b s → (n ≡ 0 → ⊥) → Promises (Refused n) out
   unfolding write_refusal_with
-  refused_by_call zero e h = absurd (h refl)
-  refused_by_call (suc n) e h = promised (rw (← e, eqb-suc-zero n) (refused (suc n) h))
+  refused_by zero e h = absurd (h refl)
+  refused_by (suc n) e h = promised (rw (← e, eqb-suc-zero n) (refused (suc n) h))
+
+  pub refused_by_call : {r : Written} (n : ℕ) → n ≡ call_refusal m b s → (n ≡ 0 → ⊥) → r ≡ Refused n → Promises r out
+  refused_by_call n e h q = rw q (refused_by n e h)
 
   module _ (ok : call_refusal m b s ≡ 0) {n : ℕ} (en : n ≡ boats b) {a : Answer} (ea : a ≡ run_answer (call_problem m b s)) (z : List ℕ) {qs : List ℕ} (eq : qs ≡ run_slots m b s ++ z) (k : ℕ)
       (ek : k ≡ support (take n qs)) where
