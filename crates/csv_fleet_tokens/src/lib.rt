@@ -4,6 +4,7 @@
 #![tactic(auto)]
 
 ghost use Rattle.std.specs.Prelude.{◌≡◌, ◌+◌, ◌<◌};
+ghost use Rattle.csv_fleet_tokens.specs.Faults.{fault_number};
 ghost use Rattle.csv_fleet_tokens.specs.Table.{start, faulty, with_text, number_fault, name_fault, field_fault, limit, units_after, field_ended, end_fault, columns_after, boats_after, word_after, whole_line_ended, line_ended, finished, consumed, after};
 
 use csv_bytes::Cell;
@@ -27,6 +28,66 @@ pub const OUT_OF_RANGE: u32 = 7;
 pub const BOATS: u32 = 8;
 
 pub const BOATLESS: u32 = 9;
+
+// What is wrong with a CSV, each with the number that the definitions give it.
+#[derive(Clone, Copy, Debug, PartialEq, Eq)]
+pub enum Fault {
+    // a field of more than 200 bytes
+    Long = 1,
+    // a boat, a hull or a column without a name
+    Nameless = 2,
+    // no column
+    Columnless = 3,
+    // more columns, or fields in a line, than there may be
+    Many = 4,
+    // a column without a value
+    NoValue = 5,
+    // a value that is no whole number
+    NotWhole = 6,
+    OutOfRange = 7,
+    // more than 256 boats
+    Boats = 8,
+    // no boat
+    Boatless = 9,
+    // a CSV with too many bytes
+    Big = 10,
+    // a buffer that is too short
+    Room = 11,
+    // a fleet's CSV with a fault
+    Fleet = 12,
+    // more than 16 rows in a sheet's CSV
+    Rows = 13,
+    // a second row of a kind
+    Again = 14,
+    // no row of this kind
+    NoHull = 15,
+    NoSteps = 16,
+    NoTolerance = 17,
+    // a column of the fleet that the sheet has not, that it has twice; one of the sheet that the fleet has not; one that the fleet has twice
+    Missing = 18,
+    Twice = 19,
+    Unknown = 20,
+    FleetTwice = 21,
+    // factors that do not total 1 to 64
+    FactorTotal = 22,
+    // a tolerance above 1,024,000,000
+    LargeTolerance = 23,
+    // more values than the row has numbers
+    ManyValues = 24,
+    // text behind a closing quote
+    Stray = 260,
+    // a quote that is not closed
+    Open = 261,
+}
+
+impl Fault {
+    // The number of a fault.
+    pub fn number(self) -> u32
+        ensures { result ≡ fault_number self }
+    {
+        self as u32
+    }
+}
 
 // What was read so far: how many fields this line has before this one, the columns and boats, whether this line has units, this field's
 // bytes, how many of them begin the word `unit` where it may stand, and the first fault or 0.
