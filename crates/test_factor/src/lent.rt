@@ -1,6 +1,5 @@
 // The search, the card writer and the card check with what a caller may hand in beside the files: a released set and a table of shares.
-use card_format::Written;
-use method::{Released, Searched};
+use method::Released;
 use test_buffers::between;
 
 // No set: its bits are not read.
@@ -12,23 +11,16 @@ pub fn none() -> Released {
     }
 }
 
-// What a search gives where neither the set nor the table is handed in, in short.
+// What a search for C gives, in short, where a table lies beside a flag that says that none is lent, and no set is handed in.
 fn unread(rt: &HostRuntime, book: &[u8], sheet: &[u8], table: &[u16]) {
     let mut slots = [7u16; 256];
-    let result = search::search_with(book, sheet, none(), false, table, &mut slots);
+    let reply =
+        exported_search::dofitrano_search_with(book, sheet, none(), false, table, &mut slots);
     test_printing::word(rt, b"unread");
-    match result {
-        Searched::Refused(n) => {
-            test_printing::number(rt, n as u64);
-            test_printing::word(rt, b" 0 0 0\n");
-        }
-        Searched::Answered(a) => {
-            test_printing::number(rt, 0);
-            test_printing::number(rt, a.steps as u64);
-            test_printing::number(rt, a.weight as u64);
-            test_printing::line(rt, b"", a.distance);
-        }
-    }
+    test_printing::number(rt, reply.refusal as u64);
+    test_printing::number(rt, reply.steps as u64);
+    test_printing::number(rt, reply.weight as u64);
+    test_printing::line(rt, b"", reply.distance);
 }
 
 // The search and its card: what both give back, the slots, and a sum over the card's buffer. Gives back the card's length.
@@ -37,20 +29,19 @@ fn found(
     book: &[u8],
     sheet: &[u8],
     set: Released,
-    lent: bool,
-    table: &[u16],
+    table: Option<&[u16]>,
     boats: usize,
     filed: &mut [u8],
 ) -> usize {
     let mut slots = [7u16; 256];
     test_printing::outcome(
         rt,
-        search::search_with(book, sheet, set, lent, table, &mut slots),
+        search::search_with(book, sheet, set, table, &mut slots),
     );
     test_printing::slots(rt, &slots, boats % 65536 + 1);
     let n = test_card_printing::print_written(
         rt,
-        written_card::write_card_with(book, sheet, set, lent, table, filed),
+        written_card::write_card_with(book, sheet, set, table, filed),
     );
     test_printing::line(rt, b"sum", test_buffers::checksum(filed));
     n
@@ -62,15 +53,12 @@ fn refusal(
     book: &[u8],
     sheet: &[u8],
     set: Released,
-    lent: bool,
-    table: &[u16],
+    table: Option<&[u16]>,
     filed: &[u8],
 ) {
     let mut slots = [7u16; 256];
-    match card::check_card_with(book, sheet, set, lent, table, filed, &mut slots) {
-        Searched::Refused(n) => test_printing::number(rt, n as u64),
-        Searched::Answered(_) => test_printing::number(rt, 0),
-    }
+    let found = card::check_card_with(book, sheet, set, table, filed, &mut slots);
+    test_printing::number(rt, test_printing::refusal_number(found));
 }
 
 // The card of a table under it, under it without its last share, under another table and under none.
@@ -84,15 +72,15 @@ fn checked(
     filed: &[u8],
 ) {
     test_printing::word(rt, b"under");
-    refusal(rt, book, sheet, none(), true, table, filed);
-    refusal(rt, book, sheet, none(), true, cut, filed);
-    refusal(rt, book, sheet, none(), true, other, filed);
-    refusal(rt, book, sheet, none(), false, table, filed);
+    refusal(rt, book, sheet, none(), Some(table), filed);
+    refusal(rt, book, sheet, none(), Some(cut), filed);
+    refusal(rt, book, sheet, none(), Some(other), filed);
+    refusal(rt, book, sheet, none(), None, filed);
 }
 
 // The card of a search without a set: its length.
-fn put_whole(book: &[u8], sheet: &[u8], lent: bool, table: &[u16], output: &mut [u8]) -> usize {
-    match written_card::write_card_with(book, sheet, none(), lent, table, output) {
+fn put_whole(book: &[u8], sheet: &[u8], table: Option<&[u16]>, output: &mut [u8]) -> usize {
+    match written_card::write_card_with(book, sheet, none(), table, output) {
         Written::Refused(_) => 0,
         Written::Filed(_, len) => len,
     }
@@ -110,11 +98,11 @@ pub fn under(
 ) {
     let mut filed = [9u8; 1060];
     let mut plain = [9u8; 1060];
-    let n = found(rt, book, sheet, none(), true, table, boats, &mut filed);
+    let n = found(rt, book, sheet, none(), Some(table), boats, &mut filed);
     unread(rt, book, sheet, table);
     checked(rt, book, sheet, table, cut, other, between(&filed, 0, n));
-    let m = put_whole(book, sheet, false, table, &mut plain);
-    refusal(rt, book, sheet, none(), true, table, between(&plain, 0, m));
+    let m = put_whole(book, sheet, None, &mut plain);
+    refusal(rt, book, sheet, none(), Some(table), between(&plain, 0, m));
     test_printing::word(rt, b"\n");
 }
 
@@ -127,18 +115,17 @@ pub fn among(
     sheet: &[u8],
     set: Released,
     other: Released,
-    lent: bool,
-    table: &[u16],
+    table: Option<&[u16]>,
     boats: usize,
 ) {
     let mut filed = [9u8; 1060];
     let mut whole = [9u8; 1060];
-    let n = found(rt, book, sheet, set, lent, table, boats, &mut filed);
+    let n = found(rt, book, sheet, set, table, boats, &mut filed);
     test_printing::word(rt, b"among");
-    refusal(rt, book, sheet, set, lent, table, between(&filed, 0, n));
-    refusal(rt, book, sheet, other, lent, table, between(&filed, 0, n));
-    refusal(rt, all, sheet, none(), lent, table, between(&filed, 0, n));
-    let m = put_whole(all, sheet, lent, table, &mut whole);
-    refusal(rt, book, sheet, set, lent, table, between(&whole, 0, m));
+    refusal(rt, book, sheet, set, table, between(&filed, 0, n));
+    refusal(rt, book, sheet, other, table, between(&filed, 0, n));
+    refusal(rt, all, sheet, none(), table, between(&filed, 0, n));
+    let m = put_whole(all, sheet, table, &mut whole);
+    refusal(rt, book, sheet, set, table, between(&whole, 0, m));
     test_printing::word(rt, b"\n");
 }

@@ -7,7 +7,7 @@
 mod lent;
 mod marked;
 
-use method::{Answer, Searched};
+use method::Answer;
 use test_buffers::{between, less};
 use test_samples::{Part, Plan};
 use test_terms::{factored, sets, tables};
@@ -38,8 +38,8 @@ fn tolerance_for(book: &[u8], sheet: &[u8], seed: &mut u64) -> u64 {
     }
     let mut shares = [0u16; 256];
     match search::search(book, sheet, &mut shares) {
-        Searched::Refused(_) => small,
-        Searched::Answered(a) => beside(a, kind),
+        Err(_) => small,
+        Ok(a) => beside(a, kind),
     }
 }
 
@@ -47,19 +47,11 @@ fn tolerance_for(book: &[u8], sheet: &[u8], seed: &mut u64) -> u64 {
 fn found(rt: &HostRuntime, book: &[u8], sheet: &[u8]) {
     let mut shares = [7u16; 256];
     let result = search::search(book, sheet, &mut shares);
-    if let Searched::Answered(a) = result {
+    if let Ok(a) = result {
         let v = a.verdict;
         test_printing::carried(rt, v);
     }
     file_io::print(rt, search_listing::search_listing(book, sheet).text);
-}
-
-// The number that refuses a card, 0 where it is accepted.
-fn refusal(res: Searched) -> u64 {
-    match res {
-        Searched::Refused(n) => n as u64,
-        Searched::Answered(_) => 0,
-    }
 }
 
 // The numbers of a card by three sheets.
@@ -68,15 +60,15 @@ fn checked(rt: &HostRuntime, book: &[u8], plain: &[u8], sheet: &[u8], other: &[u
     test_printing::word(rt, b"checked");
     test_printing::number(
         rt,
-        refusal(card::check_card(book, plain, filed, &mut slots)),
+        test_printing::refusal_number(card::check_card(book, plain, filed, &mut slots)),
     );
     test_printing::number(
         rt,
-        refusal(card::check_card(book, sheet, filed, &mut slots)),
+        test_printing::refusal_number(card::check_card(book, sheet, filed, &mut slots)),
     );
     test_printing::number(
         rt,
-        refusal(card::check_card(book, other, filed, &mut slots)),
+        test_printing::refusal_number(card::check_card(book, other, filed, &mut slots)),
     );
     test_printing::word(rt, b"\n");
 }
@@ -153,10 +145,10 @@ fn with_sets(
     let boats = (plan.boats % 65536) as usize;
     let set = sets::draw_set(seed, boats);
     let another = sets::draw_set(seed, boats);
-    let lent = test_samples::draw(seed, 2) == 0;
+    let lent = if test_samples::draw(seed, 2) == 0 { Some(table) } else { None };
     let end = test_buffers::put_bytes(&mut other, 0, book);
     sets::put_others(&mut other, seed, plan, rows, set);
-    lent::among(rt, book, book, sheet, set, another, lent, table, boats);
+    lent::among(rt, book, book, sheet, set, another, lent, boats);
     lent::among(
         rt,
         between(&other, 0, end),
@@ -165,7 +157,6 @@ fn with_sets(
         set,
         another,
         lent,
-        table,
         boats,
     );
 }

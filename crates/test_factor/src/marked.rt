@@ -87,13 +87,12 @@ fn case_among(
     name: &[u8],
     k: usize,
     byte: u8,
-    lent: bool,
+    table: Option<&[u16]>,
     steps: u64,
     tolerance: u64,
 ) {
     let mut book = [0u8; 64];
     let mut sheet = [0u8; 64];
-    let table = [2u16, 1];
     let n = put_book(&mut book);
     let m = put_sheet(&mut sheet, 1, steps, tolerance);
     let mut boats = [0u8; 32];
@@ -111,23 +110,23 @@ fn case_among(
         between(&sheet, 0, m),
         set,
         crate::lent::none(),
-        lent,
-        &table,
+        table,
         3,
     );
 }
 
 // Sets of one byte that is not 0.
 fn sets(rt: &HostRuntime) {
-    case_among(rt, b"boats 1 and 2", 0, 6, false, 2, 1);
-    case_among(rt, b"boats 1 and 2, table 2 1", 0, 6, true, 9, 2);
-    case_among(rt, b"boat 0", 0, 1, false, 9, 1);
-    case_among(rt, b"boat 2", 0, 4, false, 9, 10);
-    case_among(rt, b"all boats", 0, 7, false, 9, 1);
-    case_among(rt, b"no boat", 0, 0, false, 9, 1);
-    case_among(rt, b"boats 2 and 3", 0, 12, false, 9, 1);
-    case_among(rt, b"boat 8", 1, 1, false, 9, 1);
-    case_among(rt, b"boat 255", 31, 128, false, 9, 1);
+    let table = [2u16, 1];
+    case_among(rt, b"boats 1 and 2", 0, 6, None, 2, 1);
+    case_among(rt, b"boats 1 and 2, table 2 1", 0, 6, Some(&table), 9, 2);
+    case_among(rt, b"boat 0", 0, 1, None, 9, 1);
+    case_among(rt, b"boat 2", 0, 4, None, 9, 10);
+    case_among(rt, b"all boats", 0, 7, None, 9, 1);
+    case_among(rt, b"no boat", 0, 0, None, 9, 1);
+    case_among(rt, b"boats 2 and 3", 0, 12, None, 9, 1);
+    case_among(rt, b"boat 8", 1, 1, None, 9, 1);
+    case_among(rt, b"boat 255", 31, 128, None, 9, 1);
 }
 
 // All of them.

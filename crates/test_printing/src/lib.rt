@@ -1,7 +1,8 @@
 // Helpers of the test programs: answers and numbers printed.
 #![tactic(auto)]
 
-use method::{Answer, Searched, Verdict};
+use method::{Answer, Verdict};
+use refusals::Refusal;
 
 // A word.
 pub fn word(rt: &HostRuntime, text: &[u8]) {
@@ -89,15 +90,23 @@ pub fn answer(rt: &HostRuntime, a: Answer) {
     carried(rt, v);
 }
 
-// The number that refuses.
-pub fn refused(rt: &HostRuntime, n: u32) {
-    line(rt, b"refused", n as u64);
+// The number of a refusal.
+pub fn refused(rt: &HostRuntime, refusal: Refusal) {
+    line(rt, b"refused", refusal.number() as u64);
+}
+
+// The number of a result: 0 where it is no refusal.
+pub fn refusal_number<T>(result: Result<T, Refusal>) -> u64 {
+    match result {
+        Ok(_) => 0,
+        Err(refusal) => refusal.number() as u64,
+    }
 }
 
 // What a search gives back.
-pub fn outcome(rt: &HostRuntime, r: Searched) {
-    match r {
-        Searched::Refused(n) => refused(rt, n),
-        Searched::Answered(a) => answer(rt, a),
+pub fn outcome(rt: &HostRuntime, found: Result<Answer, Refusal>) {
+    match found {
+        Err(refusal) => refused(rt, refusal),
+        Ok(a) => answer(rt, a),
     }
 }

@@ -6,7 +6,7 @@
 mod mirrored;
 
 use iteration::State;
-use method::{Answer, Searched};
+use method::Answer;
 use test_samples::Plan;
 
 // The quotient x / (w * w) - 1, x / (w * w) or x / (w * w) + 1, in the range of a tolerance.
@@ -50,8 +50,8 @@ fn tolerance_for(book: &[u8], sheet: &[u8], seed: &mut u64) -> u64 {
     let mut shares = [0u16; 256];
     let found = search::search(book, sheet, &mut shares);
     match found {
-        Searched::Refused(_) => small,
-        Searched::Answered(a) => near(a, kind),
+        Err(_) => small,
+        Ok(a) => near(a, kind),
     }
 }
 
@@ -59,7 +59,7 @@ fn tolerance_for(book: &[u8], sheet: &[u8], seed: &mut u64) -> u64 {
 fn report(rt: &HostRuntime, book: &[u8], sheet: &[u8]) {
     let mut shares = [0u16; 256];
     let found = search::search(book, sheet, &mut shares);
-    if let Searched::Answered(a) = found {
+    if let Ok(a) = found {
         let v = a.verdict;
         test_printing::carried(rt, v);
     }
