@@ -95,9 +95,9 @@ pub fn refused(rt: &HostRuntime, refusal: Refusal) {
     line(rt, b"refused", refusal.number() as u64);
 }
 
-// The number of a result: 0 where it is no refusal.
-pub fn refusal_number<T>(result: Result<T, Refusal>) -> u64 {
-    match result {
+// The number of a refusal, 0 of an answer.
+pub fn refusal_number(found: Result<Answer, Refusal>) -> u64 {
+    match found {
         Ok(_) => 0,
         Err(refusal) => refusal.number() as u64,
     }
