@@ -5,7 +5,9 @@
 #![tactic(auto)]
 
 ghost use Rattle.std.specs.Prelude.{◌≡◌, ◌+◌, ◌≤◌, length};
+ghost use Rattle.refusals.specs.Numbers.{number};
 ghost use Rattle.files.specs.Sheet.{files_refusal};
+ghost use Rattle.method.specs.Searched.{searched};
 ghost use Rattle.method.specs.Answers.{outcome};
 ghost use Rattle.card_format.specs.Format.{card_fields, card_answer};
 ghost use Rattle.card_format.specs.Checks.{check_refusal};
@@ -14,20 +16,21 @@ ghost use Rattle.better_card_promise.specs.Promise.{BetterRight};
 ghost use Rattle.better_card.specs.Wrong.{wrong_card};
 
 use better_card_promise::Choice;
-use method::{Answer, Searched};
+use method::Answer;
+use refusals::Refusal;
 
 // The check of a card with a share list of its own: 256 slots serve any book, so 21 never applies.
-fn checked(book: &[u8], sheet: &[u8], card: &[u8]) -> Searched
-    ensures { result ≡ outcome (check_refusal book.now sheet.now card.now 256) (card_answer book.now sheet.now card.now) }
+fn checked(book: &[u8], sheet: &[u8], card: &[u8]) -> Result<Answer, Refusal>
+    ensures { searched result ≡ outcome (check_refusal book.now sheet.now card.now 256) (card_answer book.now sheet.now card.now) }
 {
     let mut shares = [0u16; 256];
     card::check_card(book, sheet, card, &mut shares)
 }
 
 // The same where book and sheet were accepted, which are not judged again.
-fn judged(book: &[u8], sheet: &[u8], card: &[u8]) -> Searched
+fn judged(book: &[u8], sheet: &[u8], card: &[u8]) -> Result<Answer, Refusal>
     requires { files_refusal book.now sheet.now ≡ 0 }
-    ensures { result ≡ outcome (check_refusal book.now sheet.now card.now 256) (card_answer book.now sheet.now card.now) }
+    ensures { searched result ≡ outcome (check_refusal book.now sheet.now card.now 256) (card_answer book.now sheet.now card.now) }
 {
     let mut shares = [0u16; 256];
     card::judge_card(book, sheet, card, &mut shares)
@@ -42,12 +45,12 @@ fn nearer(a: Answer, b: Answer) -> bool
     wide_products::product_below(a.distance, w * w, b.distance, v * v)
 }
 
-// A refusal by `n`: no bytes of the first card.
-fn refused(n: u32) -> Choice
-    ensures { result ≡ no_choice n }
+// A refusal: no bytes of the first card.
+fn refused(r: Refusal) -> Choice
+    ensures { result ≡ no_choice (number r) }
 {
     Choice {
-        refusal: n,
+        refusal: r.number(),
         card: 1,
         offset: 0,
         len: 0,
@@ -84,16 +87,16 @@ pub fn judge_both(book: &[u8], sheet: &[u8], first: &[u8], second: &[u8]) -> Rul
     ensures len_in_bounds { result.choice.offset + result.choice.len ≤ length (numbered result.choice.card first.now second.now) }
 {
     match checked(book, sheet, first) {
-        Searched::Refused(n) => Ruling {
-            choice: refused(n),
+        Err(r) => Ruling {
+            choice: refused(r),
             wrong: 1,
         },
-        Searched::Answered(a) => match judged(book, sheet, second) {
-            Searched::Refused(n) => Ruling {
-                choice: refused(n),
+        Ok(a) => match judged(book, sheet, second) {
+            Err(r) => Ruling {
+                choice: refused(r),
                 wrong: 2,
             },
-            Searched::Answered(b) => {
+            Ok(b) => {
                 if nearer(b, a) {
                     return Ruling {
                         choice: behind_front(second, 2),

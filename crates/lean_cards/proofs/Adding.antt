@@ -77,8 +77,8 @@ module _ (b s w slots : List ℕ) (k at : ℕ) (start : StartsAt (length slots) 
       rw (nothing_after, append-nil p) (left r n q) in
       (sym n, (now, adds_pair b (pair_of s w) k slots (sym n) now))
 
-  pub given_refused : {x : Searched} {p : List ℕ} {m : ℕ} → Checks b s w slots at x p → x ≡ Refused m → Given b s w slots k m (put_mid at (length slots - at) slots p)
-  given_refused {x} {p} {m} c e = given m (outcome_refused _ m (card_answer b s w) (sym c.0 ∙ e)).0 c.1
+  pub given_refused : {x : Searched} {p : List ℕ} {m : ℕ} → Checks b s w slots at x p → x ≡ Refused m → {r : ℕ} → r ≡ m → Given b s w slots k r (put_mid at (length slots - at) slots p)
+  given_refused {x} {p} {m} c e q = rw q (given m (outcome_refused _ m (card_answer b s w) (sym c.0 ∙ e)).0 c.1)
 
   pub given_answered : {x : Searched} {p : List ℕ} {a : Answer} → Checks b s w slots at x p → x ≡ Answered a → Given b s w slots k 0 (put_mid at (length slots - at) slots p)
   given_answered {x} {p} {a} c e = given 0 (outcome_answered _ (card_answer b s w) a (sym c.0 ∙ e)).0 c.1

@@ -17,8 +17,8 @@ module _ {b : List ℕ} {n x : ℕ} (e : x ≡ book_refusal b) where
   given : {r : ℕ} → start_refusal b n ≡ r → Given b n r
   given f = (sym f, rw (← f) (starts b n))
 
-  pub by_book : (x ≡ 0 → ⊥) → Given b n x
-  by_book h = given (unfold start_refusal in rw (← e, ne_eqb x 0 h))
+  pub by_book : (x ≡ 0 → ⊥) → {r : ℕ} → r ≡ x → Given b n r
+  by_book h q = rw q (given (unfold start_refusal in rw (← e, ne_eqb x 0 h)))
 
   pub by_few : x ≡ 0 → n < 1 → Given b n 58
   by_few z h = given (unfold start_refusal between in rw (← e, eq-eqb x 0 z, lt-leb 1 n h))

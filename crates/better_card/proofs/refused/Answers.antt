@@ -5,4 +5,4 @@ use Rattle.better_card.proofs.refused.Goals as goal
 
 pub returns : goal.returns
 unfolding no_choice
-returns c = refl
+returns c = rw c.number.ensures refl
