@@ -4,25 +4,36 @@
 // Of both standard error says where a CSV in the folder is not what the book or the sheet was made from.
 
 #![tactic(auto)]
-// Files the card of a search, which has no bytes where the search is refused; what is in the way goes to standard error.
-// Whether there is a listing to print.
-fn file(rt: &HostRuntime, path: &[u8], output: &[u8; card_listing::MOST_CARD], len: usize) -> bool {
-    if len == 0 {
-        file_io::tell(rt, path, b" is as it was\n");
-        return true;
+
+use refusals::Refusal;
+
+// Files the card of a search, if the search was not refused; what is in the way goes to standard error. Whether there is a listing to print.
+fn file(
+    rt: &HostRuntime,
+    path: &[u8],
+    output: &[u8; card_listing::MOST_CARD],
+    filed: Result<usize, Refusal>,
+) -> bool {
+    match filed {
+        Ok(len) => file_io::replace_or_tell(rt, path, file_io::first_bytes(output, len)),
+        Err(_) => {
+            file_io::tell(rt, path, b" is as it was\n");
+            true
+        }
     }
-    file_io::replace_or_tell(rt, path, file_io::first_bytes(output, len))
 }
 
 // Files the card of the search of these files in a folder as card.wcd, and prints the listing.
 fn file_found(rt: &HostRuntime, folder: &[u8], book: &[u8], sheet: &[u8]) {
     let mut output = [0u8; card_listing::MOST_CARD];
     let filing = card_listing::filed_text(book, sheet, &mut output);
-    refusal_output::tell_detail(rt, book, sheet, filing.refusal);
+    if let Err(refusal) = filing.filed {
+        refusal_output::tell_detail(rt, book, sheet, refusal);
+    }
     let path = paths::path_in(folder, b"card.wcd");
     let bytes = path.bytes;
     let name = file_io::first_bytes(&bytes, path.len);
-    if file(rt, name, &output, filing.len) {
+    if file(rt, name, &output, filing.filed) {
         file_io::print(rt, filing.text);
     }
 }
@@ -50,9 +61,10 @@ pub fn file_card(rt: &HostRuntime, folder: &[u8]) {
 fn check_found(rt: &HostRuntime, folder: &[u8], book: &[u8], sheet: &[u8], card: &[u8]) {
     old_files::tell_old(rt, folder, book, sheet);
     let listed = card_listing::card_text(book, sheet, card);
-    let refusal = listed.refusal;
-    refusal_output::tell_detail(rt, book, sheet, refusal);
-    refusal_output::tell_card(rt, b"card.wcd", book, sheet, card, refusal);
+    if let Err(refusal) = listed.refusal {
+        refusal_output::tell_detail(rt, book, sheet, refusal);
+        refusal_output::tell_card(rt, b"card.wcd", book, sheet, card, refusal);
+    }
     file_io::print(rt, listed.text);
 }
 

@@ -12,8 +12,8 @@ use Rattle.files.specs.Sheet.{files_refusal}
 use Rattle.method.specs.Problem.{problem, plain_terms}
 use Rattle.method.specs.Answers.{outcome, slots_after, run_answer}
 use Rattle.method.specs.declared.Answer.{Answer}
-use Rattle.card_format.specs.declared.Written.{Written}
-use Rattle.card_format.specs.declared.Written.TheVariants.{Refused, Filed}
+use Rattle.card_format.specs.Written.{Written}
+use Rattle.card_format.specs.Written.{Refused, Filed}
 use Rattle.card_format.specs.Filing.{written_size, filing, FilingRight}
 use Rattle.card_format.specs.Format.{card_limit, run_card}
 use Rattle.card_format.specs.Checks.{write_refusal, check_refusal, check_refusal_with, write_refusal_with}

@@ -1,5 +1,6 @@
 -- The listing of a card, and the card that a search leaves. Definitions only. Assumes nothing.
-use Rattle.std.specs.Prelude.{cond, List, [], ℕ, eqb, length}
+use Rattle.std.specs.Prelude.{cond, List, [], ℕ, eqb, length, Result, Ok, Err}
+use Rattle.refusals.specs.declared.Refusal.{Refusal}
 use Rattle.files.specs.Book.{boats}
 use Rattle.files.specs.Sheet.{files_refusal}
 use Rattle.method.specs.Searched.{Searched}
@@ -7,7 +8,7 @@ use Rattle.method.specs.Problem.{problem}
 use Rattle.method.specs.Answers.{outcome, run_answer}
 use Rattle.card_format.specs.Format.{card_shares, card_answer, run_card}
 use Rattle.card_format.specs.Checks.{check_refusal}
-use Rattle.card_format.specs.declared.Written.{Written}
+use Rattle.card_format.specs.Written.{Written}
 use Rattle.card_format.specs.Filing.{filing}
 use Rattle.listing.specs.Lines.{outcome_listing}
 
@@ -27,3 +28,8 @@ search_filing b s = filing (files_refusal b s) (run_answer (problem b s)) (lengt
 -- the card of a search: no bytes where the files are refused
 unfoldable pub search_card : (book sheet : List ℕ) → List ℕ
 search_card b s = cond (eqb (files_refusal b s) 0) (run_card b s) []
+
+-- how many bytes are to be filed: none where the files are refused
+abbrev pub filed_size : Result ℕ Refusal → ℕ
+filed_size (Ok n) = n
+filed_size (Err r) = 0

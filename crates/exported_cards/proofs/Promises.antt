@@ -4,7 +4,7 @@ use mathlib.Core.List.{List}
 use Prim.Native.Nat.{ℕ}
 use Rattle.method.specs.Searched.{Searched}
 use Rattle.method.specs.Problem.{Terms}
-use Rattle.card_format.specs.declared.Written.{Written}
+use Rattle.card_format.specs.Written.{Written}
 use Rattle.card_format.specs.Checking.{CheckRightWith}
 use Rattle.card_format.specs.Filing.{FilingRightWith}
 use Rattle.pairwise.specs.Call.{WorkingRight}

@@ -6,8 +6,8 @@ use Rattle.method.specs.declared.Answer.{Answer}
 use Rattle.method.specs.Searched.{Searched}
 use Rattle.method.specs.Searched.{Refused, Answered}
 use Rattle.method.specs.Answers.{verdict_number}
-use Rattle.card_format.specs.declared.Written.{Written}
-use Rattle.card_format.specs.declared.Written.TheVariants as written
+use Rattle.card_format.specs.Written.{Written}
+use Rattle.card_format.specs.Written.TheVariants as written
 use Rattle.editions.specs.declared.Rewritten.{Rewritten}
 use Rattle.editions.specs.declared.Rewritten.TheVariants as rewritten
 use Rattle.exported_types.specs.declared.Reply.{Reply}

@@ -5,8 +5,8 @@ use Rattle.method.specs.declared.Verdict.TheVariants.{Within, Beyond, Spent}
 use Rattle.method.specs.Searched.{Searched}
 use Rattle.method.specs.Searched.{Refused, Answered}
 use Rattle.method.specs.Answers.{verdict_number}
-use Rattle.card_format.specs.declared.Written.{Written}
-use Rattle.card_format.specs.declared.Written.TheVariants as written
+use Rattle.card_format.specs.Written.{Written}
+use Rattle.card_format.specs.Written.TheVariants as written
 use Rattle.exported_types.specs.declared.Reply.{Reply}
 use Rattle.exported_types.specs.declared.CardReply.{CardReply}
 use Rattle.editions.specs.declared.Rewritten.{Rewritten}

@@ -10,7 +10,9 @@ fn list_read(rt: &HostRuntime, folder: &[u8], book: &mut [u8], sheet: &mut [u8])
     let asked = file_io::first_bytes(sheet, m);
     old_files::tell_old(rt, folder, fleet, asked);
     let listed = search_listing::search_listing(fleet, asked);
-    refusal_output::tell_detail(rt, fleet, asked, listed.refusal);
+    if let Err(refusal) = listed.refusal {
+        refusal_output::tell_detail(rt, fleet, asked, refusal);
+    }
     file_io::print(rt, listed.text);
 }
 

@@ -16,8 +16,8 @@ use Rattle.method.specs.Calls.{call_refusal}
 use Rattle.method.specs.Iterates.{support}
 use Rattle.method.specs.Answers.{verdict_number, run_answer, slots_after}
 use Rattle.calls.proofs.First.{first_refuses, later_refuses}
-use Rattle.card_format.specs.declared.Written.{Written}
-use Rattle.card_format.specs.declared.Written.TheVariants.{Refused, Filed}
+use Rattle.card_format.specs.Written.{Written}
+use Rattle.card_format.specs.Written.{Refused, Filed}
 use Rattle.card_format.specs.Format.{pairs, trailer_bytes, answer_fields, card_bytes}
 use Rattle.card_format.specs.Filing.{filing}
 use Rattle.buffers.specs.Placed.{placed}

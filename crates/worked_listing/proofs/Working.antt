@@ -13,8 +13,8 @@ use Rattle.method.specs.Problem.{plain_terms, problem}
 use Rattle.files.specs.Bytes.{between}
 use Rattle.method.specs.Calls.{before}
 use Rattle.method.specs.Answers.{outcome, search_refusal, slots_after, verdict_number, run_answer}
-use Rattle.card_format.specs.declared.Written.{Written}
-use Rattle.card_format.specs.declared.Written.TheVariants.{Refused, Filed}
+use Rattle.card_format.specs.Written.{Written}
+use Rattle.card_format.specs.Written.{Refused, Filed}
 use Rattle.card_format.specs.Filing.{writing_number, written_size, filing, ReadsBackWith}
 use Rattle.card_format.specs.Format.{card_limit, card_shares, card_answer}
 use Rattle.card_format.proofs.Filing.{filing_number}

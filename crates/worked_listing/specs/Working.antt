@@ -4,8 +4,8 @@ use Rattle.files.specs.Sheet.{files_refusal}
 use Rattle.method.specs.declared.Answer.{Answer}
 use Rattle.method.specs.Problem.{plain_terms, problem}
 use Rattle.method.specs.Answers.{outcome}
-use Rattle.card_format.specs.declared.Written.{Written}
-use Rattle.card_format.specs.declared.Written.TheVariants.{Refused, Filed}
+use Rattle.card_format.specs.Written.{Written}
+use Rattle.card_format.specs.Written.{Refused, Filed}
 use Rattle.card_format.specs.Filing.{filing}
 use Rattle.card_format.specs.Format.{card_limit}
 use Rattle.pairwise.specs.Moves.{worked_answer}
