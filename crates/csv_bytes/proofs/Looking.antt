@@ -7,8 +7,7 @@ use lib.ListN.{length, get_or, drop, drop_of_length-le}
 use lib.Seq.{drop-cons}
 use Rattle.csv_bytes.specs.declared.Mode.{Mode}
 use Rattle.csv_bytes.specs.declared.Mode.TheVariants.{Start}
-use Rattle.csv_bytes.specs.declared.Step.{Step}
-use Rattle.csv_bytes.specs.Tokens.{step, as_comma, best_after, known_after, chosen, separator_from, separator, mark_size}
+use Rattle.csv_bytes.specs.Tokens.{NumberedStep, step, as_comma, best_after, known_after, chosen, separator_from, separator, mark_size}
 
 pub record Looking (bs : List ℕ) (x n : ℕ) (m : Mode) (i : ℕ) : Type 0 where
   pub later : separator_from x n m (drop i bs) ≡ separator_from 0 0 Start (drop (mark_size bs) bs)
@@ -23,7 +22,7 @@ over x m [] = refl
 over x m (b ∷ bs) = over x (step 44 m (as_comma b)).mode bs
 
 module _ {bs : List ℕ} {x n : ℕ} {m : Mode} {i : ℕ} (d : Looking bs x n m i) where
-  module _ (h : i < length bs) {c : ℕ} (ec : c ≡ as_comma (get_or bs i 0)) {s : Step} (es : s ≡ step 44 m c) {y : ℕ} (ey : y ≡ best_after x n s.token (get_or bs i 0)) {k : ℕ} (ek : k ≡ known_after n s.token) where
+  module _ (h : i < length bs) {c : ℕ} (ec : c ≡ as_comma (get_or bs i 0)) {s : NumberedStep} (es : s ≡ step 44 m c) {y : ℕ} (ey : y ≡ best_after x n s.token (get_or bs i 0)) {k : ℕ} (ek : k ≡ known_after n s.token) where
     pub looking_more : Looking bs y k s.mode (i + 1)
     unfolding separator_from
     looking_more = record { later = rw (ey, ek, es, ec, add-one) (sym (ap (separator_from x n m) (drop-cons bs i 0 h)) ∙ d.later) }

@@ -3,7 +3,11 @@
 use Rattle.std.specs.Prelude.{cond, List, [], ◌∷◌, ℕ, ltb, eqb, length, get_or, drop}
 use Rattle.csv_bytes.specs.declared.Mode.{Mode}
 use Rattle.csv_bytes.specs.declared.Mode.TheVariants.{Start, Plain, Quoted, Closing, Return}
+use Rattle.csv_bytes.specs.declared.Token.{Token}
+use Rattle.csv_bytes.specs.declared.Token.TheVariants.{Byte, Field, Line, End, Nothing, Stray, Open}
 use Rattle.csv_bytes.specs.declared.Step.{Step}
+use Rattle.csv_bytes.specs.declared.Reading.{Reading}
+use Rattle.csv_bytes.specs.declared.Reading.TheVariants.{Before, Inside, Behind}
 
 -- the end of a field, of a line, of the text, a byte that says nothing
 abbrev pub FIELD : ℕ
@@ -25,31 +29,49 @@ STRAY = 260
 abbrev pub OPEN : ℕ
 OPEN = 261
 
-abbrev pub says : ℕ → Mode → Step
+-- the number of a token as the code has it
+abbrev pub token_number : Token → ℕ
+token_number (Byte b) = b
+token_number Field = FIELD
+token_number Line = LINE
+token_number End = END
+token_number Nothing = NOTHING
+token_number Stray = STRAY
+token_number Open = OPEN
+
+-- what a byte says by number, and the mode of the next byte
+pub record NumberedStep : Type 0 where
+  pub token : ℕ
+  pub mode : Mode
+
+abbrev pub numbered : Step → NumberedStep
+numbered s = record { token = token_number s.token; mode = s.mode }
+
+abbrev pub says : ℕ → Mode → NumberedStep
 says token mode = record { token = token; mode = mode }
 
 -- a byte of a plain field: the separator (44, 59 or 9), a newline (10), a carriage return (13) or itself
-abbrev pub plain_step : (separator b : ℕ) → Step
+abbrev pub plain_step : (separator b : ℕ) → NumberedStep
 plain_step s b = cond (eqb b s) (says FIELD Start) (cond (eqb b 10) (says LINE Start) (cond (eqb b 13) (says LINE Return) (says b Plain)))
 
 -- the first byte of a field may be a quote (34)
-abbrev pub start_step : (separator b : ℕ) → Step
+abbrev pub start_step : (separator b : ℕ) → NumberedStep
 start_step s b = cond (eqb b 34) (says NOTHING Quoted) (plain_step s b)
 
-abbrev pub quoted_step : (b : ℕ) → Step
+abbrev pub quoted_step : (b : ℕ) → NumberedStep
 quoted_step b = cond (eqb b 34) (says NOTHING Closing) (says b Quoted)
 
 -- a byte after a quote inside quotes: a second quote, or else the field has ended
-abbrev pub closing_step : (separator b : ℕ) → Step
+abbrev pub closing_step : (separator b : ℕ) → NumberedStep
 closing_step s b =
     cond (eqb b 34) (says 34 Quoted)
     (cond (eqb b s) (says FIELD Start) (cond (eqb b 10) (says LINE Start) (cond (eqb b 13) (says LINE Return) (says STRAY Closing))))
 
 -- a newline after a carriage return belongs to it
-abbrev pub return_step : (separator b : ℕ) → Step
+abbrev pub return_step : (separator b : ℕ) → NumberedStep
 return_step s b = cond (eqb b 10) (says NOTHING Start) (start_step s b)
 
-abbrev pub step : (separator : ℕ) → Mode → (b : ℕ) → Step
+abbrev pub step : (separator : ℕ) → Mode → (b : ℕ) → NumberedStep
 step s Start b = start_step s b
 step s Plain b = plain_step s b
 step s Quoted b = quoted_step b
@@ -85,6 +107,11 @@ abbrev pub better : (best b : ℕ) → ℕ
 better x b = cond (eqb x 44) 44 (cond (eqb b 44) 44 (cond (eqb x 59) 59 b))
 
 -- before the header (0), in it (1), behind it (2)
+abbrev pub reading_number : Reading → ℕ
+reading_number Before = 0
+reading_number Inside = 1
+reading_number Behind = 2
+
 abbrev pub known_after : (known token : ℕ) → ℕ
 known_after n k = cond (eqb n 2) 2 (cond (eqb k 257) (cond (eqb n 0) 0 2) (cond (ltb 257 k) n 1))
 

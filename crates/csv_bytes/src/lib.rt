@@ -5,22 +5,21 @@
 #![tactic(auto)]
 
 ghost use Rattle.std.specs.Prelude.{◌≡◌, ◌<◌};
-ghost use Rattle.csv_bytes.specs.Tokens.{start_step, plain_step, quoted_step, closing_step, return_step, step, ending, as_comma, better, known_after, best_after, chosen, separator, mark_size};
+ghost use Rattle.csv_bytes.specs.Tokens.{token_number, numbered, reading_number, start_step, plain_step, quoted_step, closing_step, return_step, step, ending, as_comma, better, known_after, best_after, chosen, separator, mark_size};
 ghost use Rattle.csv_bytes.specs.Cells.{no_bytes, class_of, after_space, after_sign, after_figure, shape_after, more, magnitude_after, with_byte, is_negative, is_number, progress};
 
-// Tokens above the bytes: the end of a field, of a line, of the text, a byte that says nothing; and what is wrong:
-// text after a closing quote, a quote that is not closed.
-pub const FIELD: u32 = 256;
-
-pub const LINE: u32 = 257;
-
-pub const END: u32 = 258;
-
-pub const NOTHING: u32 = 259;
-
-pub const STRAY: u32 = 260;
-
-pub const OPEN: u32 = 261;
+// What a byte says: that it is part of a field, that a field or a line ends, or nothing. What the end of the text says. And what is wrong: text
+// after a closing quote, a quote that is not closed.
+#[derive(Clone, Copy, Debug, PartialEq, Eq)]
+pub enum Token {
+    Byte(u8),
+    Field,
+    Line,
+    End,
+    Nothing,
+    Stray,
+    Open,
+}
 
 // Where a byte stands: at the start of a field, inside a plain one, inside quotes, after a quote inside quotes, after a carriage return.
 #[derive(Clone, Copy)]
@@ -32,48 +31,48 @@ pub enum Mode {
     Return,
 }
 
-// What a byte says: itself as part of a field, or a token above the bytes; and the mode of the next byte.
+// What a byte says, and the mode of the next byte.
 #[derive(Clone, Copy)]
 pub struct Step {
-    pub token: u32,
+    pub token: Token,
     pub mode: Mode,
 }
 
 // A byte of a plain field.
 fn plain_byte(separator: u8, b: u8) -> Step
-    ensures { result ≡ plain_step separator b }
+    ensures { numbered result ≡ plain_step separator b }
 {
     if b == separator {
         return Step {
-            token: FIELD,
+            token: Token::Field,
             mode: Mode::Start,
         };
     }
     if b == b'\n' {
         return Step {
-            token: LINE,
+            token: Token::Line,
             mode: Mode::Start,
         };
     }
     if b == b'\r' {
         return Step {
-            token: LINE,
+            token: Token::Line,
             mode: Mode::Return,
         };
     }
     Step {
-        token: b as u32,
+        token: Token::Byte(b),
         mode: Mode::Plain,
     }
 }
 
 // The first byte of a field.
 fn start_byte(separator: u8, b: u8) -> Step
-    ensures { result ≡ start_step separator b }
+    ensures { numbered result ≡ start_step separator b }
 {
     if b == b'"' {
         return Step {
-            token: NOTHING,
+            token: Token::Nothing,
             mode: Mode::Quoted,
         };
     }
@@ -82,61 +81,61 @@ fn start_byte(separator: u8, b: u8) -> Step
 
 // A byte inside quotes.
 fn quoted_byte(b: u8) -> Step
-    ensures { result ≡ quoted_step b }
+    ensures { numbered result ≡ quoted_step b }
 {
     if b == b'"' {
         return Step {
-            token: NOTHING,
+            token: Token::Nothing,
             mode: Mode::Closing,
         };
     }
     Step {
-        token: b as u32,
+        token: Token::Byte(b),
         mode: Mode::Quoted,
     }
 }
 
 // A byte after a quote inside quotes.
 fn closing_byte(separator: u8, b: u8) -> Step
-    ensures { result ≡ closing_step separator b }
+    ensures { numbered result ≡ closing_step separator b }
 {
     if b == b'"' {
         return Step {
-            token: 34,
+            token: Token::Byte(b'"'),
             mode: Mode::Quoted,
         };
     }
     if b == separator {
         return Step {
-            token: FIELD,
+            token: Token::Field,
             mode: Mode::Start,
         };
     }
     if b == b'\n' {
         return Step {
-            token: LINE,
+            token: Token::Line,
             mode: Mode::Start,
         };
     }
     if b == b'\r' {
         return Step {
-            token: LINE,
+            token: Token::Line,
             mode: Mode::Return,
         };
     }
     Step {
-        token: STRAY,
+        token: Token::Stray,
         mode: Mode::Closing,
     }
 }
 
 // A byte after a carriage return.
 fn return_byte(separator: u8, b: u8) -> Step
-    ensures { result ≡ return_step separator b }
+    ensures { numbered result ≡ return_step separator b }
 {
     if b == b'\n' {
         return Step {
-            token: NOTHING,
+            token: Token::Nothing,
             mode: Mode::Start,
         };
     }
@@ -145,7 +144,7 @@ fn return_byte(separator: u8, b: u8) -> Step
 
 // What a byte says, after those before it.
 pub fn read_byte(separator: u8, mode: Mode, b: u8) -> Step
-    ensures { result ≡ step separator mode b }
+    ensures { numbered result ≡ step separator mode b }
 {
     match mode {
         Mode::Start => start_byte(separator, b),
@@ -157,15 +156,15 @@ pub fn read_byte(separator: u8, mode: Mode, b: u8) -> Step
 }
 
 // What the end of the text says.
-pub fn ending(mode: Mode) -> u32
-    ensures { result ≡ ending mode }
+pub fn ending(mode: Mode) -> Token
+    ensures { token_number result ≡ ending mode }
 {
     match mode {
-        Mode::Start => END,
-        Mode::Plain => END,
-        Mode::Quoted => OPEN,
-        Mode::Closing => END,
-        Mode::Return => END,
+        Mode::Start => Token::End,
+        Mode::Plain => Token::End,
+        Mode::Quoted => Token::Open,
+        Mode::Closing => Token::End,
+        Mode::Return => Token::End,
     }
 }
 
@@ -384,36 +383,42 @@ fn better(best: u8, b: u8) -> u8
     b
 }
 
-// Where the reading is after a token: before the header (0), in it (1), behind it (2).
-fn known_after(known: u32, token: u32) -> u32
-    ensures { result ≡ known_after known token }
+// Where the reading is: before the header, in it, behind it.
+#[derive(Clone, Copy, Debug, PartialEq, Eq)]
+enum Reading {
+    Before,
+    Inside,
+    Behind,
+}
+
+// Where the reading is after a token.
+fn known_after(known: Reading, token: Token) -> Reading
+    ensures { reading_number result ≡ known_after (reading_number known) (token_number token) }
 {
-    if known == 2 {
-        return 2;
+    match known {
+        Reading::Before => match token {
+            Token::Byte(_) | Token::Field => Reading::Inside,
+            _ => Reading::Before,
+        },
+        Reading::Inside => match token {
+            Token::Line => Reading::Behind,
+            _ => Reading::Inside,
+        },
+        Reading::Behind => Reading::Behind,
     }
-    if token == LINE {
-        if known == 0 {
-            return 0;
-        }
-        return 2;
-    }
-    if LINE < token {
-        return known;
-    }
-    1
 }
 
 // The best separator after a token of the byte b.
-fn best_after(best: u8, known: u32, token: u32, b: u8) -> u8
-    ensures { result ≡ best_after best known token b }
+fn best_after(best: u8, known: Reading, token: Token, b: u8) -> u8
+    ensures { result ≡ best_after best (reading_number known) (token_number token) b }
 {
-    if known == 2 {
-        return best;
+    match known {
+        Reading::Before | Reading::Inside => match token {
+            Token::Field => better(best, b),
+            _ => best,
+        },
+        Reading::Behind => best,
     }
-    if token == FIELD {
-        return better(best, b);
-    }
-    best
 }
 
 // A comma where there is no separator.
@@ -431,7 +436,7 @@ pub fn separator(csv: &[u8]) -> u8
     ensures { result ≡ separator csv.now }
 {
     let mut best: u8 = 0;
-    let mut known = 0;
+    let mut known = Reading::Before;
     let mut mode = Mode::Start;
     for i in mark_size(csv)..csv.len() {
         let b = csv[i];
@@ -439,7 +444,7 @@ pub fn separator(csv: &[u8]) -> u8
         let token = step.token;
         best = best_after(best, known, token, b);
         known = known_after(known, token);
-        if known == 2 {
+        if known == Reading::Behind {
             return chosen(best);
         }
         mode = step.mode;

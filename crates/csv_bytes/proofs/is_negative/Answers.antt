@@ -1,5 +1,4 @@
 -- `csv_bytes::is_negative` meets its contract.
-use borrow.Author.Rules.{rules}
 use Rattle.csv_bytes.proofs.is_negative.Goals as goal
 
 pub returns : goal.returns

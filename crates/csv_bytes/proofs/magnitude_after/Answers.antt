@@ -1,5 +1,4 @@
 -- `csv_bytes::magnitude_after` meets its contract.
-use borrow.Author.Rules.{rules}
 use Rattle.csv_bytes.proofs.magnitude_after.Goals as goal
 
 pub returns-in-Figure : goal.returns-in-Figure

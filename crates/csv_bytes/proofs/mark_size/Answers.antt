@@ -1,6 +1,5 @@
 -- `csv_bytes::mark_size` meets its contract.
 use borrow.Author.Tests.{eq-eqb, ne_eqb, lt-ltb, le-ltb}
-use borrow.Author.Rules.{rules}
 use Rattle.csv_bytes.proofs.mark_size.Goals as goal
 
 pub returns-then-csv-lt3 : goal.returns-then-csv-lt3

@@ -1,6 +1,5 @@
 -- `csv_bytes::more` meets its contract.
 use borrow.Author.Tests.{lt-ltb, le-ltb}
-use borrow.Author.Rules.{rules}
 use Rattle.csv_bytes.proofs.more.Goals as goal
 
 pub returns-then-next-gt4294967295 : goal.returns-then-next-gt4294967295

@@ -1,6 +1,5 @@
 -- `csv_bytes::progress` meets its contract.
 use borrow.Author.Tests.{eq-eqb, ne_eqb, lt-ltb, le-ltb}
-use borrow.Author.Rules.{rules}
 use Rattle.csv_bytes.proofs.progress.Goals as goal
 
 pub returns-then-word-n : goal.returns-then-word-n

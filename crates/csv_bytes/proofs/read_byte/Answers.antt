@@ -1,5 +1,4 @@
 -- `csv_bytes::read_byte` meets its contract.
-use borrow.Author.Rules.{rules}
 use Rattle.csv_bytes.proofs.read_byte.Goals as goal
 
 pub returns-in-Start : goal.returns-in-Start

@@ -1,5 +1,4 @@
 -- `csv_bytes::start_byte` meets its contract.
-use borrow.Author.Rules.{rules}
 use borrow.Author.Tests.{eq-eqb, ne_eqb}
 use mathlib.Core.Path.{◌∙◌}
 use Rattle.csv_bytes.proofs.start_byte.Goals as goal

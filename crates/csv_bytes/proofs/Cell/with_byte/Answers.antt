@@ -1,5 +1,4 @@
 -- `csv_bytes::Cell::with_byte` meets its contract.
-use borrow.Author.Rules.{rules}
 use Rattle.csv_bytes.proofs.Cell.with_byte.Goals as goal
 
 pub returns : goal.returns
