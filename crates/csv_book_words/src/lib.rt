@@ -40,10 +40,10 @@ fn with_other(text: Text, fault: u32) -> Text
     if fault == csv_book::ROOM {
         return text.with_bytes(b"a buffer of fewer than 40000 bytes");
     }
-    if fault == csv_bytes::STRAY {
+    if fault == csv_fleet_tokens::STRAY {
         return text.with_bytes(b"text after a closing quote");
     }
-    if fault == csv_bytes::OPEN {
+    if fault == csv_fleet_tokens::OPEN {
         return text.with_bytes(b"a quote that is not closed");
     }
     text.with_bytes(b"no fault")

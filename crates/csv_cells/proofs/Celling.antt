@@ -12,8 +12,7 @@ use Rattle.buffers.specs.Placed.{placed}
 use Rattle.buffers.proofs.Writing.{Writing, writing_start, writing_more, writing_end}
 use Rattle.csv_bytes.specs.declared.Mode.{Mode}
 use Rattle.csv_bytes.specs.declared.Mode.TheVariants.{Start, Plain, Quoted, Closing, Return}
-use Rattle.csv_bytes.specs.declared.Step.{Step}
-use Rattle.csv_bytes.specs.Tokens.{step, ending, tokens, separator, mark_size, csv_tokens}
+use Rattle.csv_bytes.specs.Tokens.{NumberedStep, step, ending, tokens, separator, mark_size, csv_tokens}
 use Rattle.csv_fleet_reader.proofs.Reading.{next_tokens, last_token}
 use Rattle.csv_fields.specs.Fields.{byte_if}
 use Rattle.csv_fields.proofs.Fielding.{both, few_one}
@@ -119,12 +118,12 @@ unfolding cell_text csv_tokens
 celling_start {csv = csv} es ep ei = rw (es, ep, ei) (record { near = within_start csv; counts = omega arith; so_far = writing_start })
 
 module _ {r f : ℕ} {csv out : List ℕ} {sep : ℕ} {place : Place} {mode : Mode} {n i : ℕ} {now : List ℕ} (d : Celling r f csv out sep place mode n i now) (l : 200 ≤ length out) where
-  next_bytes : i < length csv → {s : Step} → s ≡ step sep mode (get_or csv i 0) → (x : List ℕ) → x ≡ cell_byte r f n place s.token →
+  next_bytes : i < length csv → {s : NumberedStep} → s ≡ step sep mode (get_or csv i 0) → (x : List ℕ) → x ≡ cell_byte r f n place s.token →
       cell_from r f n place (tokens sep mode (drop i csv)) ≡ x ++ cell_from r f (n + length x) (moved place s.token) (tokens sep s.mode (drop (i + 1) csv))
   unfolding cell_from
   next_bytes h es x ex = ap (cell_from r f n place) (next_tokens sep mode csv i h es) ∙ rw ex
 
-  pub celling_more : i < length csv → {s : Step} → s ≡ step sep mode (get_or csv i 0) → {next : Place} → next ≡ moved place s.token → {b : Bool} → b ≡ is_in r f place s.token →
+  pub celling_more : i < length csv → {s : NumberedStep} → s ≡ step sep mode (get_or csv i 0) → {next : Place} → next ≡ moved place s.token → {b : Bool} → b ≡ is_in r f place s.token →
       {m : ℕ} → m ≡ n + length (byte_if b n s.token) → {new : List ℕ} → new ≡ placed now n (byte_if b n s.token) → Celling r f csv out sep next s.mode m (i + 1) new
   celling_more h {s} es {next} ep {b} eb {m} em {new} en =
       let x = byte_if b n s.token in

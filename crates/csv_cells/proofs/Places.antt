@@ -1,13 +1,12 @@
 -- The place of each token, one after the other: what is left of the text decides as the whole does.
-use mathlib.Core.Path.{◌≡◌, refl, sym, ◌∙◌}
+use mathlib.Core.Path.{◌≡◌, refl}
 use mathlib.Core.List.{List}
 use Prim.Native.Nat.{ℕ, ◌+◌, ◌≤◌, ◌<◌}
 use native.Mathlib.Omega.{arith}
 use lib.ListN.{length, get_or, drop}
 use Rattle.csv_bytes.specs.declared.Mode.{Mode}
 use Rattle.csv_bytes.specs.declared.Mode.TheVariants.{Start}
-use Rattle.csv_bytes.specs.declared.Step.{Step}
-use Rattle.csv_bytes.specs.Tokens.{step, ending, tokens, separator, mark_size, csv_tokens}
+use Rattle.csv_bytes.specs.Tokens.{NumberedStep, step, ending, tokens, separator, mark_size, csv_tokens}
 use Rattle.csv_fleet_reader.proofs.Reading.{mark_inside, next_tokens, last_token}
 use Rattle.csv_cells.specs.declared.Place.{Place}
 use Rattle.csv_cells.specs.Cells.{start, moved, place_from, last_place, line_at, line_from, line_of}
@@ -40,7 +39,7 @@ unfolding last_place csv_tokens
 placing_start {csv} es ep ei = rw (es, ep, ei) (record { near = within_start csv; later = refl })
 
 module _ {csv : List ℕ} {sep : ℕ} {p : Place} {m : Mode} {i : ℕ} (d : Placing csv sep p m i) where
-  pub placing_more : i < length csv → {s : Step} → s ≡ step sep m (get_or csv i 0) → {q : Place} → q ≡ moved p s.token → Placing csv sep q s.mode (i + 1)
+  pub placing_more : i < length csv → {s : NumberedStep} → s ≡ step sep m (get_or csv i 0) → {q : Place} → q ≡ moved p s.token → Placing csv sep q s.mode (i + 1)
   unfolding place_from
   placing_more h {s} es eq = rw eq (record { near = within_more d.near h s.token; later = rw (next_tokens sep m csv i h es) at d.later })
 
@@ -57,7 +56,7 @@ unfolding line_of csv_tokens
 lining_start es ep ei = rw (es, ep, ei) (record { later = refl })
 
 module _ {r : ℕ} {csv : List ℕ} {sep : ℕ} {p : Place} {m : Mode} {n i : ℕ} (d : Lining r csv sep p m n i) where
-  pub lining_more : i < length csv → {s : Step} → s ≡ step sep m (get_or csv i 0) → {l : ℕ} → l ≡ line_at r n p → {q : Place} → q ≡ moved p s.token → Lining r csv sep q s.mode l (i + 1)
+  pub lining_more : i < length csv → {s : NumberedStep} → s ≡ step sep m (get_or csv i 0) → {l : ℕ} → l ≡ line_at r n p → {q : Place} → q ≡ moved p s.token → Lining r csv sep q s.mode l (i + 1)
   unfolding line_from
   lining_more h es el eq = rw (el, eq) (record { later = rw (next_tokens sep m csv i h es) at d.later })
 

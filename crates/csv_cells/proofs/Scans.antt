@@ -5,8 +5,7 @@ use Prim.Native.Nat.{ℕ, ◌+◌, ◌≤◌, ◌<◌}
 use lib.ListN.{length, get_or}
 use Rattle.csv_bytes.specs.declared.Mode.{Mode}
 use Rattle.csv_bytes.specs.declared.Mode.TheVariants.{Start}
-use Rattle.csv_bytes.specs.declared.Step.{Step}
-use Rattle.csv_bytes.specs.Tokens.{step, ending, separator, mark_size}
+use Rattle.csv_bytes.specs.Tokens.{NumberedStep, step, ending, separator, mark_size}
 use Rattle.csv_cells.specs.declared.Place.{Place}
 use Rattle.csv_cells.specs.Cells.{start, moved, last_place, line_at, line_of, width_at, width}
 use Rattle.csv_cells.proofs.Places.{Placing, placing_start, placing_more, placing_end, Lining, lining_start, lining_more, lining_end}
@@ -21,7 +20,7 @@ pub scanning_start : {r : ℕ} {csv : List ℕ} {sep i : ℕ} {p : Place} → se
 scanning_start es ep ei = record { placing = placing_start es ep ei; lining = lining_start es ep ei; widening = widening_start es ep ei }
 
 module _ {r : ℕ} {csv : List ℕ} {sep : ℕ} {p : Place} {m : Mode} {l n i : ℕ} (d : Scanning r csv sep p m l n i) where
-  pub scanning_more : i < length csv → {s : Step} → s ≡ step sep m (get_or csv i 0) → {q : Place} → q ≡ moved p s.token → {k : ℕ} → k ≡ line_at r l p →
+  pub scanning_more : i < length csv → {s : NumberedStep} → s ≡ step sep m (get_or csv i 0) → {q : Place} → q ≡ moved p s.token → {k : ℕ} → k ≡ line_at r l p →
       {w : ℕ} → w ≡ width_at r n p s.token → Scanning r csv sep q s.mode k w (i + 1)
   scanning_more h es eq ek ew =
       record { placing = placing_more d.placing h es eq; lining = lining_more d.lining h es ek eq; widening = widening_more d.widening h es eq ew }

@@ -9,8 +9,7 @@ use lib.Dec.{ltb, eqb}
 use lib.ListN.{length, get_or, drop}
 use Rattle.csv_bytes.specs.declared.Mode.{Mode}
 use Rattle.csv_bytes.specs.declared.Mode.TheVariants.{Start}
-use Rattle.csv_bytes.specs.declared.Step.{Step}
-use Rattle.csv_bytes.specs.Tokens.{step, tokens, separator, mark_size, csv_tokens}
+use Rattle.csv_bytes.specs.Tokens.{NumberedStep, step, tokens, separator, mark_size, csv_tokens}
 use Rattle.csv_fleet_reader.proofs.Reading.{next_tokens}
 use Rattle.csv_fields.specs.Fields.{byte_if}
 use Rattle.csv_fields.proofs.Fielding.{both}
@@ -99,7 +98,7 @@ module _ {r : ℕ} {csv : List ℕ} {sep : ℕ} {p : Place} {m : Mode} {n i : �
       by true h = d.fields (ltb-true 0 n h) e
       by false h = omega (arith, ltb-false 0 n h)
 
-  module _ (h : i < length csv) {s : Step} (es : s ≡ step sep m (get_or csv i 0)) where
+  module _ (h : i < length csv) {s : NumberedStep} (es : s ≡ step sep m (get_or csv i 0)) where
     from_next : (f : ℕ) → n ≤ f → cell_text r f csv ≡ cell_from r f 0 p (s.token ∷ tokens sep s.mode (drop (i + 1) csv))
     from_next f l = d.later f l ∙ ap (cell_from r f 0 p) (next_tokens sep m csv i h es)
 

@@ -6,9 +6,11 @@
 
 ghost use Rattle.std.specs.Prelude.{◌≡◌, ◌≤◌, ◌<◌, length};
 ghost use Rattle.buffers.specs.Placed.{placed};
+ghost use Rattle.csv_bytes.specs.Tokens.{token_number};
+ghost use Rattle.csv_fields.specs.Fields.{bytes_of, byte_where};
 ghost use Rattle.csv_cells.specs.Cells.{start, faulty, with_text, next_field, row_after, next_line, ended, consumed, moved, last_place, is_in, is_past, cell_text, line_at, line_of, width_at, width};
 
-use csv_bytes::Mode;
+use csv_bytes::{Mode, Token};
 
 // What is wrong, besides the tokens csv_bytes::STRAY and csv_bytes::OPEN: a field of more than 200 bytes, more than 65 fields in a line.
 pub const LONG: u32 = 1;
@@ -48,6 +50,7 @@ impl Place {
     }
 
     // After a byte of a field.
+    #[tactic(auto, unfolding(crate::specs::Cells::with_text))]
     fn with_text(self) -> Place
         ensures { result ≡ with_text self }
     {
@@ -63,6 +66,7 @@ impl Place {
         self.faulty(LONG)
     }
 
+    #[tactic(auto, unfolding(crate::specs::Cells::next_field))]
     fn next_field(self) -> Place
         ensures { result ≡ next_field self }
     {
@@ -79,6 +83,7 @@ impl Place {
     }
 
     // The rows before the next line. A line without bytes is no row.
+    #[tactic(auto, unfolding(crate::specs::Cells::row_after))]
     fn row_after(self) -> usize
         requires { self.row < 4294967296 }
         ensures { result ≡ row_after self }
@@ -92,6 +97,7 @@ impl Place {
         self.row
     }
 
+    #[tactic(auto, unfolding(crate::specs::Cells::next_line))]
     fn next_line(self) -> Place
         requires line_bound { self.line < 4294967296 }
         requires row_bound { self.row < 4294967296 }
@@ -107,6 +113,7 @@ impl Place {
     }
 
     // After the end of the text.
+    #[tactic(auto, unfolding(crate::specs::Cells::ended))]
     fn ended(self) -> Place
         requires { self.row < 4294967296 }
         ensures { result ≡ ended self }
@@ -120,34 +127,29 @@ impl Place {
         }
     }
 
-    fn consumed(self, token: u32) -> Place
+    #[tactic(auto, unfolding(crate::specs::Cells::consumed))]
+    fn consumed(self, token: Token) -> Place
         requires line_bound { self.line < 4294967296 }
         requires row_bound { self.row < 4294967296 }
-        ensures { result ≡ consumed self token }
+        ensures { result ≡ consumed self (token_number token) }
     {
-        if token < 256 {
-            return self.with_text();
+        match token {
+            Token::Byte(_) => self.with_text(),
+            Token::Field => self.next_field(),
+            Token::Line => self.next_line(),
+            Token::End => self.ended(),
+            Token::Nothing => self,
+            Token::Stray => self.faulty(csv_fleet_tokens::STRAY),
+            Token::Open => self.faulty(csv_fleet_tokens::OPEN),
         }
-        if token == csv_bytes::FIELD {
-            return self.next_field();
-        }
-        if token == csv_bytes::LINE {
-            return self.next_line();
-        }
-        if token == csv_bytes::END {
-            return self.ended();
-        }
-        if token == csv_bytes::NOTHING {
-            return self;
-        }
-        self.faulty(token)
     }
 
     // The place of the next token.
-    pub fn moved(self, token: u32) -> Place
+    #[tactic(auto, unfolding(crate::specs::Cells::moved))]
+    pub fn moved(self, token: Token) -> Place
         requires line_bound { self.line < 4294967296 }
         requires row_bound { self.row < 4294967296 }
-        ensures { result ≡ moved self token }
+        ensures { result ≡ moved self (token_number token) }
     {
         if self.fault != 0 {
             return self;
@@ -156,24 +158,26 @@ impl Place {
     }
 }
 
-// Whether a token is a byte of a field: `row` and `field` say which, `place` is the token's, and `fault` that of the place after it.
-fn is_in(row: usize, field: usize, place: Place, token: u32, fault: u32) -> bool
-    requires { fault ≡ (moved place token).fault }
-    ensures { result ≡ is_in row field place token }
+// The byte that a token is, where it is one of a field: `row` and `field` say which, `place` is the token's, and `fault` that of the place after it.
+#[tactic(auto, unfolding(crate::specs::Cells::is_in))]
+fn byte_in(row: usize, field: usize, place: Place, token: Token, fault: u32) -> Option<u8>
+    requires { fault ≡ (moved place (token_number token)).fault }
+    ensures { bytes_of result ≡ byte_where (is_in row field place (token_number token)) (token_number token) }
 {
-    if 256 <= token {
-        return false;
-    }
+    let Token::Byte(b) = token else {
+        return None;
+    };
     if fault != 0 {
-        return false;
+        return None;
     }
     if place.row != row {
-        return false;
+        return None;
     }
-    place.field == field
+    if place.field == field { Some(b) } else { None }
 }
 
 // Whether no byte of a field is at a place or after it: the field is before the place, or there is a fault.
+#[tactic(auto, unfolding(crate::specs::Cells::is_past))]
 fn is_past(row: usize, field: usize, place: Place) -> bool
     ensures { result ≡ is_past row field place }
 {
@@ -205,8 +209,8 @@ pub fn put_cell(csv: &[u8], row: usize, field: usize, output: &mut [u8]) -> usiz
         let step = csv_bytes::read_byte(separator, mode, csv[i]);
         let token = step.token;
         let next = place.moved(token);
-        let there = is_in(row, field, place, token, next.fault);
-        n = csv_fields::put_byte(output, n, there, token);
+        let byte = byte_in(row, field, place, token, next.fault);
+        n = csv_fields::put_byte(output, n, byte);
         place = next;
         mode = step.mode;
     }
@@ -225,15 +229,15 @@ fn line_at(row: usize, line: usize, place: Place) -> usize
 
 // How many fields a row has as far as it is known: up to the field of a token that is a byte of the row, else what it was. `fault` is that of the
 // place after the token.
-fn width_at(row: usize, n: usize, place: Place, token: u32, fault: u32) -> usize
-    requires fault_value { fault ≡ (moved place token).fault }
+fn width_at(row: usize, n: usize, place: Place, token: Token, fault: u32) -> usize
+    requires fault_value { fault ≡ (moved place (token_number token)).fault }
     requires field_bound { place.field ≤ 64 }
-    ensures { result ≡ width_at row n place token }
+    ensures { result ≡ width_at row n place (token_number token) }
 {
-    if is_in(row, place.field, place, token, fault) {
-        return place.field + 1;
+    match byte_in(row, place.field, place, token, fault) {
+        Some(_) => place.field + 1,
+        None => n,
     }
-    n
 }
 
 // What a pass over a whole CSV finds: the last place, and the line and the width of a row.

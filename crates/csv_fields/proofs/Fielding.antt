@@ -1,72 +1,42 @@
 -- The bytes of one field, one after the other: what is left of the text decides as the whole does.
-use mathlib.Core.Path.{◌≡◌, refl, sym, ap, ◌∙◌}
+use mathlib.Core.Path.{◌≡◌, refl, ap, ◌∙◌}
 use mathlib.Core.Bool.{Bool, true, false, cond}
 use mathlib.Core.List.{List, [], ◌∷◌, ◌++◌}
 use Prim.Native.Nat.{ℕ, ◌+◌, ◌≤◌, ◌<◌}
 use native.Mathlib.Omega.{arith}
-use borrow.Author.Tests.{ltb-true, eq-eqb, ne_eqb, lt-ltb, le-ltb}
-use lib.Dec.{ltb, eqb}
-use lib.ListN.{length, get_or, drop, set, length-append}
+use borrow.Author.Tests.{ltb-true, le-ltb}
+use lib.Dec.{ltb}
+use lib.ListN.{length, get_or, drop, length-append}
+use Rattle.std.specs.Prelude.{Option}
 use Rattle.buffers.specs.Placed.{placed}
-use Rattle.buffers.proofs.Placing.{placed_nil, placed_set}
 use Rattle.buffers.proofs.Writing.{Writing, writing_start, writing_more, writing_end}
 use Rattle.csv_bytes.specs.declared.Mode.{Mode}
 use Rattle.csv_bytes.specs.declared.Mode.TheVariants.{Start, Plain, Quoted, Closing, Return}
-use Rattle.csv_bytes.specs.declared.Step.{Step}
-use Rattle.csv_bytes.specs.Tokens.{step, ending, tokens, separator, mark_size, csv_tokens}
+use Rattle.csv_bytes.specs.Tokens.{NumberedStep, step, ending, tokens, separator, mark_size, csv_tokens}
 use Rattle.csv_fleet_tokens.specs.declared.Table.{Table}
 use Rattle.csv_fleet_tokens.specs.Table.{start, after}
 use Rattle.csv_fleet_reader.specs.Fleet.{next_number}
 use Rattle.csv_fleet_reader.proofs.Reading.{after_slow, mark_inside, next_tokens, last_token}
-use Rattle.csv_fields.specs.Fields.{is_at, byte_if, field_byte, field_from, field_text}
+use Rattle.csv_fields.specs.Fields.{bytes_of, byte_where, within_200, is_at, byte_if, field_byte, field_from, field_text}
 
 -- ---- whether a token is a byte of the field
-module _ (l f n : ℕ) (t : Table) (k : ℕ) where
-  pub at_no_byte : 256 ≤ k → false ≡ is_at l f n t k
-  unfolding is_at
-  at_no_byte h = rw (le-ltb k 256 h)
-
-  module _ (h : k < 256) {x : ℕ} (e : x ≡ (after t k).fault) where
-    pub at_fault : (x ≡ 0 → ⊥) → false ≡ is_at l f n t k
-    unfolding is_at
-    at_fault p = rw (lt-ltb k 256 h, ← e, ne_eqb x 0 p)
-
-    module _ (p : x ≡ 0) where
-      pub at_other : (t.field ≡ f → ⊥) → false ≡ is_at l f n t k
-      unfolding is_at
-      at_other q = rw (lt-ltb k 256 h, ← e, p, ne_eqb t.field f q)
-
-      module _ (q : t.field ≡ f) where
-        pub at_names : l ≡ 0 → eqb t.columns 0 ≡ is_at l f n t k
-        unfolding is_at
-        at_names z = rw (lt-ltb k 256 h, ← e, p, eq-eqb t.field f q, eq-eqb l 0 z)
-
-        pub at_line : (l ≡ 0 → ⊥) → eqb n l ≡ is_at l f n t k
-        unfolding is_at
-        at_line z = rw (lt-ltb k 256 h, ← e, p, eq-eqb t.field f q, ne_eqb l 0 z)
+at_no_byte : (l f n : ℕ) (t : Table) (k : ℕ) → 256 ≤ k → false ≡ is_at l f n t k
+unfolding is_at
+at_no_byte l f n t k h = rw (le-ltb k 256 h)
 
 pub both : (b x : Bool) → cond b x false ≡ true → b ≡ true
 both true x p = refl
 both false x p = p
 
-pub at_byte : (l f n : ℕ) (t : Table) (k : ℕ) {b : Bool} → b ≡ is_at l f n t k → b ≡ true → k < 256
-unfolding is_at
-at_byte l f n t k e h = ltb-true k 256 (both (ltb k 256) _ (sym e ∙ h))
-
 -- ---- a byte put
-module _ (b : Bool) (m k : ℕ) (out : List ℕ) where
-  pub byte_full : 200 ≤ m → (m ≡ m + length (byte_if b m k)) × (out ≡ placed out m (byte_if b m k))
+module _ (o : Option ℕ) (b : Bool) (k n : ℕ) (e : bytes_of o ≡ byte_where b k) where
+  pub put_counted : {m : ℕ} → m ≡ n + length (within_200 n (bytes_of o)) → m ≡ n + length (byte_if b n k)
   unfolding byte_if
-  byte_full h = rw (le-ltb m 200 h) (omega arith, sym (placed_nil out m))
+  put_counted h = h ∙ ap (λ (xs : List ℕ). n + length (within_200 n xs)) e
 
-  module _ (h : m < 200) where
-    pub byte_none : b ≡ false → (m ≡ m + length (byte_if b m k)) × (out ≡ placed out m (byte_if b m k))
-    unfolding byte_if
-    byte_none e = rw (lt-ltb m 200 h, e) (omega arith, sym (placed_nil out m))
-
-    pub byte_put : 200 ≤ length out → b ≡ true → (m + 1 ≡ m + length (byte_if b m k)) × (set out m k ≡ placed out m (byte_if b m k))
-    unfolding byte_if
-    byte_put l e = rw (lt-ltb m 200 h, e) (refl, placed_set out m k (omega arith))
+  pub put_placed : (now : List ℕ) {new : List ℕ} → new ≡ placed now n (within_200 n (bytes_of o)) → new ≡ placed now n (byte_if b n k)
+  unfolding byte_if
+  put_placed now h = h ∙ ap (λ (xs : List ℕ). placed now n (within_200 n xs)) e
 
 -- ---- at most 200 bytes
 one : (a b : Bool) (m k : ℕ) → ltb m 200 ≡ a → m ≤ 200 → m + length (cond a (cond b (k ∷ []) []) []) ≤ 200
@@ -116,13 +86,13 @@ module _ (l f : ℕ) (csv out : List ℕ) where
       (record { within = mark_inside csv; few_lines = omega arith; few_boats = omega arith; counts = begins_count; so_far = begins })
 
 module _ {l f : ℕ} {csv out : List ℕ} {sep : ℕ} {table : Table} {mode : Mode} {at n i : ℕ} {now : List ℕ} (d : Fielding l f csv out sep table mode at n i now) (k : 200 ≤ length out) where
-  next_fields : i < length csv → {s : Step} → s ≡ step sep mode (get_or csv i 0) → (x : List ℕ) → x ≡ field_byte l f n at table s.token →
+  next_fields : i < length csv → {s : NumberedStep} → s ≡ step sep mode (get_or csv i 0) → (x : List ℕ) → x ≡ field_byte l f n at table s.token →
       field_from l f n at table (tokens sep mode (drop i csv))
       ≡ x ++ field_from l f (n + length x) (next_number at (after table s.token).fault s.token) (after table s.token) (tokens sep s.mode (drop (i + 1) csv))
   unfolding field_from
   next_fields h es x ex = ap (field_from l f n at table) (next_tokens sep mode csv i h es) ∙ rw ex
 
-  pub fielding_more : i < length csv → {s : Step} → s ≡ step sep mode (get_or csv i 0) → {next : Table} → next ≡ after table s.token → {b : Bool} → b ≡ is_at l f at table s.token →
+  pub fielding_more : i < length csv → {s : NumberedStep} → s ≡ step sep mode (get_or csv i 0) → {next : Table} → next ≡ after table s.token → {b : Bool} → b ≡ is_at l f at table s.token →
       {m : ℕ} → m ≡ n + length (byte_if b n s.token) → {new : List ℕ} → new ≡ placed now n (byte_if b n s.token) → {r : ℕ} → r ≡ next_number at next.fault s.token → r ≤ at + 1 →
       Fielding l f csv out sep next s.mode r m (i + 1) new
   fielding_more h {s} es {next} et {b} eb {m} em {new} en {r} er hr =

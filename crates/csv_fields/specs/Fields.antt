@@ -1,5 +1,5 @@
 -- One field of a fleet's CSV, as bytes: a boat's or a column's name, or what stands in place of a value. Definitions only.
-use Rattle.std.specs.Prelude.{Bool, false, cond, List, [], ◌∷◌, ◌++◌, ℕ, ◌+◌, ltb, eqb, length}
+use Rattle.std.specs.Prelude.{Bool, false, cond, List, [], ◌∷◌, ◌++◌, ℕ, ◌+◌, ltb, eqb, Option, Some, None, length}
 use Rattle.csv_bytes.specs.Tokens.{csv_tokens}
 use Rattle.csv_fleet_tokens.specs.declared.Table.{Table}
 use Rattle.csv_fleet_tokens.specs.Table.{start, after}
@@ -11,9 +11,20 @@ is_at l f n t k =
     cond (ltb k 256)
     (cond (eqb (after t k).fault 0) (cond (eqb t.field f) (cond (eqb l 0) (eqb t.columns 0) (eqb n l)) false) false) false
 
--- a byte after m others, where it is there. A field has at most 200 bytes
+-- a byte, where it is there
+abbrev pub byte_where : (there : Bool) → (k : ℕ) → List ℕ
+byte_where there k = cond there (k ∷ []) []
+
+abbrev pub bytes_of : Option ℕ → List ℕ
+bytes_of None = []
+bytes_of (Some k) = k ∷ []
+
+-- after m others. A field has at most 200 bytes
+abbrev pub within_200 : (m : ℕ) → List ℕ → List ℕ
+within_200 m bs = cond (ltb m 200) bs []
+
 unfoldable pub byte_if : (there : Bool) → (m k : ℕ) → List ℕ
-byte_if there m k = cond (ltb m 200) (cond there (k ∷ []) []) []
+byte_if there m k = within_200 m (byte_where there k)
 
 abbrev pub field_byte : (l f m n : ℕ) → Table → (k : ℕ) → List ℕ
 field_byte l f m n t k = byte_if (is_at l f n t k) m k

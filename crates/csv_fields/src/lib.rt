@@ -3,49 +3,59 @@
 // Helpers for other crates, whose callers prove what they require: put_field, put_byte.
 #![tactic(auto)]
 
-ghost use Rattle.std.specs.Prelude.{◌≡◌, true, ◌+◌, ◌≤◌, ◌<◌, length};
+ghost use Rattle.std.specs.Prelude.{◌≡◌, ◌+◌, ◌≤◌, ◌<◌, length};
+ghost use Rattle.csv_bytes.specs.Tokens.{token_number};
 ghost use Rattle.csv_fleet_tokens.specs.Table.{after};
 ghost use Rattle.buffers.specs.Placed.{placed};
-ghost use Rattle.csv_fields.specs.Fields.{is_at, byte_if, field_text};
+ghost use Rattle.csv_fields.specs.Fields.{bytes_of, byte_where, within_200, is_at, field_text};
 
-use csv_bytes::Mode;
+use csv_bytes::{Mode, Token};
 use csv_fleet_tokens::Table;
 
-// Whether a token is a byte of a field: `line` and `field` say which, `at` is the token's line, and `fault` what the table has after it.
-fn is_at(line: usize, field: usize, at: usize, table: Table, token: u32, fault: u32) -> bool
-    requires { fault ≡ (after table token).fault }
-    ensures { result ≡ is_at line field at table token }
+// The byte that a token is, where it is one of a field: `line` and `field` say which, `at` is the token's line, and `fault` what the table has after it.
+#[tactic(auto, unfolding(crate::specs::Fields::is_at))]
+fn byte_at(
+    line: usize,
+    field: usize,
+    at: usize,
+    table: Table,
+    token: Token,
+    fault: u32,
+) -> Option<u8>
+    requires { fault ≡ (after table (token_number token)).fault }
+    ensures { bytes_of result ≡ byte_where (is_at line field at table (token_number token)) (token_number token) }
 {
-    if 256 <= token {
-        return false;
-    }
+    let Token::Byte(b) = token else {
+        return None;
+    };
     if fault != 0 {
-        return false;
+        return None;
     }
     if table.field != field {
-        return false;
+        return None;
     }
     if line == 0 {
-        return table.columns == 0;
+        return if table.columns == 0 { Some(b) } else { None };
     }
-    at == line
+    if at == line { Some(b) } else { None }
 }
 
-// Puts a byte after `n` others where it is there; gives back how many there are then.
-pub fn put_byte(output: &mut [u8], n: usize, there: bool, token: u32) -> usize
-    requires in_bounds { 200 ≤ length output.old }
-    requires token_bound { there ≡ true → token < 256 }
-    ensures value { result ≡ n + length (byte_if there n token) }
-    ensures output_after { output.new ≡ placed output.old n (byte_if there n token) }
+// Puts a byte after `n` others where there is one; gives back how many there are then.
+pub fn put_byte(output: &mut [u8], n: usize, byte: Option<u8>) -> usize
+    requires { 200 ≤ length output.old }
+    ensures value { result ≡ n + length (within_200 n (bytes_of byte)) }
+    ensures output_after { output.new ≡ placed output.old n (within_200 n (bytes_of byte)) }
 {
     if 200 <= n {
         return n;
     }
-    if there {
-        output[n] = token as u8;
-        return n + 1;
+    match byte {
+        Some(b) => {
+            output[n] = b;
+            n + 1
+        }
+        None => n,
     }
-    n
 }
 
 // Puts the bytes of a field from the first byte on, at most 200; gives back how many. Line 0 is the line of the column names.
@@ -64,8 +74,8 @@ pub fn put_field(csv: &[u8], line: usize, field: usize, output: &mut [u8]) -> us
         let step = csv_bytes::read_byte(separator, mode, csv[i]);
         let token = step.token;
         let next = table.after(token);
-        let there = is_at(line, field, at, table, token, next.fault);
-        n = put_byte(output, n, there, token);
+        let byte = byte_at(line, field, at, table, token, next.fault);
+        n = put_byte(output, n, byte);
         at = csv_fleet_reader::next_number(at, next.fault, token);
         table = next;
         mode = step.mode;

@@ -17,8 +17,7 @@ use Rattle.csv_bytes.specs.Cells.{with_byte, progress}
 use Rattle.csv_bytes.specs.declared.Cell.{Cell}
 use Rattle.csv_bytes.specs.declared.Mode.{Mode}
 use Rattle.csv_bytes.specs.declared.Mode.TheVariants.{Start, Plain, Quoted, Closing, Return}
-use Rattle.csv_bytes.specs.declared.Step.{Step}
-use Rattle.csv_bytes.specs.Tokens.{step, ending, tokens, separator, mark_size, csv_tokens}
+use Rattle.csv_bytes.specs.Tokens.{NumberedStep, step, ending, tokens, separator, mark_size, csv_tokens}
 use Rattle.csv_fleet_tokens.specs.declared.Table.{Table}
 use Rattle.csv_fleet_tokens.specs.Table.{start, faulty, UNIT, with_text, field_fault, limit, next_field, field_ended, end_fault, boats_after, next_line, whole_line_ended, line_ended, finished, consumed, after}
 use Rattle.csv_fleet_reader.specs.Fleet.{ended_value, values_from, table_from, next_number, line_from, fleet_values, last_table, last_line}
@@ -109,7 +108,7 @@ mark_inside bs = by (ltb (length bs) 3) refl (eqb (get_or bs 0 0) 239) (eqb (get
     by false e true false c = omega arith
     by false e false b c = omega arith
 
-pub next_tokens : (sep : ℕ) (m : Mode) (bs : List ℕ) (i : ℕ) → i < length bs → {s : Step} → s ≡ step sep m (get_or bs i 0) → tokens sep m (drop i bs) ≡ s.token ∷ tokens sep s.mode (drop (i + 1) bs)
+pub next_tokens : (sep : ℕ) (m : Mode) (bs : List ℕ) (i : ℕ) → i < length bs → {s : NumberedStep} → s ≡ step sep m (get_or bs i 0) → tokens sep m (drop i bs) ≡ s.token ∷ tokens sep s.mode (drop (i + 1) bs)
 unfolding tokens
 next_tokens sep m bs i h e = ap (tokens sep m) (drop-cons bs i 0 h) ∙ rw (e, add-one)
 
@@ -171,7 +170,7 @@ module _ {csv out : List ℕ} {sep : ℕ} {table : Table} {mode : Mode} {line n 
       (omega (arith, length_values_bytes (ended_value table n k))) en)
 
 module _ {csv out : List ℕ} {sep : ℕ} {table : Table} {mode : Mode} {line n i : ℕ} {now : List ℕ} (d : Reading csv out sep table mode line n i now) (l : 32768 ≤ length out) where
-  pub reading_more : i < length csv → {s : Step} → s ≡ step sep mode (get_or csv i 0) → {m : ℕ} → m ≡ n + length (ended_value table n s.token) → {new : List ℕ} →
+  pub reading_more : i < length csv → {s : NumberedStep} → s ≡ step sep mode (get_or csv i 0) → {m : ℕ} → m ≡ n + length (ended_value table n s.token) → {new : List ℕ} →
       new ≡ placed now (2 * n) (values_bytes (ended_value table n s.token)) → {next : Table} → next ≡ after table s.token → {r : ℕ} → r ≡ next_number line next.fault s.token →
       r ≤ line + 1 → Reading csv out sep next s.mode r m (i + 1) new
   reading_more h {s} es em en et er hr =

@@ -6,11 +6,12 @@
 ghost use Rattle.std.specs.Prelude.{◌≡◌, ◌+◌, ◌*◌, ◌≤◌, ◌<◌, length};
 ghost use Rattle.buffers.specs.Placed.{placed};
 ghost use Rattle.sheet_output.specs.Output.{bits, values_bytes};
+ghost use Rattle.csv_bytes.specs.Tokens.{token_number};
 ghost use Rattle.csv_bytes.specs.Cells.{signed};
 ghost use Rattle.csv_fleet_reader.specs.Fleet.{ends_value, ended_value, next_number, fleet_values, last_table, last_line};
 
 use buffers::put;
-use csv_bytes::Mode;
+use csv_bytes::{Mode, Token};
 use csv_fleet_tokens::Table;
 
 // What was read of a whole CSV: the table after it, the line of the first fault, and how many values were put.
@@ -33,17 +34,15 @@ pub fn value_bits(negative: bool, magnitude: u32) -> u64
 }
 
 // Whether a token ends a value in range.
-fn ends_value(table: Table, token: u32) -> bool
-    ensures { result ≡ ends_value table token }
+fn ends_value(table: Table, token: Token) -> bool
+    ensures { result ≡ ends_value table (token_number token) }
 {
     if table.fault != 0 {
         return false;
     }
-    if token < csv_bytes::FIELD {
-        return false;
-    }
-    if csv_bytes::END < token {
-        return false;
+    match token {
+        Token::Field | Token::Line | Token::End => (),
+        _ => return false,
     }
     if table.columns == 0 {
         return false;
@@ -59,10 +58,10 @@ fn ends_value(table: Table, token: u32) -> bool
 }
 
 // Puts the value that a token ends after `n` others, if it ends one; gives back how many there are then.
-fn put_value(rows: &mut [u8], n: usize, table: Table, token: u32) -> usize
+fn put_value(rows: &mut [u8], n: usize, table: Table, token: Token) -> usize
     requires { 32768 ≤ length rows.old }
-    ensures value { result ≡ n + length (ended_value table n token) }
-    ensures rows_after { rows.new ≡ placed rows.old (2 * n) (values_bytes (ended_value table n token)) }
+    ensures value { result ≡ n + length (ended_value table n (token_number token)) }
+    ensures rows_after { rows.new ≡ placed rows.old (2 * n) (values_bytes (ended_value table n (token_number token))) }
 {
     if 16384 <= n {
         return n;
@@ -76,18 +75,18 @@ fn put_value(rows: &mut [u8], n: usize, table: Table, token: u32) -> usize
 }
 
 // The number of the line after a token; a fault keeps its line.
-pub fn next_number(line: usize, fault: u32, token: u32) -> usize
+pub fn next_number(line: usize, fault: u32, token: Token) -> usize
     requires { line < 9223372036854775808 }
-    ensures value { result ≡ next_number line fault token }
+    ensures value { result ≡ next_number line fault (token_number token) }
     ensures upper_bound { result ≤ line + 1 }
 {
     if fault != 0 {
         return line;
     }
-    if token == csv_bytes::LINE {
-        return line + 1;
+    match token {
+        Token::Line => line + 1,
+        _ => line,
     }
-    line
 }
 
 // Reads a fleet and puts its values, 2 bytes each, from the buffer's first byte on.

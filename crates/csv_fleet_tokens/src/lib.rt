@@ -5,9 +5,10 @@
 
 ghost use Rattle.std.specs.Prelude.{◌≡◌, ◌+◌, ◌<◌};
 ghost use Rattle.csv_fleet_tokens.specs.Faults.{fault_number};
+ghost use Rattle.csv_bytes.specs.Tokens.{token_number};
 ghost use Rattle.csv_fleet_tokens.specs.Table.{start, faulty, with_text, number_fault, name_fault, field_fault, limit, units_after, field_ended, end_fault, columns_after, boats_after, word_after, whole_line_ended, line_ended, finished, consumed, after};
 
-use csv_bytes::Cell;
+use csv_bytes::{Cell, Token};
 
 // What is wrong, besides the tokens csv_bytes::STRAY and csv_bytes::OPEN: a field of more than 200 bytes, no name, no column, more than 64 columns or
 // more fields than columns, fewer fields than columns, no whole number, a value out of range, more than 256 boats, no boat.
@@ -28,6 +29,10 @@ pub const OUT_OF_RANGE: u32 = 7;
 pub const BOATS: u32 = 8;
 
 pub const BOATLESS: u32 = 9;
+
+pub const STRAY: u32 = 260;
+
+pub const OPEN: u32 = 261;
 
 // What is wrong with a CSV, each with the number that the definitions give it.
 #[derive(Clone, Copy, Debug, PartialEq, Eq)]
@@ -325,32 +330,25 @@ impl Table {
         self.faulty(BOATLESS)
     }
 
-    fn consumed(self, token: u32) -> Table
+    fn consumed(self, token: Token) -> Table
         requires { self.boats < 4294967296 }
-        ensures { result ≡ consumed self token }
+        ensures { result ≡ consumed self (token_number token) }
     {
-        if token < 256 {
-            return self.with_text(token as u8);
+        match token {
+            Token::Byte(b) => self.with_text(b),
+            Token::Field => self.field_ended(),
+            Token::Line => self.line_ended(),
+            Token::End => self.line_ended().finished(),
+            Token::Nothing => self,
+            Token::Stray => self.faulty(STRAY),
+            Token::Open => self.faulty(OPEN),
         }
-        if token == csv_bytes::FIELD {
-            return self.field_ended();
-        }
-        if token == csv_bytes::LINE {
-            return self.line_ended();
-        }
-        if token == csv_bytes::END {
-            return self.line_ended().finished();
-        }
-        if token == csv_bytes::NOTHING {
-            return self;
-        }
-        self.faulty(token)
     }
 
     // What was read with one token more.
-    pub fn after(self, token: u32) -> Table
+    pub fn after(self, token: Token) -> Table
         requires { self.boats < 4294967296 }
-        ensures { result ≡ after self token }
+        ensures { result ≡ after self (token_number token) }
     {
         if self.fault != 0 {
             return self;

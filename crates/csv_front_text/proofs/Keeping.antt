@@ -14,8 +14,7 @@ use Rattle.buffers.specs.Placed.{placed}
 use Rattle.buffers.proofs.Placing.{placed_nil, placed_length, placed_then, placed_set}
 use Rattle.csv_bytes.specs.declared.Mode.{Mode}
 use Rattle.csv_bytes.specs.declared.Mode.TheVariants.{Start}
-use Rattle.csv_bytes.specs.declared.Step.{Step}
-use Rattle.csv_bytes.specs.Tokens.{step, separator, mark_size}
+use Rattle.csv_bytes.specs.Tokens.{NumberedStep, step, separator, mark_size}
 use Rattle.csv_fleet_tokens.specs.declared.Table.{Table}
 use Rattle.csv_fleet_tokens.specs.Table.{start, after}
 use Rattle.csv_fleet_reader.proofs.Reading.{after_slow, mark_inside}
@@ -99,7 +98,7 @@ module _ (now : List ℕ) (n : ℕ) (xs ys : List ℕ) {new : List ℕ} (e : new
           rw (z, placed_nil new (n + length xs), take-append-le (length now - n) xs ys (omega arith)) e
 
 -- ---- the bytes that are left
-next_kept : (sep : ℕ) (t : Table) (m : Mode) (bs : List ℕ) (i : ℕ) → i < length bs → {s : Step} → s ≡ step sep m (get_or bs i 0) →
+next_kept : (sep : ℕ) (t : Table) (m : Mode) (bs : List ℕ) (i : ℕ) → i < length bs → {s : NumberedStep} → s ≡ step sep m (get_or bs i 0) →
     names_from sep t m (drop i bs) ≡ kept_byte t s.token (get_or bs i 0) ++ names_from sep (after t s.token) s.mode (drop (i + 1) bs)
 unfolding names_from
 next_kept sep t m bs i h e = ap (names_from sep t m) (drop-cons bs i 0 h) ∙ rw (e, add-one)
@@ -128,7 +127,7 @@ unfolding kept_byte
 at_most_one t k b = small (is_kept t k) b
 
 module _ {csv : List ℕ} {sep : ℕ} {table : Table} {mode : Mode} {n i : ℕ} (d : Counting csv sep table mode n i) where
-  pub counting_more : i < length csv → {s : Step} → s ≡ step sep mode (get_or csv i 0) → {m : ℕ} → m ≡ n + length (kept_byte table s.token (get_or csv i 0)) →
+  pub counting_more : i < length csv → {s : NumberedStep} → s ≡ step sep mode (get_or csv i 0) → {m : ℕ} → m ≡ n + length (kept_byte table s.token (get_or csv i 0)) →
       {next : Table} → next ≡ after table s.token → Counting csv sep next s.mode m (i + 1)
   counting_more h {s} es {m} em {next} et =
       let x = kept_byte table s.token (get_or csv i 0) in
@@ -157,7 +156,7 @@ pub naming_start : {csv out : List ℕ} {sep i : ℕ} {t : Table} → sep ≡ se
 naming_start {csv} {out} es et ei = record { counting = counting_start es et ei; long = refl; later = rw (es, et, ei) (begins csv out) }
 
 module _ {csv out : List ℕ} {sep : ℕ} {table : Table} {mode : Mode} {n i : ℕ} {now : List ℕ} (d : Naming csv out sep table mode n i now) where
-  pub naming_more : i < length csv → {s : Step} → s ≡ step sep mode (get_or csv i 0) → {m : ℕ} → m ≡ n + length (kept_byte table s.token (get_or csv i 0)) →
+  pub naming_more : i < length csv → {s : NumberedStep} → s ≡ step sep mode (get_or csv i 0) → {m : ℕ} → m ≡ n + length (kept_byte table s.token (get_or csv i 0)) →
       {new : List ℕ} → new ≡ placed now n (take (length now - n) (kept_byte table s.token (get_or csv i 0))) → {next : Table} → next ≡ after table s.token →
       Naming csv out sep next s.mode m (i + 1) new
   naming_more h {s} es em {new} en et =

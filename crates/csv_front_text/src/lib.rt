@@ -5,11 +5,12 @@
 
 ghost use Rattle.std.specs.Prelude.{◌≡◌, ◌+◌, ◌-◌, ◌≤◌, length, take};
 ghost use Rattle.buffers.specs.Placed.{placed};
+ghost use Rattle.csv_bytes.specs.Tokens.{token_number};
 ghost use Rattle.csv_front_text.specs.Front.{is_kept, kept_byte, names_text, front_of, front_text, with_front, written_of};
 ghost use Rattle.files.specs.Limits.{file_limit};
 
 use buffers::put_bytes;
-use csv_bytes::Mode;
+use csv_bytes::{Mode, Token};
 use csv_fleet_tokens::Table;
 
 // What of a CSV is the front text: all of it, the names and units, nothing.
@@ -28,8 +29,9 @@ pub struct Written {
 }
 
 // Whether a byte is no part of a value, nor a separator before one.
-fn is_kept(table: Table, token: u32) -> bool
-    ensures { result ≡ is_kept table token }
+#[tactic(auto, unfolding(crate::specs::Front::is_kept))]
+fn is_kept(table: Table, token: Token) -> bool
+    ensures { result ≡ is_kept table (token_number token) }
 {
     if table.columns == 0 {
         return true;
@@ -40,14 +42,14 @@ fn is_kept(table: Table, token: u32) -> bool
     if table.field == 0 {
         return true;
     }
-    token == csv_bytes::LINE
+    token == Token::Line
 }
 
 // Puts a byte after `n` others where it is kept and there is room for it; gives back how many are kept then.
-fn put_kept(output: &mut [u8], n: usize, table: Table, token: u32, b: u8) -> usize
+fn put_kept(output: &mut [u8], n: usize, table: Table, token: Token, b: u8) -> usize
     requires { n ≤ 200000 }
-    ensures value { result ≡ n + length (kept_byte table token b) }
-    ensures output_after { output.new ≡ placed output.old n (take (length output.old - n) (kept_byte table token b)) }
+    ensures value { result ≡ n + length (kept_byte table (token_number token) b) }
+    ensures output_after { output.new ≡ placed output.old n (take (length output.old - n) (kept_byte table (token_number token) b)) }
 {
     if is_kept(table, token) {
         if n < output.len() {

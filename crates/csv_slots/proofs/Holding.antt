@@ -1,6 +1,6 @@
 -- The tokens of a CSV kept one after the other: what is left of the text decides as the whole does.
 use mathlib.Core.Path.{◌≡◌, refl, sym, ap, ◌∙◌}
-use mathlib.Core.List.{List, [], ◌∷◌, ◌++◌, append-nil, append_assoc}
+use mathlib.Core.List.{List, ◌++◌, append-nil, append_assoc}
 use Prim.Native.Nat.{ℕ, zero, suc, ◌+◌, ◌-◌, ◌*◌, ◌≤◌, ◌<◌}
 use native.Mathlib.Omega.{arith}
 use lib.ListN.{length, get_or, drop, length-drop, length-replicate, get_or-replicate, replicate, get_or-eq_default}
@@ -10,8 +10,7 @@ use mathlib.Core.Bool.{Bool, true, false, cond}
 use borrow.Author.Tests.{ltb-true, ltb-false, eq-eqb, ne_eqb}
 use Rattle.csv_bytes.specs.declared.Mode.{Mode}
 use Rattle.csv_bytes.specs.declared.Mode.TheVariants.{Start}
-use Rattle.csv_bytes.specs.declared.Step.{Step}
-use Rattle.csv_bytes.specs.Tokens.{step, tokens, separator, mark_size, csv_tokens}
+use Rattle.csv_bytes.specs.Tokens.{NumberedStep, step, tokens, separator, mark_size, csv_tokens}
 use Rattle.csv_fleet_reader.proofs.Reading.{next_tokens}
 use Rattle.csv_cells.specs.declared.Place.{Place}
 use Rattle.csv_cells.specs.Cells.{start, moved, cell_byte, cell_from, cell_text, width_to, width}
@@ -58,7 +57,7 @@ holding_start {csv = csv} room empty es ep ei =
     })
 
 module _ {first rows : ℕ} {csv : List ℕ} {sep : ℕ} {p : Place} {m : Mode} {i : ℕ} {sizes cells : List ℕ} (d : Holding first rows csv sep p m i sizes cells) where
-  pub holding_more : i < length csv → {s : Step} → s ≡ step sep m (get_or csv i 0) → {q : Place} → q ≡ moved p s.token → {sizes' cells' : List ℕ} → Kept first rows p s.token sizes cells sizes' cells' →
+  pub holding_more : i < length csv → {s : NumberedStep} → s ≡ step sep m (get_or csv i 0) → {q : Place} → q ≡ moved p s.token → {sizes' cells' : List ℕ} → Kept first rows p s.token sizes cells sizes' cells' →
       Holding first rows csv sep q s.mode (i + 1) sizes' cells'
   unfolding cell_from
   holding_more h {s} es eq {sizes'} {cells'} kept =

@@ -9,6 +9,9 @@ use borrow.Author.Tests.{ltb-true, ltb-false, eqb-true, eqb-false, eq-eqb, ne_eq
 use lib.Dec.{ltb, eqb}
 use lib.ListN.{length, get_or, take, drop, set, length-set, length-drop}
 use lib.Seq.{get_or-set_same, get_or-set_other, take-set-le, drop-set-lt, drop-set-add, take-suc-set}
+use Rattle.csv_bytes.specs.declared.Token.{Token}
+use Rattle.csv_bytes.specs.declared.Token.TheVariants.{Byte, Field, Line, End, Nothing, Stray, Open}
+use Rattle.csv_bytes.specs.Tokens.{token_number}
 use Rattle.csv_fields.specs.Fields.{byte_if}
 use Rattle.csv_cells.specs.declared.Place.{Place}
 use Rattle.csv_cells.specs.Cells.{moved, is_in, cell_byte}
@@ -63,6 +66,15 @@ byte_there m k h = rw (lt-ltb m 200 h)
 
 none_in : (r f m : ℕ) (p : Place) (k : ℕ) → false ≡ is_in r f p k → cell_byte r f m p k ≡ []
 none_in r f m p k e = ap (λ (b : Bool). byte_if b m k) (sym e) ∙ byte_none m k
+
+pub no_byte : (t : Token) → ((b : ℕ) → t ≡ Byte b → ⊥) → 256 ≤ token_number t
+no_byte (Byte b) h = absurd (h b refl)
+no_byte Field h = omega arith
+no_byte Line h = omega arith
+no_byte End h = omega arith
+no_byte Nothing h = omega arith
+no_byte Stray h = omega arith
+no_byte Open h = omega arith
 
 module _ (first rows : ℕ) (p : Place) (k : ℕ) (sizes cells : List ℕ) (room : Room rows sizes cells) where
   as_was : ((d f : ℕ) → d < rows → f ≤ 64 → cell_byte (first + d) f (get_or sizes (65 * d + f) 0) p k ≡ []) → Kept first rows p k sizes cells sizes cells

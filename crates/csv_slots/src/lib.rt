@@ -4,10 +4,11 @@
 #![tactic(auto)]
 
 ghost use Rattle.std.specs.Prelude.{List, ◌≡◌, ℕ, ◌+◌, ◌*◌, ◌≤◌, ◌<◌, length, get_or};
+ghost use Rattle.csv_bytes.specs.Tokens.{token_number};
 ghost use Rattle.csv_cells.specs.Cells.{moved, width};
 ghost use Rattle.csv_slots.specs.Slots.{slot, Room, Empty, Kept, Held};
 
-use csv_bytes::Mode;
+use csv_bytes::{Mode, Token};
 use csv_cells::Place;
 
 // Puts a token behind the bytes of its slot, where it is a byte of one of the rows; `fault` is that of the place after it.
@@ -15,19 +16,19 @@ fn keep(
     first: usize,
     rows: usize,
     place: Place,
-    token: u32,
+    token: Token,
     fault: u32,
     sizes: &mut [u8],
     cells: &mut [u8],
 )
-    requires fault_value { fault ≡ (moved place token).fault }
+    requires fault_value { fault ≡ (moved place (token_number token)).fault }
     requires field_bound { place.field ≤ 64 }
     requires room { Room rows sizes.old cells.old }
-    ensures { Kept first rows place token sizes.old cells.old sizes.new cells.new }
+    ensures { Kept first rows place (token_number token) sizes.old cells.old sizes.new cells.new }
 {
-    if 256 <= token {
+    let Token::Byte(b) = token else {
         return;
-    }
+    };
     if fault != 0 {
         return;
     }
@@ -43,7 +44,7 @@ fn keep(
     if 200 <= size {
         return;
     }
-    cells[200 * slot + size] = token as u8;
+    cells[200 * slot + size] = b;
     sizes[slot] = (size + 1) as u8;
 }
 

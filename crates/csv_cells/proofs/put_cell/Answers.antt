@@ -1,13 +1,12 @@
 -- `csv_cells::put_cell` meets its contract. The loop keeps `Celling`: the n bytes that are put, with those that the bytes from i on still give, are the field's text.
 -- A turn reads one byte to a token and puts the token where it is in the field; past the field nothing more comes.
 -- It ends: the bytes that are left fall by one.
-use borrow.Author.Rules.{rules}
 use native.Mathlib.Omega.{arith}
-use Prim.Native.Nat.{◌-◌}
-use mathlib.Core.Path.{ap}
+use mathlib.Core.Path.{ap, refl}
+use Rattle.csv_fields.proofs.Fielding.{put_counted, put_placed}
 use Rattle.csv_cells.specs.declared.Place.{Place}
 use Rattle.csv_cells.proofs.Places.{within_fits}
-use Rattle.csv_cells.proofs.Celling.{celling_start, celling_more, celling_past, celling_end, in_byte}
+use Rattle.csv_cells.proofs.Celling.{celling_start, celling_more, celling_past, celling_end}
 use Rattle.csv_cells.proofs.put_cell.Goals as goal
 
 pub loop-i-init : goal.loop-i-init
@@ -26,16 +25,17 @@ moved-next-requires c =
     let q = within_fits c.loop-i.invariant.near c.requires.csv_len_bound in
     record { line_bound = q.0; row_bound = q.1 }
 
-pub is_in-there-requires : goal.is_in-there-requires
-is_in-there-requires c = ap (λ (p : Place). p.fault) c.moved-next.ensures
+pub byte_in-byte-requires : goal.byte_in-byte-requires
+byte_in-byte-requires c = ap (λ (p : Place). p.fault) c.moved-next.ensures
 
 pub put_byte-n-requires : goal.put_byte-n-requires
-put_byte-n-requires c = record { in_bounds = omega (arith, c.loop-i.invariant.so_far.long, c.requires.in_bounds); token_bound = in_byte _ _ _ _ c.is_in-there.ensures }
+put_byte-n-requires c = omega (arith, c.loop-i.invariant.so_far.long, c.requires.in_bounds)
 
 pub loop-i-preserved : goal.loop-i-preserved
 loop-i-preserved c =
-    celling_more c.loop-i.invariant c.requires.in_bounds c.loop-i-test.true c.read_byte-step.ensures c.moved-next.ensures c.is_in-there.ensures c.put_byte-n.ensures.value
-    c.put_byte-n.ensures.output_after
+    let e = c.byte_in-byte.ensures in
+    celling_more c.loop-i.invariant c.requires.in_bounds c.loop-i-test.true c.read_byte-step.ensures c.moved-next.ensures refl (put_counted _ _ _ _ e c.put_byte-n.ensures.value)
+    (put_placed _ _ _ _ e _ c.put_byte-n.ensures.output_after)
 
 pub shape_of-output : goal.shape_of-output
 shape_of-output c = c.loop-i.invariant.so_far.long

@@ -1,10 +1,6 @@
 -- `csv_cells::put_cell` meets its contract. The loop keeps `Celling`: the n bytes that are put, with those that the bytes from i on still give, are the field's text.
 -- A turn reads one byte to a token and puts the token where it is in the field; past the field nothing more comes.
 -- It ends: the bytes that are left fall by one.
-use borrow.Author.Rules.{rules}
-use native.Mathlib.Omega.{arith}
-use Prim.Native.Nat.{◌-◌}
-use lib.ListN.{length}
 use Rattle.csv_cells.proofs.Celling.{Celling}
 use Rattle.csv_cells.proofs.put_cell.Given as goal
 

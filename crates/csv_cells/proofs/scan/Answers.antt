@@ -2,7 +2,6 @@
 -- A turn reads one byte to a token and moves place, line and width by it.
 -- It ends: the bytes that are left fall by one.
 use borrow.Author.Rules.{rules}
-use Prim.Native.Nat.{◌-◌}
 use mathlib.Core.Path.{ap}
 use Rattle.csv_cells.specs.declared.Place.{Place}
 use Rattle.csv_cells.proofs.Places.{within_fits}
@@ -19,7 +18,8 @@ pub width_at-n-requires : goal.width_at-n-requires
 width_at-n-requires c = record { fault_value = ap (λ (p : Place). p.fault) c.moved-next.ensures; field_bound = c.loop-i.invariant.widening.narrow }
 
 pub loop-i-preserved : goal.loop-i-preserved
-loop-i-preserved c = search (rules, scanning_more)
+loop-i-preserved c =
+    scanning_more c.loop-i.invariant c.loop-i-test.true c.read_byte-step.ensures c.moved-next.ensures c.line_at-line.ensures c.width_at-n.ensures
 
 pub moved-requires : goal.moved-requires
 moved-requires c = search (rules, within_fits)

@@ -1,9 +1,6 @@
 -- `csv_cells::scan` meets its contract. The loop keeps `Scanning`: place, line and width, followed through the bytes that are left, end as the definitions say.
 -- A turn reads one byte to a token and moves place, line and width by it.
 -- It ends: the bytes that are left fall by one.
-use borrow.Author.Rules.{rules}
-use Prim.Native.Nat.{◌-◌}
-use lib.ListN.{length}
 use Rattle.csv_cells.proofs.Scans.{Scanning}
 use Rattle.csv_cells.proofs.scan.Given as goal
 

@@ -1,23 +1,15 @@
--- `csv_fields::put_byte` meets its contract: a law for each return.
-use borrow.Author.Rules.{rules}
+-- `csv_fields::put_byte` meets its contract.
+use borrow.Author.Tests.{lt-ltb, le-ltb}
 use native.Mathlib.Omega.{arith}
-use Rattle.csv_fields.proofs.Fielding.{byte_full, byte_none, byte_put}
+use mathlib.Core.Path.{sym}
+use Rattle.buffers.proofs.Placing.{placed_nil, placed_set}
 use Rattle.csv_fields.proofs.put_byte.Goals as goal
 
-pub returns-then-n-ge200 : goal.returns-then-n-ge200
-returns-then-n-ge200 c =
-    let q = byte_full _ _ _ _ c.if-n-ge200.true in
-    record { value = q.0; output_after = q.1 }
+pub returns-then-n-ge200-clause-output_after : goal.returns-then-n-ge200-clause-output_after
+returns-then-n-ge200-clause-output_after c = rw (le-ltb _ 200 c.if-n-ge200.true) (sym (placed_nil _ _))
 
-pub overflow_cast-output : goal.overflow_cast-output
-overflow_cast-output c = omega (arith, c.requires.token_bound c.if-there.true)
+pub returns-in-Some-clause-output_after : goal.returns-in-Some-clause-output_after
+returns-in-Some-clause-output_after c = rw (c.in-Some.is, lt-ltb _ 200 c.if-n-ge200.false) (placed_set _ _ _ (omega arith))
 
-pub returns-then-there : goal.returns-then-there
-returns-then-there c =
-    let q = byte_put _ _ _ _ c.if-n-ge200.false c.requires.in_bounds c.if-there.true in
-    record { value = q.0; output_after = q.1 }
-
-pub returns : goal.returns
-returns c =
-    let q = byte_none _ _ _ _ c.if-n-ge200.false c.if-there.false in
-    record { value = q.0; output_after = q.1 }
+pub returns-in-None-clause-output_after : goal.returns-in-None-clause-output_after
+returns-in-None-clause-output_after c = rw (c.in-None.is, lt-ltb _ 200 c.if-n-ge200.false) (sym (placed_nil _ _))

@@ -1,12 +1,10 @@
 -- `csv_fields::put_field` meets its contract. The loop keeps `Fielding`: the n bytes that are put, with those that the bytes from i on still give, are the field's text.
 -- A turn reads one byte to a token and puts the token where it is in the field.
 -- It ends: the bytes that are left fall by one.
-use borrow.Author.Rules.{rules}
 use native.Mathlib.Omega.{arith}
-use Prim.Native.Nat.{◌-◌}
-use mathlib.Core.Path.{ap}
+use mathlib.Core.Path.{ap, refl}
 use Rattle.csv_fleet_tokens.specs.declared.Table.{Table}
-use Rattle.csv_fields.proofs.Fielding.{fielding_start, fielding_more, fielding_end, at_byte}
+use Rattle.csv_fields.proofs.Fielding.{fielding_start, fielding_more, fielding_end, put_counted, put_placed}
 use Rattle.csv_fields.proofs.put_field.Goals as goal
 
 pub loop-i-init : goal.loop-i-init
@@ -15,19 +13,20 @@ loop-i-init c = fielding_start _ _ _ _ c.separator-separator.ensures c.start-tab
 pub after-next-requires : goal.after-next-requires
 after-next-requires c = omega (arith, c.loop-i.invariant.few_boats, c.loop-i.invariant.within, c.requires.csv_len_bound)
 
-pub is_at-there-requires : goal.is_at-there-requires
-is_at-there-requires c = ap (λ (t : Table). t.fault) c.after-next.ensures
+pub byte_at-byte-requires : goal.byte_at-byte-requires
+byte_at-byte-requires c = ap (λ (t : Table). t.fault) c.after-next.ensures
 
 pub put_byte-n-requires : goal.put_byte-n-requires
-put_byte-n-requires c = record { in_bounds = omega (arith, c.loop-i.invariant.so_far.long, c.requires.in_bounds); token_bound = at_byte _ _ _ _ _ c.is_at-there.ensures }
+put_byte-n-requires c = omega (arith, c.loop-i.invariant.so_far.long, c.requires.in_bounds)
 
 pub next_number-at-requires : goal.next_number-at-requires
 next_number-at-requires c = omega (arith, c.loop-i.invariant.few_lines, c.loop-i.invariant.within, c.requires.csv_len_bound)
 
 pub loop-i-preserved : goal.loop-i-preserved
 loop-i-preserved c =
-    fielding_more c.loop-i.invariant c.requires.in_bounds c.loop-i-test.true c.read_byte-step.ensures c.after-next.ensures c.is_at-there.ensures c.put_byte-n.ensures.value
-    c.put_byte-n.ensures.output_after c.next_number-at.ensures.value c.next_number-at.ensures.upper_bound
+    let e = c.byte_at-byte.ensures in
+    fielding_more c.loop-i.invariant c.requires.in_bounds c.loop-i-test.true c.read_byte-step.ensures c.after-next.ensures refl (put_counted _ _ _ _ e c.put_byte-n.ensures.value)
+    (put_placed _ _ _ _ e _ c.put_byte-n.ensures.output_after) c.next_number-at.ensures.value c.next_number-at.ensures.upper_bound
 
 pub shape_of-output : goal.shape_of-output
 shape_of-output c = c.loop-i.invariant.so_far.long

@@ -1,5 +1,4 @@
 -- `csv_fleet_reader::put_value` meets its contract: a law of `Values` for each return.
-use borrow.Author.Rules.{rules}
 use native.Mathlib.Omega.{arith}
 use Rattle.csv_fleet_reader.proofs.Values.{value_full, value_small, value_none, value_put}
 use Rattle.csv_fleet_reader.proofs.put_value.Goals as goal

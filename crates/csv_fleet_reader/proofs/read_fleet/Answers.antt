@@ -1,9 +1,7 @@
 -- `csv_fleet_reader::read_fleet` meets its contract. The loop keeps `Reading`: table, line and values, followed through the bytes that are left, end as the definitions say, and the first n values are put.
 -- A turn reads one byte to a token, puts the value that the token ends, if any, and moves table and line by it.
 -- It ends: the bytes that are left fall by one.
-use borrow.Author.Rules.{rules}
 use native.Mathlib.Omega.{arith}
-use Prim.Native.Nat.{◌-◌}
 use Rattle.csv_fleet_reader.proofs.Reading.{reading_start, reading_more, reading_end}
 use Rattle.csv_fleet_reader.proofs.read_fleet.Goals as goal
 

@@ -1,10 +1,6 @@
 -- `csv_fleet_reader::read_fleet` meets its contract. The loop keeps `Reading`: table, line and values, followed through the bytes that are left, end as the definitions say, and the first n values are put.
 -- A turn reads one byte to a token, puts the value that the token ends, if any, and moves table and line by it.
 -- It ends: the bytes that are left fall by one.
-use borrow.Author.Rules.{rules}
-use native.Mathlib.Omega.{arith}
-use Prim.Native.Nat.{◌-◌}
-use lib.ListN.{length}
 use Rattle.csv_fleet_reader.proofs.Reading.{Reading}
 use Rattle.csv_fleet_reader.proofs.read_fleet.Given as goal
 

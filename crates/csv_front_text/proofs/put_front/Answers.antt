@@ -1,5 +1,4 @@
 -- `csv_front_text::put_front` meets its contract.
-use borrow.Author.Rules.{rules}
 use Rattle.csv_front_text.proofs.Fronts.{whole_room, whole_put, names_put, nothing_put}
 use Rattle.csv_front_text.proofs.put_front.Goals as goal
 

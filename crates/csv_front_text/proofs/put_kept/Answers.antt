@@ -1,5 +1,4 @@
 -- `csv_front_text::put_kept` meets its contract: a law for each return.
-use borrow.Author.Rules.{rules}
 use Rattle.csv_front_text.proofs.Keeping.{put_nothing, put_there, put_past}
 use Rattle.csv_front_text.proofs.put_kept.Goals as goal
 

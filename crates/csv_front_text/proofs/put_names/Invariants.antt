@@ -1,8 +1,4 @@
 -- `csv_front_text::put_names` meets its contract: `Naming` is the loop's invariant.
-use borrow.Author.Rules.{rules}
-use native.Mathlib.Omega.{arith}
-use Prim.Native.Nat.{◌-◌}
-use lib.ListN.{length}
 use Rattle.csv_front_text.proofs.Keeping.{Naming}
 use Rattle.csv_front_text.proofs.put_names.Given as goal
 

@@ -1,5 +1,4 @@
 -- `csv_front_text::put_with_front` meets its contract.
-use borrow.Author.Rules.{rules}
 use native.Mathlib.Omega.{arith}
 use Rattle.csv_front_text.proofs.Fronts.{front_room, file_small, file_room, file_put}
 use Rattle.csv_front_text.proofs.put_with_front.Goals as goal

@@ -1,5 +1,4 @@
 -- `csv_slots::cell` meets its contract: the part is as long as the size.
-use borrow.Author.Rules.{rules}
 use native.Mathlib.Omega.{arith}
 use mathlib.Core.Path.{◌≡◌, ap}
 use mathlib.Core.List.{List}

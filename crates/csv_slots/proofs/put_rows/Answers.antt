@@ -1,8 +1,6 @@
 -- `csv_slots::put_rows` meets its contract. The loop keeps `Holding`: with the bytes that are still to come, each slot has its field.
 -- A turn puts one token into the slot of its field.
 -- It ends: the bytes that are left fall by one.
-use borrow.Author.Rules.{rules}
-use Prim.Native.Nat.{◌-◌}
 use mathlib.Core.Path.{ap, sym, ◌∙◌}
 use Rattle.csv_cells.specs.declared.Place.{Place}
 use Rattle.csv_cells.proofs.Places.{within_fits}

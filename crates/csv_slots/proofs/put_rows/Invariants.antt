@@ -1,9 +1,6 @@
 -- `csv_slots::put_rows` meets its contract. The loop keeps `Holding`: with the bytes that are still to come, each slot has its field.
 -- A turn puts one token into the slot of its field.
 -- It ends: the bytes that are left fall by one.
-use borrow.Author.Rules.{rules}
-use Prim.Native.Nat.{◌-◌}
-use lib.ListN.{length}
 use Rattle.csv_slots.proofs.Holding.{Holding}
 use Rattle.csv_slots.proofs.put_rows.Given as goal
 

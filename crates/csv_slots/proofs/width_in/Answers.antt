@@ -1,7 +1,6 @@
 -- `csv_slots::width_in` meets its contract. The loop keeps `Narrowing`: the fields from n on are empty, so those below n decide.
 -- A turn looks at field n - 1.
 -- It ends: n falls by one.
-use borrow.Author.Rules.{rules}
 use native.Mathlib.Omega.{arith}
 use Rattle.csv_slots.proofs.Holding.{narrowing_start, narrowing_here, narrowing_more, narrowing_end}
 use Rattle.csv_slots.proofs.width_in.Goals as goal

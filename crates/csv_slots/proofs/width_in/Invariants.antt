@@ -1,8 +1,6 @@
 -- `csv_slots::width_in` meets its contract. The loop keeps `Narrowing`: the fields from n on are empty, so those below n decide.
 -- A turn looks at field n - 1.
 -- It ends: n falls by one.
-use borrow.Author.Rules.{rules}
-use native.Mathlib.Omega.{arith}
 use mathlib.Core.List.{List}
 use Prim.Native.Nat.{ℕ, ◌+◌, ◌≤◌, ◌<◌}
 use Rattle.csv_slots.specs.Slots.{Held}

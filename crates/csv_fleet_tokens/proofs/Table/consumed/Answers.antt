@@ -3,20 +3,23 @@ use borrow.Author.Rules.{rules}
 use Rattle.csv_fleet_tokens.proofs.Steps.{token_text, token_field, token_line, token_end, token_nothing, token_wrong}
 use Rattle.csv_fleet_tokens.proofs.Table.consumed.Goals as goal
 
-pub returns-then-token-lt256 : goal.returns-then-token-lt256
-returns-then-token-lt256 c = search (rules, token_text)
+pub returns-in-Byte : goal.returns-in-Byte
+returns-in-Byte c = search (rules, token_text)
 
-pub returns-then-token-eq-FIELD : goal.returns-then-token-eq-FIELD
-returns-then-token-eq-FIELD c = search (rules, token_field)
+pub returns-in-Field : goal.returns-in-Field
+returns-in-Field c = search (rules, token_field)
 
-pub returns-then-token-eq-LINE : goal.returns-then-token-eq-LINE
-returns-then-token-eq-LINE c = search (rules, token_line)
+pub returns-in-Line : goal.returns-in-Line
+returns-in-Line c = search (rules, token_line)
 
-pub returns-then-token-eq-END : goal.returns-then-token-eq-END
-returns-then-token-eq-END c = search (rules, token_end)
+pub returns-in-End : goal.returns-in-End
+returns-in-End c = search (rules, token_end)
 
-pub returns-then-token-eq-NOTHING : goal.returns-then-token-eq-NOTHING
-returns-then-token-eq-NOTHING c = search (rules, token_nothing)
+pub returns-in-Nothing : goal.returns-in-Nothing
+returns-in-Nothing c = search (rules, token_nothing)
 
-pub returns : goal.returns
-returns c = search (rules, token_wrong)
+pub returns-in-Stray : goal.returns-in-Stray
+returns-in-Stray c = search (rules, token_wrong)
+
+pub returns-in-Open : goal.returns-in-Open
+returns-in-Open c = search (rules, token_wrong)
