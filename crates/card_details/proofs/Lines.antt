@@ -21,8 +21,10 @@ use Rattle.text.specs.declared.Text.{Text}
 use Rattle.text.proofs.Texts.{adds_both, adds_to_empty, holds_more}
 use Rattle.method.specs.declared.Answer.{Answer}
 use Rattle.method.specs.Problem.{fixed, weight, plain_terms, call_problem}
-use Rattle.method.specs.Searched.{Searched}
-use Rattle.method.specs.Searched.{Refused, Answered}
+use Rattle.std.specs.Prelude.{Result, Ok, Err}
+use Rattle.refusals.specs.declared.Refusal.{Refusal}
+use Rattle.refusals.specs.Numbers as Numbers
+use Rattle.method.specs.Searched.{searched}
 use Rattle.method.specs.Answers.{verdict_number, outcome}
 use Rattle.method.proofs.Promise.{outcome_refused, outcome_answered}
 use Rattle.method.specs.Bounds.{answer_of}
@@ -209,12 +211,12 @@ unfolding tolerance_line
 tolerance_told name s w h ea em x = rw (tolerance_at w h, ← ea, ← em) x
 
 -- ---- The number of a check
-module _ (m : ℕ) (a : Answer) {r : Searched} (e : r ≡ outcome m a) where
-  pub refused_number : (n : ℕ) → r ≡ Refused n → n ≡ m
-  refused_number n q = sym (outcome_refused m n a (sym e ∙ q)).0
+module _ (m : ℕ) (a : Answer) {r : Result Answer Refusal} (e : searched r ≡ outcome m a) where
+  pub refused_number : (x : Refusal) → r ≡ Err x → Numbers.number x ≡ m
+  refused_number x q = sym (outcome_refused m (Numbers.number x) a (sym e ∙ ap searched q)).0
 
-  pub answered_number : (b : Answer) → r ≡ Answered b → 0 ≡ m
-  answered_number b q = sym (outcome_answered m a b (sym e ∙ q)).0
+  pub answered_number : (b : Answer) → r ≡ Ok b → 0 ≡ m
+  answered_number b q = sym (outcome_answered m a b (sym e ∙ ap searched q)).0
 
 -- ---- By the number
 module _ (name b s w : List ℕ) {r : ℕ} {t : Text} where

@@ -19,7 +19,7 @@ ghost use Rattle.card_truth.specs.Readable.{CardReadable};
 ghost use Rattle.card_details.specs.Words.{ITS_SHARES};
 ghost use Rattle.card_details.specs.Details.{NEWLINE, said, counts, size_line, counts_line, steps_line, back_line, entry_fault, entry_line, entries_line, total_line, numbers_line, tolerance_line, form_line, truth_line, card_detail};
 
-use method::{Answer, Searched};
+use method::Answer;
 use text::Text;
 
 // A name, of which the first 100 bytes are told.
@@ -240,7 +240,7 @@ fn total_line(name: &[u8], book: &[u8], card: &[u8], shares: [u16; 256]) -> Text
         );
     }
     let total = card_pairs::total(shares, files::boats(book));
-    let weight = schedules::total(false, &[0u16; 0], t);
+    let weight = schedules::total(None, t);
     counts(
         name,
         b" has shares of total ",
@@ -301,8 +301,7 @@ fn numbers_line(name: &[u8], book: &[u8], sheet: &[u8], card: &[u8], shares: [u1
         card_input::test_of(card),
         book,
         sheet,
-        false,
-        &[0u16; 0],
+        None,
         shares,
         card_input::steps_used(card),
     );
@@ -397,8 +396,8 @@ fn refusal_of(book: &[u8], sheet: &[u8], card: &[u8]) -> u32
 {
     let mut shares = [0u16; 256];
     match card::check_card(book, sheet, card, &mut shares) {
-        Searched::Refused(n) => n,
-        Searched::Answered(_) => 0,
+        Err(refusal) => refusal.number(),
+        Ok(_) => 0,
     }
 }
 

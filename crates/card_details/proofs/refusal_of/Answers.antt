@@ -1,10 +1,10 @@
 -- `card_details::refusal_of` meets its contract.
+use mathlib.Core.Path.{◌∙◌}
 use Rattle.card_details.proofs.Lines.{refused_number, answered_number}
-use borrow.Author.Rules.{rules}
 use Rattle.card_details.proofs.refusal_of.Goals as goal
 
-pub returns-in-Refused : goal.returns-in-Refused
-returns-in-Refused c = search (rules, refused_number)
+pub returns-in-Err : goal.returns-in-Err
+returns-in-Err c = c.number.ensures ∙ refused_number _ _ c.check_card.ensures.value _ c.in-Err.is
 
-pub returns-in-Answered : goal.returns-in-Answered
-returns-in-Answered c = search (rules, answered_number)
+pub returns-in-Ok : goal.returns-in-Ok
+returns-in-Ok c = answered_number _ _ c.check_card.ensures.value _ c.in-Ok.is
