@@ -6,7 +6,7 @@ use Rattle.method.specs.Searched.{Searched}
 use Rattle.method.specs.Searched.{Refused, Answered}
 use Rattle.method.specs.Answers.{verdict_number}
 use Rattle.card_format.specs.Written.{Written}
-use Rattle.card_format.specs.Written.TheVariants as written
+use Rattle.card_format.specs.Written as written
 use Rattle.exported_types.specs.declared.Reply.{Reply}
 use Rattle.exported_types.specs.declared.CardReply.{CardReply}
 use Rattle.editions.specs.declared.Rewritten.{Rewritten}

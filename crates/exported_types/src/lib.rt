@@ -1,14 +1,25 @@
-// What the entries give back as plain numbers, for programs in other languages.
+// What the entries give back as plain numbers, for programs in other languages, and a table that these lend.
 //
-// Helpers, which ask nothing of their caller: reply_of, card_reply_of, edition_reply_of.
+// Helpers, which ask nothing of their caller: lent_table, reply_of, card_reply_of, edition_reply_of.
 #![tactic(auto)]
 
-ghost use Rattle.std.specs.Prelude.{◌≡◌};
+ghost use Rattle.std.specs.Prelude.{◌≡◌, option_copied};
+ghost use Rattle.method.specs.Calls.{lent_table};
+ghost use Rattle.method.specs.Searched.{searched};
+ghost use Rattle.card_format.specs.Written.{written};
 ghost use Rattle.exported_types.specs.Replies.{floor_of, shortfall_of, reply_of, card_reply_of, edition_reply_of};
 
-use card_format::Written;
+use card_format::FiledCard;
 use editions::Rewritten;
-use method::{Searched, Verdict};
+use method::{Answer, Verdict};
+use refusals::Refusal;
+
+// A table that a program in another language lends: it counts only where `lent` says so.
+pub fn lent_table(lent: bool, table: &[u16]) -> Option<&[u16]>
+    ensures { option_copied result ≡ lent_table lent table.now }
+{
+    if lent { Some(table) } else { None }
+}
 
 // The answer of a call as plain numbers. A refused call has its number in `refusal` and 0 in every other field;
 // an answered one has 0 in `refusal`.
@@ -56,12 +67,12 @@ fn shortfall_of(v: Verdict) -> u64
 }
 
 // A refusal or an answer as plain numbers.
-pub fn reply_of(found: Searched) -> Reply
-    ensures { result ≡ reply_of found }
+pub fn reply_of(found: Result<Answer, Refusal>) -> Reply
+    ensures { result ≡ reply_of (searched found) }
 {
     match found {
-        Searched::Refused(n) => Reply {
-            refusal: n,
+        Err(r) => Reply {
+            refusal: r.number(),
             verdict: 0,
             steps: 0,
             weight: 0,
@@ -70,7 +81,7 @@ pub fn reply_of(found: Searched) -> Reply
             floor: 0,
             shortfall: 0,
         },
-        Searched::Answered(a) => {
+        Ok(a) => {
             let v = a.verdict;
             Reply {
                 refusal: 0,
@@ -97,17 +108,20 @@ pub struct CardReply {
 }
 
 // What the card writer gives back as plain numbers.
-pub fn card_reply_of(written: Written) -> CardReply
-    ensures { result ≡ card_reply_of written }
+pub fn card_reply_of(filed: Result<FiledCard, Refusal>) -> CardReply
+    ensures { result ≡ card_reply_of (written filed) }
 {
-    match written {
-        Written::Refused(n) => {
-            let reply = reply_of(Searched::Refused(n));
+    match filed {
+        Err(r) => {
+            let reply = reply_of(Err(r));
             CardReply { reply, bytes: 0 }
         }
-        Written::Filed(a, size) => {
-            let reply = reply_of(Searched::Answered(a));
-            CardReply { reply, bytes: size }
+        Ok(card) => {
+            let reply = reply_of(Ok(card.answer));
+            CardReply {
+                reply,
+                bytes: card.size,
+            }
         }
     }
 }

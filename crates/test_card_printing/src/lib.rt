@@ -2,24 +2,26 @@
 #![tactic(auto)]
 
 ghost use Rattle.std.specs.Prelude.{◌≡◌, length};
+ghost use Rattle.card_format.specs.Written.{written};
 ghost use Rattle.card_format.specs.Filing.{written_size};
 ghost use Rattle.test_card_printing.specs.Written.{written_length, written_bytes};
 
-use card_format::Written;
+use card_format::FiledCard;
+use refusals::Refusal;
 
 // What the writer gives back; its length.
-pub fn print_written(rt: &HostRuntime, written: Written) -> usize
-    ensures { result ≡ written_size written }
+pub fn print_written(rt: &HostRuntime, filed: Result<FiledCard, Refusal>) -> usize
+    ensures { result ≡ written_size (written filed) }
 {
-    match written {
-        Written::Refused(n) => {
-            test_printing::refused(rt, n);
+    match filed {
+        Err(refusal) => {
+            test_printing::refused(rt, refusal);
             0
         }
-        Written::Filed(a, len) => {
-            test_printing::answer(rt, a);
-            test_printing::line(rt, b"bytes", len as u64);
-            len
+        Ok(card) => {
+            test_printing::answer(rt, card.answer);
+            test_printing::line(rt, b"bytes", card.size as u64);
+            card.size
         }
     }
 }

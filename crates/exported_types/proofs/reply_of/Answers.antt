@@ -1,4 +1,6 @@
 -- `exported_types::reply_of` meets its contract.
+use mathlib.Core.Path.{refl, ap}
+use Rattle.method.specs.Searched.{searched}
 use Rattle.exported_types.proofs.Replying.{answered}
 use mir.Facts.{to_z-of_z}
 use Rattle.exported_types.specs.Replies.{reply_of}
@@ -6,9 +8,9 @@ use borrow.Author.Rules.{rules, sfits_of}
 use mir.Syntax.{w64}
 use Rattle.exported_types.proofs.reply_of.Goals as goal
 
-pub returns-in-Refused : goal.returns-in-Refused
+pub returns-in-Err : goal.returns-in-Err
 unfolding reply_of
-returns-in-Refused c = cc
+returns-in-Err c = rw (c.in-Err.is, c.number.ensures) refl
 
-pub returns-in-Answered : goal.returns-in-Answered
-returns-in-Answered c = answered c.in-Answered.is c.verdict_number.ensures (to_z-of_z {w = w64} (sfits_of c.floor_of.type_inv)) c.floor_of.ensures c.shortfall_of.ensures
+pub returns-in-Ok : goal.returns-in-Ok
+returns-in-Ok c = answered (ap searched c.in-Ok.is) c.verdict_number.ensures (to_z-of_z {w = w64} (sfits_of c.floor_of.type_inv)) c.floor_of.ensures c.shortfall_of.ensures

@@ -1,12 +1,13 @@
 -- `test_card_printing::print_written` meets its contract.
 use mathlib.Core.Path.{sym, ap}
+use Rattle.card_format.specs.Written.{written}
 use Rattle.card_format.specs.Filing.{written_size}
 use Rattle.test_card_printing.proofs.print_written.Goals as goal
 
-pub returns-in-Refused : goal.returns-in-Refused
+pub returns-in-Err : goal.returns-in-Err
 unfolding written_size
-returns-in-Refused c = ap written_size (sym c.in-Refused.is)
+returns-in-Err c = ap (λ x. written_size (written x)) (sym c.in-Err.is)
 
-pub returns-in-Filed : goal.returns-in-Filed
+pub returns-in-Ok : goal.returns-in-Ok
 unfolding written_size
-returns-in-Filed c = ap written_size (sym c.in-Filed.is)
+returns-in-Ok c = ap (λ x. written_size (written x)) (sym c.in-Ok.is)
