@@ -23,9 +23,7 @@ fn fill(from: [u16; 256], count: usize, to: &mut [u16])
     requires { (count ≤ 256) × (count ≤ length to.old) }
     ensures { to.new ≡ take count from ++ drop count to.old }
 {
-    for i in 0..count {
-        to[i] = from[i];
-    }
+    to[..count].copy_from_slice(&from[..count]);
 }
 
 // The card check of files and terms that were accepted, which are not judged again: as `check_card_with` says.

@@ -2,6 +2,10 @@
 use mathlib.Core.Path.{◌≡◌, refl, sym, ap, ◌∙◌}
 use mathlib.Core.Bool.{Bool, true, false, cond}
 use mathlib.Core.List.{List, [], ◌∷◌, ◌++◌}
+use Rattle.std.specs.Prelude.{None, Ok, Err}
+use Rattle.std.specs.Prelude as std
+use Rattle.std.specs.Result.{IsErr, IsErrAnd}
+use Rattle.refusals.specs.declared.Refusal.{Refusal}
 use Prim.Native.Nat.{ℕ, zero, suc}
 use lib.ListN.{length, get_or, take, drop, replicate}
 use lib.Seq.{take_at}
@@ -18,6 +22,7 @@ use Rattle.pairwise.specs.Moves.{moves_refusal, worked_shares, worked_answer}
 use Rattle.pairwise.specs.Call.{set_terms}
 use Rattle.pairwise_run.specs.declared.WorkedRun.{WorkedRun}
 use Rattle.pairwise_run.specs.Result.{Result}
+use Rattle.pairwise_run.proofs.Fleet.{refused_result, worked_result}
 
 -- only the first shares are read, one a boat that may be used
 scatter_taken : (u : Usable) (i n : ℕ) (qs : List ℕ) → scatter_from u i n (take (length (used_from u i n)) qs) ≡ scatter_from u i n qs
@@ -38,19 +43,19 @@ module _ (set : Released) (b s : List ℕ) (ok : call_refusal (set_terms set) b 
   u = usable set
 
   problem_is : problem (take n own) s ≡ call_problem (set_terms set) b s
-  problem_is = own_problem set false [] b s ok eo en
+  problem_is = own_problem set None b s ok eo en
 
   boats_are : boats (take n own) ≡ length (used_from u 0 (boats b))
-  boats_are = own_boats set false [] b s ok eo en
+  boats_are = own_boats set None b s ok eo en
 
-  pub limited : set.limited ≡ true → (allowed : ℕ) {r : WorkedRun} → Result plain_terms (take n own) s allowed r → {k : ℕ} → k ≡ boats b → (slots : List ℕ) {shares : List ℕ} →
-      shares ≡ scatter_from u 0 k r.shares ++ drop k slots → Result (set_terms set) b s allowed (record { refusal = r.refusal; answer = r.answer; shares = shares })
+  pub refused_own : (allowed : ℕ) {r : std.Result WorkedRun Refusal} {e : Refusal} → Result plain_terms (take n own) s allowed (Err e) → IsErr r × IsErrAnd r (λ x. x ≡ e) → Result (set_terms set) b s allowed r
+  refused_own allowed {r} {e} d h = refused_result (set_terms set) b s allowed r e h (d.number ∙ ap (λ (p : Problem). moves_refusal p allowed) problem_is)
+
+  pub limited : set.limited ≡ true → (allowed : ℕ) {r : WorkedRun} → Result plain_terms (take n own) s allowed (Ok r) → {k : ℕ} → k ≡ boats b → (slots : List ℕ) {shares : List ℕ} →
+      shares ≡ scatter_from u 0 k r.shares ++ drop k slots → Result (set_terms set) b s allowed (Ok (record { answer = r.answer; shares = shares }))
   limited e allowed {r} d {k} ek slots {shares} es =
-      record {
-        number = d.number ∙ ap (λ (p : Problem). moves_refusal p allowed) problem_is;
-        answer = λ z. d.answer z ∙ ap (λ (p : Problem). worked_answer p allowed) problem_is;
-        slots = λ z. slots_are (d.slots z);
-      }
+      worked_result (set_terms set) b s allowed _ (d.number ∙ ap (λ (p : Problem). moves_refusal p allowed) problem_is)
+      (d.answer r refl ∙ ap (λ (p : Problem). worked_answer p allowed) problem_is) (slots_are (d.slots r refl))
     where
       slots_are : take (boats (take n own)) r.shares ≡ worked_shares (problem (take n own) s) allowed → take (boats b) shares ≡ scatter u (boats b) (worked_shares (call_problem (set_terms set) b s) allowed)
       slots_are q =
@@ -61,5 +66,5 @@ module _ (set : Released) (b s : List ℕ) (ok : call_refusal (set_terms set) b 
           ∙ sym (scatter_taken u 0 (boats b) r.shares) ∙ ap (scatter_from u 0 (boats b)) f ∙ sym (scatter_limited set (boats b) _ e)
 
 -- where the call is not limited
-pub unlimited : (set : Released) (b s : List ℕ) → set.limited ≡ false → (allowed : ℕ) {r : WorkedRun} → Result plain_terms b s allowed r → Result (set_terms set) b s allowed r
+pub unlimited : (set : Released) (b s : List ℕ) → set.limited ≡ false → (allowed : ℕ) {r : std.Result WorkedRun Refusal} → Result plain_terms b s allowed r → Result (set_terms set) b s allowed r
 unlimited set b s e allowed d = rw e d

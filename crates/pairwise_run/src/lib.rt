@@ -5,6 +5,7 @@
 #![tactic(auto)]
 
 ghost use Rattle.std.specs.Prelude.{◌≡◌, true, ◌++◌, take, drop};
+ghost use Rattle.refusals.specs.Numbers.{refusal_number};
 ghost use Rattle.frank_wolfe.specs.Vectors.{sum};
 ghost use Rattle.files.specs.Book.{boats};
 ghost use Rattle.files.specs.Sheet.{WSH2, sheet_lettered, files_refusal};
@@ -17,15 +18,14 @@ ghost use Rattle.pairwise.specs.Call.{set_terms};
 ghost use Rattle.pairwise_run.specs.Result.{Result};
 
 use method::{Answer, Released, Test};
+use refusals::Refusal;
 
 // The most moves that may be allowed.
 const MOST_MOVES: u32 = 1000;
 
-// A run worked over: the number that refuses it, 53 or 54, or 0; then the answer of the result, and its shares in the first slots, one a boat
-// of the book. Where it is refused the answer and the shares mean nothing.
+// A run worked over: the answer of the result, and its shares in the first slots, one a boat of the book.
 #[derive(Clone, Copy)]
 pub struct WorkedRun {
-    pub refusal: u32,
     pub answer: Answer,
     pub shares: [u16; 256],
 }
@@ -67,77 +67,67 @@ fn moves_of(book: &[u8], sheet: &[u8], shares: [u16; 256], allowed: u32) -> [u16
     derived_moves(book, sheet, shares, allowed)
 }
 
-// 53 where the number of the run's verdict is not that of Spent; then 54 where the moves allowed are none or above 1,000; else 0.
-fn spent_refusal(verdict: u32, allowed: u32) -> u32
-    ensures { result ≡ spent_refusal verdict allowed }
+// 53 where the number of the run's verdict is not that of Spent; then 54 where the moves allowed are none or above 1,000.
+fn spent_refusal(verdict: u32, allowed: u32) -> Result<(), Refusal>
+    ensures { refusal_number result ≡ spent_refusal verdict allowed }
 {
     if verdict != 3 {
-        return 53;
+        return Err(Refusal::VerdictNotSpent);
     }
     if allowed < 1 {
-        return 54;
+        return Err(Refusal::MovesAllowed);
     }
     if MOST_MOVES < allowed {
-        return 54;
+        return Err(Refusal::MovesAllowed);
     }
-    0
+    Ok(())
 }
 
 // The run of all boats of a book, worked over.
-fn fleet_worked(book: &[u8], sheet: &[u8], allowed: u32) -> WorkedRun
+fn fleet_worked(book: &[u8], sheet: &[u8], allowed: u32) -> Result<WorkedRun, Refusal>
     requires { files_refusal book.now sheet.now ≡ 0 }
     ensures { Result plain_terms book.now sheet.now allowed result }
 {
     let mut shares = [0u16; 256];
-    let run = factored_run::run(book, sheet, false, &[0u16; 0], &mut shares);
+    let run = factored_run::run(book, sheet, None, &mut shares);
     let verdict = run.verdict;
-    let refusal = spent_refusal(verdicts::verdict_number(verdict), allowed);
-    if refusal != 0 {
-        return WorkedRun {
-            refusal,
-            answer: run,
-            shares,
-        };
-    }
+    spent_refusal(verdicts::verdict_number(verdict), allowed)?;
     let moved = moves_of(book, sheet, shares, allowed);
-    let result = factored_run::answer_of(
-        Test::Sharper,
-        book,
-        sheet,
-        false,
-        &[0u16; 0],
-        moved,
-        run.steps,
-    );
-    WorkedRun {
-        refusal,
+    let result = factored_run::answer_of(Test::Sharper, book, sheet, None, moved, run.steps);
+    Ok(WorkedRun {
         answer: result,
         shares: moved,
-    }
+    })
 }
 
 // The run of a call that is limited to a set, worked over.
-fn limited_worked(book: &[u8], sheet: &[u8], released: Released, allowed: u32) -> WorkedRun
+fn limited_worked(
+    book: &[u8],
+    sheet: &[u8],
+    released: Released,
+    allowed: u32,
+) -> Result<WorkedRun, Refusal>
     requires limited_value { released.limited ≡ true }
     requires sheet_value { call_refusal (set_terms released) book.now sheet.now ≡ 0 }
     ensures { Result (set_terms released) book.now sheet.now allowed result }
 {
     let mut own_book = [0u8; 32780];
     let n = released_book::put_book(&mut own_book, book, released);
-    let own = fleet_worked(&own_book[..n], sheet, allowed);
+    let own = fleet_worked(&own_book[..n], sheet, allowed)?;
     let answer = own.answer;
     let found = own.shares;
     let mut shares = [0u16; 256];
     released_set::scatter(&found, released, files::boats(book), &mut shares);
-    WorkedRun {
-        refusal: own.refusal,
-        answer,
-        shares,
-    }
+    Ok(WorkedRun { answer, shares })
 }
 
 // The run of a call whose set and files are not refused, worked over by at most so many moves.
-pub fn worked(book: &[u8], sheet: &[u8], released: Released, allowed: u32) -> WorkedRun
+pub fn worked(
+    book: &[u8],
+    sheet: &[u8],
+    released: Released,
+    allowed: u32,
+) -> Result<WorkedRun, Refusal>
     requires { call_refusal (set_terms released) book.now sheet.now ≡ 0 }
     ensures { Result (set_terms released) book.now sheet.now allowed result }
 {

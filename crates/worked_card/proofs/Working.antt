@@ -2,6 +2,10 @@
 use mathlib.Core.Path.{◌≡◌, refl, sym, ◌∙◌}
 use mathlib.Core.Bool.{Bool, true, false, cond}
 use mathlib.Core.List.{List, ◌++◌}
+use Rattle.std.specs.Prelude.{Ok, Err}
+use Rattle.refusals.specs.declared.Refusal.{Refusal}
+use Rattle.refusals.specs.Numbers.{number}
+use Rattle.refusals.proofs.Numbers.{positive}
 use Prim.Native.Nat.{ℕ, zero, suc, ◌+◌, ◌*◌, ◌≤◌, ◌<◌}
 use native.Mathlib.Nat.{zero-add}
 use native.Mathlib.Omega.{arith}
@@ -63,22 +67,22 @@ module _ (m : Terms) (b s : List ℕ) (n : ℕ) (out : List ℕ) where
 
   -- ---- The outcomes
 
-  pub refused_by_call : (k : ℕ) → k ≡ call_refusal m b s → (k ≡ 0 → ⊥) → Promises (Refused k) out
-  refused_by_call k e h = promised (call_refuses k e h) (refused k h)
+  pub refused_by_call : {r : Written} (k : ℕ) → k ≡ call_refusal m b s → (k ≡ 0 → ⊥) → r ≡ Refused k → Promises r out
+  refused_by_call k e h q = rw q (promised (call_refuses k e h) (refused k h))
 
-  module _ (ok : call_refusal m b s ≡ 0) {w : WorkedRun} (d : Result m b s n w) where
-    pub refused_by_moves : (w.refusal ≡ 0 → ⊥) → Promises (Refused w.refusal) out
-    refused_by_moves h = promised (moves_refuse ok w.refusal d.number h) (refused w.refusal h)
+  module _ (ok : call_refusal m b s ≡ 0) where
+    pub refused_by_moves : {r : Written} {x : Refusal} → Result m b s n (Err x) → r ≡ Refused (number x) → Promises r out
+    refused_by_moves {x = x} d q = rw q (promised (moves_refuse ok (number x) d.number (positive x)) (refused (number x) (positive x)))
 
-    module _ (z : w.refusal ≡ 0) {c : ℕ} (ec : c ≡ boats b) (k : ℕ) (ek : k ≡ support (take c w.shares)) where
+    module _ {w : WorkedRun} (d : Result m b s n (Ok w)) {c : ℕ} (ec : c ≡ boats b) (k : ℕ) (ek : k ≡ support (take c w.shares)) where
       passed : moves_refusal (call_problem m b s) n ≡ 0
-      passed = sym d.number ∙ z
+      passed = sym d.number
 
       spent : verdict_number (run_answer (call_problem m b s)).verdict ≡ 3
       spent = spent_accepted _ n passed
 
       shares_are : take c w.shares ≡ worked_slots m b s n
-      shares_are = rw ec (d.slots z)
+      shares_are = rw ec (d.slots w refl)
 
       size_is : length (worked_card m b s n) ≡ 4 * k + 36
       size_is = card_length m b s n ok spent ∙ rw (ek, shares_are)
@@ -100,7 +104,7 @@ module _ (m : Terms) (b s : List ℕ) (n : ℕ) (out : List ℕ) where
             (e₂ : now₂ ≡ placed now₁ (4 * k) (trailer_bytes Sharper (answer_fields w.answer (4 * k) τ c i))) where
           card_is : pairs 0 (take c w.shares) ++ trailer_bytes Sharper (answer_fields w.answer (4 * k) τ c i) ≡ worked_card m b s n
           unfolding worked_card card_bytes
-          card_is = rw (← pairs_size, eτ, ei, d.answer z, shares_are, ec)
+          card_is = rw (← pairs_size, eτ, ei, d.answer w refl, shares_are, ec)
 
           buffer_is : now₂ ≡ worked_card m b s n ++ drop (length (worked_card m b s n)) out
           unfolding placed
@@ -112,4 +116,4 @@ module _ (m : Terms) (b s : List ℕ) (n : ℕ) (out : List ℕ) where
           unfolding filing slots_after
           filed =
               let q : ltb (length out) (length (worked_card m b s n)) ≡ false = le-ltb (length out) (length (worked_card m b s n)) (rw size_is room) in
-              promised (room_decides ok passed false q) (rw (d.answer z, size_is), buffer_is)
+              promised (room_decides ok passed false q) (rw (d.answer w refl, size_is), buffer_is)

@@ -6,12 +6,14 @@
 ghost use Rattle.std.specs.Prelude.{◌≡◌, length};
 ghost use Rattle.method.specs.Problem.{call_problem};
 ghost use Rattle.method.specs.Answers.{slots_after};
+ghost use Rattle.card_format.specs.Written.{written};
 ghost use Rattle.card_format.specs.Filing.{filing};
 ghost use Rattle.pairwise.specs.Moves.{worked_answer};
 ghost use Rattle.pairwise.specs.Call.{set_terms, worked_card, work_refusal, WorkingRight};
 
-use card_format::Written;
+use card_format::FiledCard;
 use method::Released;
+use refusals::Refusal;
 
 // ENTRY. A search that ends Spent, worked over by at most so many moves, and its card written to the first bytes of `output`. A move takes
 // shares from one boat that holds some to another; the total stays and no boat joins. The set of released boats is read only where it says
@@ -26,25 +28,19 @@ pub fn work_over(
     released: Released,
     moves: u32,
     output: &mut [u8],
-) -> Written
-    ensures value { result ≡ filing (work_refusal (set_terms released) book.now sheet.now moves (length output.old)) (worked_answer (call_problem (set_terms released) book.now sheet.now) moves) (length (worked_card (set_terms released) book.now sheet.now moves)) }
+) -> Result<FiledCard, Refusal>
+    ensures value { written result ≡ filing (work_refusal (set_terms released) book.now sheet.now moves (length output.old)) (worked_answer (call_problem (set_terms released) book.now sheet.now) moves) (length (worked_card (set_terms released) book.now sheet.now moves)) }
     ensures output_after { output.new ≡ slots_after (work_refusal (set_terms released) book.now sheet.now moves (length output.old)) (worked_card (set_terms released) book.now sheet.now moves) output.old }
-    ensures working_right { WorkingRight (set_terms released) book.now sheet.now moves result output.new }
+    ensures working_right { WorkingRight (set_terms released) book.now sheet.now moves (written result) output.new }
 {
-    let refusal = calls::call_refusal(book, sheet, released, false, &[0u16; 0]);
-    if refusal != 0 {
-        return Written::Refused(refusal);
-    }
-    let worked = pairwise_run::worked(book, sheet, released, moves);
-    if worked.refusal != 0 {
-        return Written::Refused(worked.refusal);
-    }
+    calls::call_refusal(book, sheet, released, None)?;
+    let worked = pairwise_run::worked(book, sheet, released, moves)?;
     let boats = files::boats(book);
     let answer = worked.answer;
     let shares = worked.shares;
     let back = 4 * card_output::holding(shares, boats);
     if output.len() < back + 36 {
-        return Written::Refused(22);
+        return Err(Refusal::CardRoom);
     }
     card_output::put_pairs(output, shares, boats);
     card_output::put_trailer(
@@ -55,5 +51,6 @@ pub fn work_over(
         boats,
         files::columns(book),
     );
-    Written::Filed(answer, back + 36)
+    let size = back + 36;
+    Ok(FiledCard { answer, size })
 }
