@@ -7,8 +7,8 @@
 
 use refusals::Refusal;
 
-// Files the card of a search, if the search was not refused; what is in the way goes to standard error. Whether there is a listing to print.
-fn file(
+// Files the card that a call leaves, if it was not refused; what is in the way goes to standard error. Whether there is a listing to print.
+pub fn file_or_leave(
     rt: &HostRuntime,
     path: &[u8],
     output: &[u8; card_listing::MOST_CARD],
@@ -28,12 +28,12 @@ fn file_found(rt: &HostRuntime, folder: &[u8], book: &[u8], sheet: &[u8]) {
     let mut output = [0u8; card_listing::MOST_CARD];
     let filing = card_listing::filed_text(book, sheet, &mut output);
     if let Err(refusal) = filing.filed {
-        refusal_output::tell_detail(rt, book, sheet, refusal);
+        refusal_output::tell_detail(rt, book, sheet, refusal.number());
     }
     let path = paths::path_in(folder, b"card.wcd");
     let bytes = path.bytes;
     let name = file_io::first_bytes(&bytes, path.len);
-    if file(rt, name, &output, filing.filed) {
+    if file_or_leave(rt, name, &output, filing.filed) {
         file_io::print(rt, filing.text);
     }
 }
@@ -62,8 +62,9 @@ fn check_found(rt: &HostRuntime, folder: &[u8], book: &[u8], sheet: &[u8], card:
     old_files::tell_old(rt, folder, book, sheet);
     let listed = card_listing::card_text(book, sheet, card);
     if let Err(refusal) = listed.refusal {
-        refusal_output::tell_detail(rt, book, sheet, refusal);
-        refusal_output::tell_card(rt, b"card.wcd", book, sheet, card, refusal);
+        let n = refusal.number();
+        refusal_output::tell_detail(rt, book, sheet, n);
+        refusal_output::tell_card(rt, b"card.wcd", book, sheet, card, n);
     }
     file_io::print(rt, listed.text);
 }

@@ -40,7 +40,7 @@ fn is_edition_of(made: &[u8], sheet: &[u8]) -> bool
 fn is_front_of(csv: &[u8], sheet: &[u8]) -> bool
     ensures { result ≡ front_of csv.now sheet.now }
 {
-    if validation::sheet_refusal_in(sheet, 1, 64) != 0 {
+    if validation::sheet_refusal_in(sheet, 1, 64).is_err() {
         return false;
     }
     let at = files::sheet_body(sheet);

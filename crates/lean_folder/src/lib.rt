@@ -2,17 +2,19 @@
 // book and of the pairs that were read, one after the other. test_lean holds what is printed to the reference.
 #![tactic(auto)]
 
-ghost use Rattle.std.specs.Prelude.{◌*◌, ◌≤◌, length};
+ghost use Rattle.std.specs.Prelude.{◌≡◌, ◌*◌, ◌≤◌, length};
+ghost use Rattle.refusals.specs.Numbers.{refusal_number};
 ghost use Rattle.leaning.specs.Report.{most_cards};
 ghost use Rattle.leaning.specs.Slots.{card_slots};
 ghost use Rattle.lean_folder.specs.Folder.{SomePair, SomeChecked, SomeReport};
 
 use numbered_files::{name_of, read_named, tell_of};
+use refusals::Refusal;
 use text::Text;
 
 // Names the file that refuses a report before any sheet or card is read.
-fn tell_start(rt: &HostRuntime, folder: &[u8], cards: usize, refusal: u32) {
-    if refusal == 58 {
+fn tell_start(rt: &HostRuntime, folder: &[u8], cards: usize, refusal: Refusal) {
+    if refusal == Refusal::ReportCards {
         if cards == 0 {
             tell_of(
                 rt,
@@ -30,21 +32,20 @@ fn tell_start(rt: &HostRuntime, folder: &[u8], cards: usize, refusal: u32) {
         }
         return;
     }
-    if refusal != 0 {
-        tell_of(
-            rt,
-            folder,
-            Text::empty().with_bytes(b"fleet.wbk"),
-            b": this book is refused\n",
-        );
-    }
+    tell_of(
+        rt,
+        folder,
+        Text::empty().with_bytes(b"fleet.wbk"),
+        b": this book is refused\n",
+    );
 }
 
 // Names the sheet or the card that is refused, the card for the numbers 31 to 39.
-fn tell_refused(rt: &HostRuntime, folder: &[u8], before: usize, refusal: u32)
+fn tell_refused(rt: &HostRuntime, folder: &[u8], before: usize, refusal: Refusal)
     requires { before ≤ most_cards }
 {
-    if refusal < 31 {
+    let n = refusal.number();
+    if n < 31 {
         tell_of(
             rt,
             folder,
@@ -53,7 +54,7 @@ fn tell_refused(rt: &HostRuntime, folder: &[u8], before: usize, refusal: u32)
         );
         return;
     }
-    if refusal <= 39 {
+    if n <= 39 {
         tell_of(
             rt,
             folder,
@@ -72,9 +73,15 @@ fn tell_refused(rt: &HostRuntime, folder: &[u8], before: usize, refusal: u32)
 
 // Reads the sheet and the card behind `before` others, and checks the card. Of each file one byte more is read than it may have, so that a
 // longer file is refused and not cut.
-fn check_pair(rt: &HostRuntime, folder: &[u8], book: &[u8], before: usize, slots: &mut [u16]) -> u32
+fn check_pair(
+    rt: &HostRuntime,
+    folder: &[u8],
+    book: &[u8],
+    before: usize,
+    slots: &mut [u16],
+) -> Result<(), Refusal>
     requires { before ≤ most_cards }
-    ensures { SomePair book.now before slots.old result slots.new }
+    ensures { SomePair book.now before slots.old (refusal_number result) slots.new }
 {
     let mut sheet = [0u8; 40001];
     let mut filed = [0u8; 40001];
@@ -85,23 +92,37 @@ fn check_pair(rt: &HostRuntime, folder: &[u8], book: &[u8], before: usize, slots
 
 // Reads and checks the cards one by one, up to the first that is refused, which standard error names. The book and the number of cards come
 // before them.
-fn check_pairs(rt: &HostRuntime, folder: &[u8], book: &[u8], cards: usize, slots: &mut [u16]) -> u32
+fn check_pairs(
+    rt: &HostRuntime,
+    folder: &[u8],
+    book: &[u8],
+    cards: usize,
+    slots: &mut [u16],
+) -> Result<(), Refusal>
     requires { card_slots * most_cards ≤ length slots.old }
-    ensures { SomeChecked book.now cards result slots.new }
+    ensures { SomeChecked book.now cards (refusal_number result) slots.new }
 {
-    let start = lean_cards::lean_start(book, cards);
-    if start != 0 {
-        tell_start(rt, folder, cards, start);
-        return start;
+    if let Err(refusal) = lean_cards::lean_start(book, cards) {
+        tell_start(rt, folder, cards, refusal);
+        return Err(refusal);
     }
     for k in 0..cards {
-        let refusal = check_pair(rt, folder, book, k, slots);
-        if refusal != 0 {
+        if let Err(refusal) = check_pair(rt, folder, book, k, slots) {
             tell_refused(rt, folder, k, refusal);
-            return refusal;
+            return Err(refusal);
         }
     }
-    0
+    Ok(())
+}
+
+// The number of what refused a card, 0 where none was refused.
+fn number_of(checked: Result<(), Refusal>) -> u32
+    ensures { result ≡ refusal_number checked }
+{
+    match checked {
+        Ok(()) => 0,
+        Err(refusal) => refusal.number(),
+    }
 }
 
 // The report of a book and of the cards of a folder.
@@ -109,8 +130,8 @@ fn report_of(rt: &HostRuntime, folder: &[u8], book: &[u8], cards: usize) -> Text
     ensures { SomeReport book.now cards result }
 {
     let mut slots = [0u16; leaning::MOST_SLOTS];
-    let refusal = check_pairs(rt, folder, book, cards, &mut slots);
-    lean_listing::lean_text(book, refusal, cards, &slots)
+    let checked = check_pairs(rt, folder, book, cards, &mut slots);
+    lean_listing::lean_text(book, number_of(checked), cards, &slots)
 }
 
 // Prints which boats the cards of a folder rest on: card1.wcd checked with sheet1.wsh against fleet.wbk, and so on up to a card that cannot

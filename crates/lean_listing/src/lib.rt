@@ -113,9 +113,8 @@ fn slots_refusal(book: &[u8], refusal: u32, cards: usize, slots: usize) -> u32
     if refusal != 0 {
         return refusal;
     }
-    let start = lean_cards::lean_start(book, cards);
-    if start != 0 {
-        return start;
+    if let Err(start) = lean_cards::lean_start(book, cards) {
+        return start.number();
     }
     if slots < 256 * cards {
         return 21;

@@ -11,7 +11,7 @@ fn list_read(rt: &HostRuntime, folder: &[u8], book: &mut [u8], sheet: &mut [u8])
     old_files::tell_old(rt, folder, fleet, asked);
     let listed = search_listing::search_listing(fleet, asked);
     if let Err(refusal) = listed.refusal {
-        refusal_output::tell_detail(rt, fleet, asked, refusal);
+        refusal_output::tell_detail(rt, fleet, asked, refusal.number());
     }
     file_io::print(rt, listed.text);
 }

@@ -2,26 +2,19 @@
 // printed and filed to the reference.
 
 #![tactic(auto)]
-// Files the card of a search that was worked over, which has no bytes where the call is refused; what is in the way goes to standard error.
-// Whether there is a listing to print.
-fn file(rt: &HostRuntime, path: &[u8], output: &[u8; card_listing::MOST_CARD], len: usize) -> bool {
-    if len == 0 {
-        file_io::tell(rt, path, b" is as it was\n");
-        return true;
-    }
-    file_io::replace_or_tell(rt, path, file_io::first_bytes(output, len))
-}
+
+use refusals::Refusal;
 
 // Says what is known of a refusal that is neither of the files nor of the buffer.
-fn tell_working(rt: &HostRuntime, refusal: u32) {
-    if refusal == 53 {
+fn tell_working(rt: &HostRuntime, refusal: Refusal) {
+    if refusal == Refusal::VerdictNotSpent {
         file_io::tell(
             rt,
             b"sheet.wsh",
             b": the search does not end Spent, so nothing is worked over\n",
         );
     }
-    if refusal == 54 {
+    if refusal == Refusal::MovesAllowed {
         file_io::tell(rt, b"MOVES", b": not from 1 to 1000\n");
     }
 }
@@ -30,12 +23,14 @@ fn tell_working(rt: &HostRuntime, refusal: u32) {
 fn file_found(rt: &HostRuntime, folder: &[u8], book: &[u8], sheet: &[u8], moves: u32) {
     let mut output = [0u8; card_listing::MOST_CARD];
     let filing = worked_listing::worked_text(book, sheet, moves, &mut output);
-    refusal_output::tell_detail(rt, book, sheet, filing.refusal);
-    tell_working(rt, filing.refusal);
+    if let Err(refusal) = filing.filed {
+        refusal_output::tell_detail(rt, book, sheet, refusal.number());
+        tell_working(rt, refusal);
+    }
     let path = paths::path_in(folder, b"worked.wcd");
     let bytes = path.bytes;
     let name = file_io::first_bytes(&bytes, path.len);
-    if file(rt, name, &output, filing.len) {
+    if card_folder::file_or_leave(rt, name, &output, filing.filed) {
         file_io::print(rt, filing.text);
     }
 }

@@ -3,4 +3,4 @@ use borrow.Author.Rules.{rules}
 use Rattle.refusal_output.proofs.tell_detail.Goals as goal
 
 pub known_detail-requires : goal.known_detail-requires
-known_detail-requires c = c.requires c.if-n-le17.true
+known_detail-requires c = c.requires c.if-refusal-le17.true
