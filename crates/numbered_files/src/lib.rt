@@ -43,14 +43,12 @@ pub fn count_in(rt: &HostRuntime, folder: &[u8], word: &[u8], ending: &[u8], mos
     requires { (most ≤ most_files) × (length word.now ≤ 8) × (length ending.now ≤ 8) }
     ensures { result ≤ most }
 {
-    let mut k = 0;
-    while k < most {
+    for k in 0..most {
         if !opens(rt, folder, name_of(word, k, ending)) {
             return k;
         }
-        k += 1;
     }
-    k
+    most
 }
 
 // Reads a file of a folder: how many of its bytes are in the buffer.
