@@ -35,14 +35,12 @@ pub fn edition_line(given: Rewritten) -> Text
 fn first_other(list: &[u8]) -> usize
     ensures { result ≡ first_other list.now }
 {
-    let mut i = 0;
-    while i < list.len() {
-        if list[i] != 1 {
+    for (i, factor) in list.iter().enumerate() {
+        if *factor != 1 {
             return i;
         }
-        i += 1;
     }
-    i
+    list.len()
 }
 
 // The line of a sheet with no columns or more than 64.

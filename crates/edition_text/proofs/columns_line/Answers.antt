@@ -1,6 +1,5 @@
 -- `edition_text::columns_line` meets its contract.
 use Rattle.edition_text.proofs.Telling.{columns_told}
-use borrow.Author.Rules.{rules}
 use Rattle.edition_text.proofs.columns_line.Goals as goal
 
 pub returns : goal.returns

@@ -1,5 +1,4 @@
 -- `edition_text::edition_detail` meets its contract.
-use borrow.Author.Rules.{rules}
 use Rattle.edition_text.proofs.edition_detail.Goals as goal
 
 pub known_detail-requires : goal.known_detail-requires

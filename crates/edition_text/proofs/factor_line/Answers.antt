@@ -3,7 +3,6 @@ use native.Mathlib.Omega.{arith}
 use Rattle.files.proofs.Accepted.{sheet_passed}
 use Rattle.factors.proofs.Factors.{second_edition}
 use Rattle.edition_text.proofs.Telling.{factor_inside, factor_few, factor_told}
-use borrow.Author.Rules.{rules}
 use Rattle.edition_text.proofs.factor_line.Goals as goal
 
 pub factors_of-list-requires : goal.factors_of-list-requires

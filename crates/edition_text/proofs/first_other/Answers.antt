@@ -1,5 +1,4 @@
 -- `edition_text::first_other` meets its contract: `PassedOnes` is the loop's invariant.
-use Prim.Native.Nat.{◌-◌}
 use Rattle.edition_text.proofs.Telling.{ones_start, ones_more, ones_differ, ones_end}
 use borrow.Author.Rules.{rules}
 use Rattle.edition_text.proofs.first_other.Goals as goal
@@ -7,8 +6,8 @@ use Rattle.edition_text.proofs.first_other.Goals as goal
 pub loop-i-init : goal.loop-i-init
 loop-i-init c = ones_start
 
-pub returns-then-list-i-ne1 : goal.returns-then-list-i-ne1
-returns-then-list-i-ne1 c = search (rules, ones_differ)
+pub returns-then-factor-ne1 : goal.returns-then-factor-ne1
+returns-then-factor-ne1 c = search (rules, ones_differ)
 
 pub loop-i-preserved : goal.loop-i-preserved
 loop-i-preserved c = search (rules, ones_more)

@@ -2,7 +2,6 @@
 use mathlib.Core.Path.{sym, ◌∙◌}
 use Rattle.files.proofs.Accepted.{sheet_passed}
 use Rattle.edition_text.proofs.Telling.{long_of_13, of_47, of_48, told_13, told_47, told_48, told_none}
-use borrow.Author.Rules.{rules}
 use Rattle.edition_text.proofs.known_detail.Goals as goal
 
 pub columns_line-requires : goal.columns_line-requires

@@ -1,6 +1,5 @@
 -- `edition_text::size_line` meets its contract.
 use Rattle.edition_text.proofs.Telling.{size_told}
-use borrow.Author.Rules.{rules}
 use Rattle.edition_text.proofs.size_line.Goals as goal
 
 pub returns : goal.returns
