@@ -22,14 +22,12 @@ fn first_out(b: &[u8], at: usize, count: usize) -> usize
     requires { at + 2 * count ≤ length b.now }
     ensures { result ≡ first_out (values count (drop at b.now)) }
 {
-    let mut i = 0;
-    while i < count {
+    for i in 0..count {
         if 4000 < (files::u16_at(b, at + 2 * i) + 2000) % 65536 {
             return i;
         }
-        i += 1;
     }
-    i
+    count
 }
 
 // The text followed by what is wrong with a value, which 16 bits hold.
