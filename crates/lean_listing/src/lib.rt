@@ -87,11 +87,9 @@ fn with_stretches(text: Text, slots: &[u16], cards: usize, boats: usize) -> Text
     ensures { Adds text (stretch_lines boats (parts cards boats slots.now) (stretches cards) 0) result }
 {
     let mut longer = text;
-    let mut i = 0;
-    while i + leaning::STRETCH <= cards {
+    for i in 0..(cards + 1).saturating_sub(leaning::STRETCH) {
         let boat = most_used(slots, 256 * i, boats);
         longer = longer.with_pair(b"stretch ", (i + 1) as u64, boat as u64);
-        i += 1;
     }
     longer
 }

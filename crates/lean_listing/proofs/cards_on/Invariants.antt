@@ -1,9 +1,7 @@
 -- `lean_listing::cards_on` meets its contract. The loop keeps `Counted`: `count` of the first k cards rest on the boat, so all are `count` and those of the cards that are left.
 -- A turn adds 1 where card k holds shares of the boat.
 -- It ends: the cards that are left fall by one.
-use Prim.Native.Nat.{◌-◌}
 use Rattle.lean_listing.proofs.Counting.{Counted}
-use borrow.Author.Rules.{rules}
 use Rattle.lean_listing.proofs.cards_on.Given as goal
 
 abbrev pub invariant-loop-k : goal.invariant-loop-k

@@ -1,7 +1,6 @@
 -- `lean_listing::lean_text` meets its contract.
 use native.Mathlib.Omega.{arith}
 use Rattle.lean_listing.proofs.Refusing.{listable, given_refused, given_lines}
-use borrow.Author.Rules.{rules}
 use Rattle.lean_listing.proofs.lean_text.Goals as goal
 
 pub returns-then-number-ne0 : goal.returns-then-number-ne0

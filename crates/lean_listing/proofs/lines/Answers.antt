@@ -1,6 +1,5 @@
 -- `lean_listing::lines` meets its contract.
 use Rattle.lean_listing.proofs.Adding.{lines_hold}
-use borrow.Author.Rules.{rules}
 use Rattle.lean_listing.proofs.lines.Goals as goal
 
 pub returns : goal.returns

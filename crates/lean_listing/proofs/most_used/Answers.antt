@@ -1,5 +1,4 @@
 -- `lean_listing::most_used` meets its contract.
-use Prim.Native.Nat.{◌-◌}
 use native.Mathlib.Omega.{arith}
 use Rattle.lean_listing.proofs.Counting.{led_start, led_over, led_still, led_end}
 use borrow.Author.Rules.{rules}

@@ -1,10 +1,7 @@
 -- `lean_listing::most_used` meets its contract.
-use Prim.Native.Nat.{◌-◌}
-use native.Mathlib.Omega.{arith}
 use lib.ListN.{drop}
 use Rattle.leaning.specs.Slots.{parts}
 use Rattle.lean_listing.proofs.Counting.{Led}
-use borrow.Author.Rules.{rules}
 use Rattle.lean_listing.proofs.most_used.Given as goal
 
 abbrev pub invariant-loop-i : goal.invariant-loop-i

@@ -1,8 +1,6 @@
 -- `lean_listing::total` meets its contract.
-use Prim.Native.Nat.{◌-◌}
 use native.Mathlib.Omega.{arith}
 use Rattle.lean_listing.proofs.Counting.{totalled_start, totalled_more, totalled_end}
-use borrow.Author.Rules.{rules}
 use Rattle.lean_listing.proofs.total.Goals as goal
 
 pub loop-i-init : goal.loop-i-init

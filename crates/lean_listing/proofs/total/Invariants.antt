@@ -1,9 +1,6 @@
 -- `lean_listing::total` meets its contract.
-use Prim.Native.Nat.{◌-◌}
-use native.Mathlib.Omega.{arith}
 use Rattle.leaning.specs.Slots.{parts}
 use Rattle.lean_listing.proofs.Counting.{Totalled}
-use borrow.Author.Rules.{rules}
 use Rattle.lean_listing.proofs.total.Given as goal
 
 abbrev pub invariant-loop-i : goal.invariant-loop-i

