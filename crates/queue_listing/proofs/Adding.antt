@@ -12,7 +12,7 @@ use lib.ListN.{length, drop, get_or, drop_of_length-le}
 use lib.Seq.{drop-cons}
 use Rattle.text.specs.Decimal.{decimal}
 use Rattle.text.specs.declared.Text.{Text}
-use Rattle.text.specs.Texts.{text_limit, Holds, Adds}
+use Rattle.text.specs.Texts.{Holds, Adds}
 use Rattle.text.proofs.Texts.{adds_both, adds_to_empty}
 use Rattle.listing.specs.Lines.{sheet_word, within_word, beyond_word, spent_word}
 use Rattle.sheet_queue.specs.declared.SheetRecord.{SheetRecord}

@@ -1,53 +1,36 @@
 -- The lengths put into a plan, and the listing of what the plan's queue leaves.
 use mathlib.Core.Path.{◌≡◌, refl, sym, ap, ◌∙◌}
-use mathlib.Core.Logic.{◌⊎◌, ⊎_elim}
-use mathlib.Core.List.{List, [], ◌∷◌, ◌++◌, map}
-use Prim.Native.Nat.{ℕ, zero, suc, ◌+◌, ◌≤◌, ◌<◌}
-use native.Mathlib.Numerals.{add-one}
+use mathlib.Core.Logic.{⊎_elim}
+use mathlib.Core.List.{List, [], ◌∷◌, ◌++◌}
+use Prim.Native.Nat.{ℕ, zero, suc, ◌≤◌, ◌<◌}
 use native.Mathlib.Omega.{arith}
-use lib.ListN.{length, get_or, set, take, replicate, length-set}
-use lib.Seq.{take-suc, take-suc-set, take_all}
+use lib.ListN.{length, take, drop, replicate, length-append, length-drop}
+use lib.Seq.{take_at}
 use Rattle.text.specs.declared.Text.{Text}
 use Rattle.text.specs.Texts.{Holds}
 use Rattle.listing.specs.Lines.{refused_line}
-use Rattle.sheet_queue.specs.declared.SheetRecord.{SheetRecord}
-use Rattle.sheet_queue.specs.Queue.{lengths, sheets_of, problems, queue_steps, refusal_of, accepted_of, records_of, records_after, queue_slots_after}
+use Rattle.sheet_queue.specs.Queue.{lengths, sheets_of, problems, queue_steps, refusal_of, accepted_of, records_of, records_after}
 use Rattle.sheet_queue.proofs.Rounds.{below_or_not}
 use Rattle.sheet_queue.proofs.Refusals.{passes, too_many, too_many_accepted}
 use Rattle.sheet_queue.proofs.Promise.{queue_right}
 use Rattle.queue_rounds.specs.declared.Plan.{Plan}
 use Rattle.queue_rounds.specs.declared.Outcome.{Outcome}
 use Rattle.queue_rounds.specs.Plans.{plan_lengths}
-use Rattle.queue_rounds.specs.Work.{count_after, plan_records, Ran}
+use Rattle.queue_rounds.specs.Work.{plan_records, Ran}
 use Rattle.queue_listing.specs.Plans.{Plans}
-use Rattle.queue_listing.specs.Lines.{sheet_lines, queue_text, queue_of, no_shares, listing_refusal, listing_accepted, listing_records, queue_listing, ListedRight}
+use Rattle.queue_listing.specs.Lines.{sheet_lines, queue_text, queue_of, no_shares, listing_refusal, listing_accepted, queue_listing, ListedRight}
 
 -- ---- The plan
 
--- the first i of some lengths are copied
-pub record Copied (ns first : List ℕ) (i : ℕ) : Type 0 where
-  pub reached : i ≤ length ns
-  pub few : length ns ≤ 16
-  pub long : length first ≡ 16
-  pub same : take i first ≡ take i ns
-
 module _ {ns : List ℕ} where
-  pub copied_start : length ns ≤ 16 → Copied ns (replicate 16 0) 0
-  copied_start h = record { reached = omega arith; few = h; long = refl; same = refl }
-
-  pub copied_more : {first : List ℕ} {i x : ℕ} → Copied ns first i → i < length ns → x ≡ get_or ns i 0 → Copied ns (set first i x) (i + 1)
-  copied_more {first} {i} {x} c h e =
+  -- the lengths stand in the first slots
+  pub few_planned : {part : List ℕ} → length ns ≤ 16 → part ≡ ns → Plans ns (record { count = length ns; lengths = part ++ drop (length ns) (replicate 16 0) })
+  few_planned h e =
       record {
-        reached = omega arith;
-        few = c.few;
-        long = length-set first i x ∙ c.long;
-        same = rw add-one (take-suc-set first i x (omega (arith, c.few, c.long)) ∙ rw (c.same, e) (sym (take-suc ns i 0 h)));
+        count_is = refl;
+        long = rw (e, length-append ns (drop (length ns) (replicate 16 0)), length-drop (length ns) (replicate {A = ℕ} 16 0)) (omega arith);
+        lengths_are = λ f. rw e (take_at ns (drop (length ns) (replicate 16 0)) (length ns) refl);
       }
-
-  pub copied_end : {first : List ℕ} {i : ℕ} → Copied ns first i → length ns ≤ i → Plans ns (record { count = length ns; lengths = first })
-  copied_end {first} {i} c h =
-      let e : i ≡ length ns = omega (arith, c.reached) in
-      record { count_is = refl; long = c.long; lengths_are = λ f. rw e at c.same ∙ take_all (length ns) ns (omega arith) }
 
   pub many_planned : {first : List ℕ} → 16 < length ns → length first ≡ 16 → Plans ns (record { count = length ns; lengths = first })
   many_planned h l = record { count_is = refl; long = l; lengths_are = λ f. absurd (omega arith) }

@@ -88,9 +88,7 @@ fn plan_of(lengths: &[u32]) -> Plan
             lengths: first,
         };
     }
-    for i in 0..count {
-        first[i] = lengths[i];
-    }
+    first[..count].copy_from_slice(lengths);
     Plan {
         count,
         lengths: first,

@@ -2,12 +2,10 @@
 -- A turn adds the line of record i, of at most 121 bytes.
 -- It ends: the records that are left fall by one.
 use mathlib.Core.Path.{◌≡◌, sym, ◌∙◌}
-use Prim.Native.Nat.{◌-◌}
 use native.Mathlib.Omega.{arith}
 use lib.ListN.{length, take}
 use lib.Seq.{length-take-le, get_or-take}
 use Rattle.queue_listing.proofs.Adding.{sheets_start, sheets_more, sheets_end}
-use borrow.Author.Rules.{rules}
 use Rattle.queue_listing.proofs.lines.Goals as goal
 
 pub loop-i-init : goal.loop-i-init

@@ -2,11 +2,8 @@
 -- A turn adds the line of record i, of at most 121 bytes.
 -- It ends: the records that are left fall by one.
 use mathlib.Core.Path.{◌≡◌}
-use Prim.Native.Nat.{◌-◌}
-use native.Mathlib.Omega.{arith}
 use lib.ListN.{length, take}
 use Rattle.queue_listing.proofs.Adding.{SheetsAdded}
-use borrow.Author.Rules.{rules}
 use Rattle.queue_listing.proofs.lines.Given as goal
 
 abbrev pub invariant-loop-i : goal.invariant-loop-i

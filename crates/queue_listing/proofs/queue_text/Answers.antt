@@ -1,6 +1,5 @@
 -- `queue_listing::queue_text` meets its contract.
 use Rattle.queue_listing.proofs.Listing.{listed_right, number_is, accepted_is, refused_listed, lines_listed}
-use borrow.Author.Rules.{rules}
 use Rattle.queue_listing.proofs.queue_text.Goals as goal
 
 pub returns-then-refusal-ne0 : goal.returns-then-refusal-ne0

@@ -1,6 +1,5 @@
 -- `queue_listing::with_named` meets its contract.
 use Rattle.queue_listing.proofs.Adding.{adds_named}
-use borrow.Author.Rules.{rules}
 use Rattle.queue_listing.proofs.with_named.Goals as goal
 
 pub returns : goal.returns

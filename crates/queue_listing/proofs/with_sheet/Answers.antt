@@ -1,7 +1,6 @@
 -- `queue_listing::with_sheet` meets its contract.
 use native.Mathlib.Omega.{arith}
 use Rattle.queue_listing.proofs.Adding.{adds_sheet}
-use borrow.Author.Rules.{rules}
 use Rattle.queue_listing.proofs.with_sheet.Goals as goal
 
 pub with_bytes-requires : goal.with_bytes-requires

@@ -1,7 +1,6 @@
 -- `queue_listing::with_verdict` meets its contract.
 use native.Mathlib.Omega.{arith}
 use Rattle.queue_listing.proofs.Adding.{within_said, beyond_said, spent_said, cut_said, adds_verdict}
-use borrow.Author.Rules.{rules}
 use Rattle.queue_listing.proofs.with_verdict.Goals as goal
 
 pub returns-then-verdict-eq1 : goal.returns-then-verdict-eq1
