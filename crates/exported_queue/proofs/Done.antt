@@ -1,16 +1,14 @@
 -- What the functions over a queue leave is what specs/Queue.antt of `sheet_queue` defines, and keeps its promise.
-use mathlib.Core.Path.{◌≡◌, refl, sym, ap, ◌∙◌, subst}
-use mathlib.Core.Bool.{Bool, true, false}
-use mathlib.Core.Logic.{◌⊎◌, ⊎_elim}
-use mathlib.Core.List.{List, [], ◌∷◌, ◌++◌, append-nil}
-use Prim.Native.Nat.{ℕ, zero, suc, ◌+◌, ◌*◌, ◌≤◌, ◌<◌}
+use mathlib.Core.Path.{◌≡◌, refl, sym, ap, ◌∙◌}
+use mathlib.Core.Logic.{⊎_elim}
+use mathlib.Core.List.{List}
+use Prim.Native.Nat.{ℕ, zero, suc, ◌≤◌, ◌<◌}
 use native.Mathlib.Omega.{arith}
 use borrow.Author.Tests.{lt-ltb}
-use lib.Dec.{ltb}
-use lib.ListN.{length, get_or, set, take, drop, replicate, length-set, length-take, length-replicate, get_or-map}
+use lib.ListN.{length, get_or, take, length-set, get_or-map}
 use lib.Seq.{get_or-set_same, get_or-set_other, get_or-take, length-take-le, ext_get_or}
 use Rattle.sheet_queue.specs.declared.SheetRecord.{SheetRecord}
-use Rattle.sheet_queue.specs.Queue.{blank, lengths, sheets_of, problems, queue_steps, refusal_of, queue_refusal, records_of, shares_of, filled, records_after, queue_slots_after}
+use Rattle.sheet_queue.specs.Queue.{blank, lengths, sheets_of, problems, queue_steps, queue_refusal, records_of, shares_of, filled, records_after, queue_slots_after}
 use Rattle.sheet_queue.specs.Promise.{QueueRight}
 use Rattle.sheet_queue.proofs.Rounds.{below_or_not}
 use Rattle.sheet_queue.proofs.Records.{lengths_count}
@@ -21,8 +19,7 @@ use Rattle.queue_rounds.specs.declared.Outcome.{Outcome}
 use Rattle.queue_rounds.specs.Plans.{plan_lengths}
 use Rattle.queue_rounds.specs.Work.{count_after, plan_records, plan_slots, Ran}
 use Rattle.queue_rounds.proofs.Turns.{same_or_other}
-use Rattle.exported_queue.specs.declared.Lengths.{Lengths}
-use Rattle.exported_queue.specs.Lists.{no_lengths, with_length, lengths_to, plan_of, stored}
+use Rattle.exported_queue.specs.Lists.{no_lengths, lengths_to, plan_of, stored}
 
 -- ---- The lengths
 

@@ -42,9 +42,8 @@ fn lengths_of(queue: &[SheetRecord]) -> Lengths
     ensures { result ≡ lengths_to queue.now (length queue.now) }
 {
     let mut lengths = no_lengths();
-    for i in 0usize..queue.len() {
-        let record = queue[i];
-        lengths = with_length(lengths, i, record);
+    for (i, record) in queue.iter().enumerate() {
+        lengths = with_length(lengths, i, *record);
     }
     lengths
 }
@@ -70,7 +69,7 @@ fn store(queue: &mut [SheetRecord], outcome: Outcome, count: usize)
     requires { (count ≤ length queue.old) × (count ≤ 16) }
     ensures { queue.new ≡ stored queue.old outcome count }
 {
-    for i in 0usize..count {
+    for i in 0..count {
         queue[i] = queue_rounds::record_at(outcome, i);
     }
 }

@@ -1,7 +1,6 @@
 -- `exported_queue::lengths_of` meets its contract.
 use mathlib.Core.Path.{◌∙◌, ap₂}
 use native.Mathlib.Omega.{arith}
-use Prim.Native.Nat.{◌≤◌}
 use Rattle.std.proofs.Common.{add-one}
 use Rattle.std.proofs.lemmas.List.{get_or_default}
 use Rattle.sheet_queue.specs.declared.SheetRecord.{SheetRecord}

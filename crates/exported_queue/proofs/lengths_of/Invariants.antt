@@ -1,6 +1,5 @@
 -- `exported_queue::lengths_of` meets its contract. The loop keeps the lengths of the first i records. A turn reads one record.
--- It ends: the records that are left fall by one.
-use Prim.Native.Nat.{◌-◌, ◌≤◌}
+use Prim.Native.Nat.{◌≤◌}
 use mathlib.Core.Path.{◌≡◌}
 use lib.ListN.{length}
 use Rattle.exported_queue.specs.Lists.{lengths_to}

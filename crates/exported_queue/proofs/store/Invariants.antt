@@ -1,6 +1,5 @@
 -- `exported_queue::store` meets its contract. The loop keeps the queue with its first i records replaced. A turn writes one record.
--- It ends: the records that are left fall by one.
-use Prim.Native.Nat.{◌-◌, ◌≤◌}
+use Prim.Native.Nat.{◌≤◌}
 use mathlib.Core.Path.{◌≡◌}
 use Rattle.exported_queue.specs.Lists.{stored}
 use Rattle.exported_queue.proofs.store.Given as goal

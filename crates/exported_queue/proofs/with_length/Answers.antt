@@ -1,5 +1,4 @@
 -- `exported_queue::with_length` meets its contract.
-use borrow.Author.Rules.{rules}
 use borrow.Author.Tests.{lt-ltb, le-ltb}
 use Rattle.exported_queue.proofs.with_length.Goals as goal
 
