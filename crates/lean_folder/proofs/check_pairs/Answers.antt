@@ -19,14 +19,14 @@ loop-k-init c =
     let e = ap refusal_number c.in_default.is in
     (going_start (rw e at c.lean_start.ensures.value, rw e at c.lean_start.ensures.starts) refl c.requires, refl)
 
-pub returns-in-Err-in-loop-k : goal.returns-in-Err-in-loop-k
-returns-in-Err-in-loop-k c =
-    let e = ap refusal_number c.in-Err-in-loop-k.is in
+pub returns-in-Err-check_pair : goal.returns-in-Err-check_pair
+returns-in-Err-check_pair c =
+    let e = ap refusal_number c.in-Err-check_pair.is in
     going_refused c.loop-k.invariant.0 c.loop-k-test.true (rw e at c.check_pair.ensures) (positive _)
 
 pub loop-k-preserved : goal.loop-k-preserved
 loop-k-preserved c =
-    let e = ap refusal_number c.in_default-in-loop-k.is in
+    let e = ap refusal_number c.in_default-check_pair.is in
     (going_more c.loop-k.invariant.0 c.loop-k-test.true (rw e at c.check_pair.ensures) refl, search rules)
 
 pub returns : goal.returns
