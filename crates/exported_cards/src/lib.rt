@@ -61,7 +61,8 @@ pub fn dofitrano_check_card_with(
     ensures check_right_with { CheckRightWith (call_terms released lent table.now) book.now sheet.now card.now (outcome (check_refusal_with (call_terms released lent table.now) book.now sheet.now card.now (length shares.old)) (card_answer_with (call_terms released lent table.now) book.now sheet.now card.now)) shares.new }
     ensures table_value { released.limited ≡ false → lent ≡ false → call_terms released lent table.now ≡ plain_terms }
 {
-    let found = card::check_card_with(book, sheet, released, lent, table, card, &mut *shares);
+    let own_table = exported_types::lent_table(lent, table);
+    let found = card::check_card_with(book, sheet, released, own_table, card, &mut *shares);
     exported_types::reply_of(found)
 }
 
@@ -79,7 +80,8 @@ pub fn dofitrano_write_card_with(
     ensures filing_right_with { FilingRightWith (call_terms released lent table.now) book.now sheet.now (filing (write_refusal_with (call_terms released lent table.now) book.now sheet.now (length output.old)) (run_answer (call_problem (call_terms released lent table.now) book.now sheet.now)) (length (run_card_with (call_terms released lent table.now) book.now sheet.now))) output.new }
     ensures table_value { released.limited ≡ false → lent ≡ false → call_terms released lent table.now ≡ plain_terms }
 {
-    let written = written_card::write_card_with(book, sheet, released, lent, table, &mut *output);
+    let own_table = exported_types::lent_table(lent, table);
+    let written = written_card::write_card_with(book, sheet, released, own_table, &mut *output);
     exported_types::card_reply_of(written)
 }
 

@@ -22,6 +22,24 @@ pub fn find(text: &[u8], at: usize, mark: u8) -> usize
     text.len()
 }
 
+// Where the line after the one at `at` starts.
+pub fn next_line(text: &[u8], at: usize) -> usize
+    requires { at < length text.now }
+    ensures value { result ≡ min (length text.now) (at + before 10 (drop at text.now) + 1) }
+    ensures lower_bound { (at < result) × (result ≤ length text.now) }
+{
+    let end = find(text, at, b'\n');
+    if end < text.len() { end + 1 } else { end }
+}
+
+// The line that starts at `at`.
+pub fn line(text: &[u8], at: usize) -> &[u8]
+    requires { at ≤ length text.now }
+    ensures { result.now ≡ until 10 (drop at text.now) }
+{
+    between(text, at, find(text, at, b'\n'))
+}
+
 // The name of a case: what stands before the first colon.
 pub fn name(line: &[u8]) -> &[u8]
     ensures { result.now ≡ until 58 line.now }

@@ -1,10 +1,9 @@
 -- `exported_cards::dofitrano_write_card_with` meets its contract.
-use mathlib.Core.Path.{ap, ◌∙◌}
-use Rattle.exported_types.specs.Replies.{card_reply_of}
-use Rattle.method.specs.Calls.{call_terms}
-use Rattle.exported_cards.proofs.Promises.{filed_right}
-use borrow.Author.Rules.{rules}
+use Rattle.exported_cards.proofs.Promises.{lent_filing}
 use Rattle.exported_cards.proofs.dofitrano_write_card_with.Goals as goal
 
 pub returns : goal.returns
-returns c = record { value = c.card_reply_of.ensures ∙ ap card_reply_of c.write_card_with-written.ensures.value; output_after = c.write_card_with-written.ensures.output_after; filing_right_with = filed_right (call_terms c.args.released c.args.lent c.args.table.now) _ _ c.write_card_with-written.ensures.value c.write_card_with-written.ensures.output_after c.write_card_with-written.ensures.filing_right_with; table_value = c.write_card_with-written.ensures.table_value }
+returns c =
+    let f = c.write_card_with-written.ensures in
+    let q = lent_filing c.args.released c.lent_table-own_table.ensures _ _ _ c.card_reply_of.ensures f.value f.output_after f.filing_right_with in
+    record { value = q.0; output_after = q.1.0; filing_right_with = q.1.1; table_value = λ e t. rw (e, t) }
