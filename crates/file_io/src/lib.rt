@@ -2,8 +2,7 @@
 // Each function is safe and ends; what the system reads and writes no contract can say.
 #![tactic(auto)]
 
-ghost use Rattle.std.specs.Prelude.{◌≡◌, ◌≤◌, take};
-ghost use Rattle.text.specs.Texts.{text_limit};
+ghost use Rattle.std.specs.Prelude.{◌≡◌, ◌≤◌, take, IfSome};
 ghost use Rattle.file_io.specs.Counts.{IsPrefixLen};
 
 use std::fs::{File, OpenOptions, Permissions};
@@ -27,8 +26,7 @@ pub fn first_bytes(bytes: &[u8], n: usize) -> &[u8]
     if bytes.len() < n {
         return bytes;
     }
-    let start = 0;
-    &bytes[start..n]
+    &bytes[..n]
 }
 
 // Whether a file that was read from has no more bytes: false where there are more or a read fails.
@@ -52,13 +50,6 @@ fn read_full(file: &mut File, buffer: &mut [u8]) -> usize
     done
 }
 
-// What was read of a file: whether it was there to be read, and how many of its bytes are in the buffer.
-#[derive(Clone, Copy)]
-pub struct Content {
-    pub there: bool,
-    pub len: usize,
-}
-
 // Opens a file to be read. The library opens paths of UTF-8 alone: any other cannot be opened.
 pub fn opened(rt: &HostRuntime, path: &[u8]) -> io::Result<File> {
     match from_utf8(path) {
@@ -76,46 +67,34 @@ fn tell_unopened(rt: &HostRuntime, path: &[u8], error: io::Error) {
     }
 }
 
-// Reads an open file into a buffer and closes it. One with more bytes than the buffer fills it. A file whose reading fails on the way is
-// not there and counts as empty. Left free: which bytes are read, those of the buffer behind the count, and all of them after a read that
-// failed.
-fn content_at(mut file: File, buffer: &mut [u8]) -> Content
-    ensures { IsPrefixLen result.len buffer.new }
+// Reads an open file into a buffer and closes it: how many of its bytes are in the buffer, none where its reading fails on the way. One with
+// more bytes than the buffer fills it. Left free: which bytes are read, those of the buffer behind the count, and all of them after a read
+// that failed.
+fn content_at(mut file: File, buffer: &mut [u8]) -> Option<usize>
+    ensures { IfSome result (λ n. IsPrefixLen n buffer.new) }
 {
     let n = read_full(&mut file, buffer);
-    if n < buffer.len() {
-        if !at_end(&mut file) {
-            return Content {
-                there: false,
-                len: 0,
-            };
-        }
+    if n < buffer.len() && !at_end(&mut file) {
+        return None;
     }
-    Content {
-        there: true,
-        len: n,
-    }
+    Some(n)
 }
 
-// Reads a file into a buffer. One that cannot be opened, or whose reading fails on the way, is not there and counts as empty, and standard
-// error says so.
-pub fn content_of(rt: &HostRuntime, path: &[u8], buffer: &mut [u8]) -> Content
-    ensures { IsPrefixLen result.len buffer.new }
+// Reads a file into a buffer. Where it cannot be opened, or its reading fails on the way, there is none, and standard error says so.
+pub fn content_of(rt: &HostRuntime, path: &[u8], buffer: &mut [u8]) -> Option<usize>
+    ensures { IfSome result (λ n. IsPrefixLen n buffer.new) }
 {
     match opened(rt, path) {
         Ok(file) => {
             let content = content_at(file, buffer);
-            if !content.there {
+            if content.is_none() {
                 tell(rt, path, b": could not be read whole\n");
             }
             content
         }
         Err(error) => {
             tell_unopened(rt, path, error);
-            Content {
-                there: false,
-                len: 0,
-            }
+            None
         }
     }
 }
@@ -124,39 +103,30 @@ pub fn content_of(rt: &HostRuntime, path: &[u8], buffer: &mut [u8]) -> Content
 pub fn read_file(rt: &HostRuntime, path: &[u8], buffer: &mut [u8]) -> usize
     ensures { IsPrefixLen result buffer.new }
 {
-    content_of(rt, path, buffer).len
+    content_of(rt, path, buffer).unwrap_or(0)
 }
 
 // Both of a file in a folder. The current folder has no name.
-pub fn content_in(rt: &HostRuntime, folder: &[u8], name: &[u8], buffer: &mut [u8]) -> Content
-    ensures { IsPrefixLen result.len buffer.new }
+pub fn content_in(rt: &HostRuntime, folder: &[u8], name: &[u8], buffer: &mut [u8]) -> Option<usize>
+    ensures { IfSome result (λ n. IsPrefixLen n buffer.new) }
 {
     let path = paths::path_in(folder, name);
-    let bytes = path.bytes;
-    let len = path.len;
-    content_of(rt, first_bytes(&bytes, len), buffer)
+    content_of(rt, path.as_bytes(), buffer)
 }
 
 pub fn read_in(rt: &HostRuntime, folder: &[u8], name: &[u8], buffer: &mut [u8]) -> usize
     ensures { IsPrefixLen result buffer.new }
 {
-    content_in(rt, folder, name, buffer).len
+    content_in(rt, folder, name, buffer).unwrap_or(0)
 }
 
 // The same of a file that need not be there: standard error says nothing.
-pub fn found_in(rt: &HostRuntime, folder: &[u8], name: &[u8], buffer: &mut [u8]) -> Content
-    ensures { IsPrefixLen result.len buffer.new }
+pub fn found_in(rt: &HostRuntime, folder: &[u8], name: &[u8], buffer: &mut [u8]) -> Option<usize>
+    ensures { IfSome result (λ n. IsPrefixLen n buffer.new) }
 {
     let path = paths::path_in(folder, name);
-    let bytes = path.bytes;
-    let len = path.len;
-    match opened(rt, first_bytes(&bytes, len)) {
-        Ok(file) => content_at(file, buffer),
-        Err(_) => Content {
-            there: false,
-            len: 0,
-        },
-    }
+    let file = opened(rt, path.as_bytes()).ok()?;
+    content_at(file, buffer)
 }
 
 // Puts letters that the system draws in the place of these bytes, of which there are at most six.
@@ -209,13 +179,7 @@ fn write_whole(mut file: File, content: &[u8]) -> bool {
     let written = file.write_all(content).is_ok();
     let readable = file.set_permissions(Permissions::from_mode(0o644)).is_ok();
     let kept = file.sync_all().is_ok();
-    if !written {
-        return false;
-    }
-    if !readable {
-        return false;
-    }
-    kept
+    written && readable && kept
 }
 
 // Gives a file another name, in the place of a file that has it. Whether it did.
@@ -235,18 +199,14 @@ fn remove(rt: &HostRuntime, path: &[u8]) {
 
 // Puts a file in the place of `path` by way of a new one, which `temporary` names but for its last six letters.
 fn replace_by(rt: &HostRuntime, path: &[u8], temporary: &mut [u8], content: &[u8]) -> bool {
-    match create_temporary(rt, temporary) {
-        Ok(file) => {
-            if write_whole(file, content) {
-                if rename(rt, temporary, path) {
-                    return true;
-                }
-            }
-            remove(rt, temporary);
-            false
-        }
-        Err(_) => false,
+    let Ok(file) = create_temporary(rt, temporary) else {
+        return false;
+    };
+    if write_whole(file, content) && rename(rt, temporary, path) {
+        return true;
     }
+    remove(rt, temporary);
+    false
 }
 
 // Puts a file of this content in the place of `path`, and answers whether it did. It is written under another name in the same
@@ -267,36 +227,47 @@ pub fn replace_or_tell(rt: &HostRuntime, path: &[u8], content: &[u8]) -> bool {
     false
 }
 
-// The same for the first `len` bytes of a buffer, which the work of a program wrote: none where it is refused. Then nothing is put there, and
-// standard error says that an older file is as it was. Whether there is a listing to print.
-pub fn replace_or_leave(rt: &HostRuntime, path: &[u8], buffer: &[u8], len: usize) -> bool {
-    if len == 0 {
-        tell(rt, path, b" is as it was\n");
-        return true;
-    }
-    replace_or_tell(rt, path, first_bytes(buffer, len))
+// The same of a file in a folder.
+pub fn replace_in(rt: &HostRuntime, folder: &[u8], name: &[u8], content: &[u8]) -> bool {
+    let path = paths::path_in(folder, name);
+    replace_or_tell(rt, path.as_bytes(), content)
 }
 
-// Says on standard error that a file in a folder is as it was.
-pub fn tell_kept(rt: &HostRuntime, folder: &[u8], name: &[u8]) {
+// Says on standard error what is wrong with a file of a folder.
+pub fn tell_in(rt: &HostRuntime, folder: &[u8], name: &[u8], fault: &[u8]) {
     let path = paths::path_in(folder, name);
-    let bytes = path.bytes;
-    tell(rt, first_bytes(&bytes, path.len), b" is as it was\n");
+    tell(rt, path.as_bytes(), fault);
+}
+
+// Says there that a file in a folder is as it was.
+pub fn tell_kept(rt: &HostRuntime, folder: &[u8], name: &[u8]) {
+    tell_in(rt, folder, name, b" is as it was\n");
+}
+
+// Replaces a file in a folder by the first `len` bytes of a buffer, which the work of a program wrote: none where it is refused. Then nothing is
+// put there, and standard error says that an older file is as it was. Whether there is a listing to print.
+pub fn replace_or_leave(
+    rt: &HostRuntime,
+    folder: &[u8],
+    name: &[u8],
+    buffer: &[u8],
+    len: usize,
+) -> bool {
+    if len == 0 {
+        tell_kept(rt, folder, name);
+        return true;
+    }
+    replace_in(rt, folder, name, first_bytes(buffer, len))
 }
 
 // Prints a text. Where standard output does not take all of it, standard error says so.
-pub fn print(rt: &HostRuntime, t: Text)
-    requires { t.len ≤ text_limit }
-{
-    let bytes = t.bytes;
-    let len = t.len;
-    if rt.write_all(&bytes[..len]).is_err() {
+pub fn print(rt: &HostRuntime, t: Text) {
+    if rt.write_all(t.as_bytes()).is_err() {
         tell(rt, b"standard output", b": could not be written whole\n");
     }
 }
 
 // Writes a text on standard error.
 pub fn tell_text(rt: &HostRuntime, t: Text) {
-    let bytes = t.bytes;
-    tell(rt, first_bytes(&bytes, t.len), b"");
+    tell(rt, t.as_bytes(), b"");
 }

@@ -1,12 +1,12 @@
 // Text under construction, given back by value with its length: bytes, decimal figures, and lines of a word and numbers.
 //
-// Helpers for other crates, whose callers prove that there is room: Text::empty, with_bytes, with_number, with_line, with_pair.
+// Helpers for other crates: Text::as_bytes, which asks nothing of its caller; those whose callers prove that there is room: Text::empty, with_bytes, with_number, with_line, with_pair.
 #![tactic(auto)]
 
-ghost use Rattle.std.specs.Prelude.{[], ◌+◌, ◌≤◌, length};
+ghost use Rattle.std.specs.Prelude.{◌≡◌, [], ◌+◌, ◌≤◌, length};
 ghost use Rattle.text.specs.Decimal.{decimal};
 ghost use Rattle.text.specs.Lines.{number_line, pair_line};
-ghost use Rattle.text.specs.Texts.{text_limit, Holds, Adds, FiguresOf};
+ghost use Rattle.text.specs.Texts.{text_limit, bytes_of, Holds, Adds, FiguresOf};
 
 mod pairs;
 
@@ -62,6 +62,16 @@ impl Text {
             bytes: [0u8; MOST_BYTES],
             len: 0,
         }
+    }
+
+    // The bytes that it holds.
+    pub fn as_bytes(&self) -> &[u8]
+        ensures { result.now ≡ bytes_of self.now }
+    {
+        if MOST_BYTES < self.len {
+            return &self.bytes;
+        }
+        &self.bytes[..self.len]
     }
 
     // The text followed by `s`.
