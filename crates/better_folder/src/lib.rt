@@ -47,10 +47,12 @@ pub fn file_better(rt: &HostRuntime, folder: &[u8]) {
     refusal_output::tell_detail(rt, fleet, asked, choice.refusal);
     tell_card(rt, fleet, asked, one, other, chosen.wrong, choice.refusal);
     let part = better_card::part_of(one, other, choice);
-    let path = paths::path_in(folder, b"better.wcd");
-    let bytes = path.bytes;
-    let name = file_io::first_bytes(&bytes, path.len);
-    if file_io::replace_or_leave(rt, name, part, choice.len) {
+    let written = if choice.refusal == 0 {
+        Some(choice.len)
+    } else {
+        None
+    };
+    if file_io::replace_or_leave(rt, folder, b"better.wcd", part, written) {
         file_io::print(rt, chosen.text);
     }
 }

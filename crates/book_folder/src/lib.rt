@@ -10,22 +10,22 @@ fn file_made(rt: &HostRuntime, folder: &[u8], csv: &[u8], output: &mut [u8]) {
         file_io::tell_kept(rt, folder, b"fleet.wbk");
         return;
     }
-    let path = paths::path_in(folder, b"fleet.wbk");
-    let bytes = path.bytes;
-    let name = file_io::first_bytes(&bytes, path.len);
-    if file_io::replace_or_tell(rt, name, file_io::first_bytes(output, made.len)) {
+    if file_io::replace_in(
+        rt,
+        folder,
+        b"fleet.wbk",
+        file_io::first_bytes(output, made.len),
+    ) {
         file_io::print(rt, csv_book_text::book_lines(made));
     }
 }
 
 // The same of fleet.csv there, which is read into the first of these buffers.
 fn file_read(rt: &HostRuntime, folder: &[u8], csv: &mut [u8], output: &mut [u8]) {
-    let content = file_io::content_in(rt, folder, b"fleet.csv", csv);
-    if !content.there {
-        file_io::tell_kept(rt, folder, b"fleet.wbk");
-        return;
+    match file_io::content_in(rt, folder, b"fleet.csv", csv) {
+        Some(n) => file_made(rt, folder, file_io::first_bytes(csv, n), output),
+        None => file_io::tell_kept(rt, folder, b"fleet.wbk"),
     }
-    file_made(rt, folder, file_io::first_bytes(csv, content.len), output);
 }
 
 // Makes the book of fleet.csv in a folder, files it there as fleet.wbk and prints its boats, columns and front text. The current folder

@@ -8,10 +8,10 @@ ghost use Rattle.editions.specs.Rewriting.{rewriting_number};
 use editions::Rewritten;
 
 // How many bytes a conversion wrote, none where it is refused.
-fn size_of(given: Rewritten) -> usize {
+fn size_of(given: Rewritten) -> Option<usize> {
     match given {
-        Rewritten::Refused(_) => 0,
-        Rewritten::Wrote(_, size) => size,
+        Rewritten::Refused(_) => None,
+        Rewritten::Wrote(_, size) => Some(size),
     }
 }
 
@@ -36,10 +36,7 @@ pub fn file_other(rt: &HostRuntime, folder: &[u8]) {
     let given = other_edition::other_edition(&sheet[..n], &mut output);
     let refusal = number_of(given);
     file_io::tell_text(rt, edition_text::known_detail(&sheet[..n], refusal));
-    let path = paths::path_in(folder, b"other.wsh");
-    let bytes = path.bytes;
-    let name = file_io::first_bytes(&bytes, path.len);
-    if file_io::replace_or_leave(rt, name, &output, size_of(given)) {
+    if file_io::replace_or_leave(rt, folder, b"other.wsh", &output, size_of(given)) {
         file_io::print(rt, edition_text::edition_line(given));
     }
 }

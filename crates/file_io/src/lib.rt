@@ -233,6 +233,18 @@ pub fn replace_in(rt: &HostRuntime, folder: &[u8], name: &[u8], content: &[u8]) 
     replace_or_tell(rt, path.as_bytes(), content)
 }
 
+// Does the work of a program with fleet.wbk and sheet.wsh of a folder. Of each one byte more is read than it may have, so that a longer file is
+// refused and not cut.
+pub fn with_files<F: FnOnce(&[u8], &[u8])>(rt: &HostRuntime, folder: &[u8], work: F)
+    requires { F.IsAlwaysCallable work }
+{
+    let mut book = [0u8; 40001];
+    let mut sheet = [0u8; 40001];
+    let n = read_in(rt, folder, b"fleet.wbk", &mut book);
+    let m = read_in(rt, folder, b"sheet.wsh", &mut sheet);
+    work(&book[..n], &sheet[..m]);
+}
+
 // Says on standard error what is wrong with a file of a folder.
 pub fn tell_in(rt: &HostRuntime, folder: &[u8], name: &[u8], fault: &[u8]) {
     let path = paths::path_in(folder, name);
@@ -244,20 +256,22 @@ pub fn tell_kept(rt: &HostRuntime, folder: &[u8], name: &[u8]) {
     tell_in(rt, folder, name, b" is as it was\n");
 }
 
-// Replaces a file in a folder by the first `len` bytes of a buffer, which the work of a program wrote: none where it is refused. Then nothing is
-// put there, and standard error says that an older file is as it was. Whether there is a listing to print.
+// Replaces a file in a folder by the first bytes of a buffer, as many as the work of a program wrote there. Where it is refused, there is no
+// such number, nothing is put there, and standard error says that an older file is as it was. Whether there is a listing to print.
 pub fn replace_or_leave(
     rt: &HostRuntime,
     folder: &[u8],
     name: &[u8],
     buffer: &[u8],
-    len: usize,
+    written: Option<usize>,
 ) -> bool {
-    if len == 0 {
-        tell_kept(rt, folder, name);
-        return true;
+    match written {
+        Some(len) => replace_in(rt, folder, name, first_bytes(buffer, len)),
+        None => {
+            tell_kept(rt, folder, name);
+            true
+        }
     }
-    replace_in(rt, folder, name, first_bytes(buffer, len))
 }
 
 // Prints a text. Where standard output does not take all of it, standard error says so.

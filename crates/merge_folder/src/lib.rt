@@ -5,13 +5,6 @@
 
 use refusals::Refusal;
 
-// Says on standard error what is wrong with a file of a folder.
-fn tell_of(rt: &HostRuntime, folder: &[u8], name: &[u8], fault: &[u8]) {
-    let path = paths::path_in(folder, name);
-    let bytes = path.bytes;
-    file_io::tell(rt, file_io::first_bytes(&bytes, path.len), fault);
-}
-
 // Says on standard error which of two books is refused, by what came of the first and of the merge: a number of 1 to 6 is the second's
 // where the first has none.
 fn tell_refused(
@@ -21,12 +14,12 @@ fn tell_refused(
     merged: Result<usize, Refusal>,
 ) {
     if first.is_err() {
-        tell_of(rt, folder, b"fleet.wbk", b": this book is refused\n");
+        file_io::tell_in(rt, folder, b"fleet.wbk", b": this book is refused\n");
         return;
     }
     if let Err(refusal) = merged {
         if refusal.number() <= 6 {
-            tell_of(rt, folder, b"bought.wbk", b": this book is refused\n");
+            file_io::tell_in(rt, folder, b"bought.wbk", b": this book is refused\n");
         }
     }
 }
@@ -43,10 +36,7 @@ pub fn file_merged(rt: &HostRuntime, folder: &[u8]) {
     let listed = merge_listing::merge_text(&first[..n], &second[..m], &mut output);
     let merged = listed.merged;
     tell_refused(rt, folder, listed.first, merged);
-    let path = paths::path_in(folder, b"merged.wbk");
-    let bytes = path.bytes;
-    let name = file_io::first_bytes(&bytes, path.len);
-    if file_io::replace_or_leave(rt, name, &output, merged.unwrap_or(0)) {
+    if file_io::replace_or_leave(rt, folder, b"merged.wbk", &output, merged.ok()) {
         file_io::print(rt, listed.text);
     }
 }

@@ -24,18 +24,13 @@ pub fn name_of(word: &[u8], before: usize, ending: &[u8]) -> Text
 
 // Says on standard error what is wrong with a file of a folder.
 pub fn tell_of(rt: &HostRuntime, folder: &[u8], name: Text, fault: &[u8]) {
-    let bytes = name.bytes;
-    let path = paths::path_in(folder, file_io::first_bytes(&bytes, name.len));
-    let place = path.bytes;
-    file_io::tell(rt, file_io::first_bytes(&place, path.len), fault);
+    file_io::tell_in(rt, folder, name.as_bytes(), fault);
 }
 
 // Whether a file of a folder can be opened.
 fn opens(rt: &HostRuntime, folder: &[u8], name: Text) -> bool {
-    let bytes = name.bytes;
-    let path = paths::path_in(folder, file_io::first_bytes(&bytes, name.len));
-    let place = path.bytes;
-    file_io::opened(rt, file_io::first_bytes(&place, path.len)).is_ok()
+    let path = paths::path_in(folder, name.as_bytes());
+    file_io::opened(rt, path.as_bytes()).is_ok()
 }
 
 // How many files of a folder can be opened, number 1 first, up to one that cannot; no more than `most` are tried.
@@ -55,6 +50,5 @@ pub fn count_in(rt: &HostRuntime, folder: &[u8], word: &[u8], ending: &[u8], mos
 pub fn read_named(rt: &HostRuntime, folder: &[u8], name: Text, buffer: &mut [u8]) -> usize
     ensures { IsPrefixLen result buffer.new }
 {
-    let bytes = name.bytes;
-    file_io::read_in(rt, folder, file_io::first_bytes(&bytes, name.len), buffer)
+    file_io::read_in(rt, folder, name.as_bytes(), buffer)
 }

@@ -36,9 +36,8 @@ fn tell_sheet(rt: &HostRuntime, fleet: &[u8], csv: &[u8], sheet: &[u8]) {
 
 // Says it of a book in a folder, where fleet.csv is there, which is read into this buffer.
 fn tell_book_in(rt: &HostRuntime, folder: &[u8], book: &[u8], csv: &mut [u8]) {
-    let content = file_io::found_in(rt, folder, b"fleet.csv", csv);
-    if content.there {
-        tell_book(rt, file_io::first_bytes(csv, content.len), book);
+    if let Some(n) = file_io::found_in(rt, folder, b"fleet.csv", csv) {
+        tell_book(rt, file_io::first_bytes(csv, n), book);
     }
 }
 
@@ -59,12 +58,12 @@ fn tell_both_in(
 ) {
     let first = file_io::found_in(rt, folder, b"fleet.csv", fleet);
     let second = file_io::found_in(rt, folder, b"sheet.csv", csv);
-    let read = file_io::first_bytes(fleet, first.len);
-    if first.there {
+    let read = file_io::first_bytes(fleet, first.unwrap_or(0));
+    if first.is_some() {
         tell_book(rt, read, book);
     }
-    if second.there {
-        tell_sheet(rt, read, file_io::first_bytes(csv, second.len), sheet);
+    if let Some(m) = second {
+        tell_sheet(rt, read, file_io::first_bytes(csv, m), sheet);
     }
 }
 

@@ -25,10 +25,12 @@ fn file_made(rt: &HostRuntime, folder: &[u8], fleet: &[u8], csv: &[u8]) {
         file_io::tell_kept(rt, folder, b"sheet.wsh");
         return;
     }
-    let path = paths::path_in(folder, b"sheet.wsh");
-    let bytes = path.bytes;
-    let name = file_io::first_bytes(&bytes, path.len);
-    if file_io::replace_or_tell(rt, name, file_io::first_bytes(&output, made.len)) {
+    if file_io::replace_in(
+        rt,
+        folder,
+        b"sheet.wsh",
+        file_io::first_bytes(&output, made.len),
+    ) {
         file_io::print(rt, csv_sheet_text::sheet_lines(made));
     }
 }
@@ -36,26 +38,25 @@ fn file_made(rt: &HostRuntime, folder: &[u8], fleet: &[u8], csv: &[u8]) {
 // Says that fleet.csv is not what the fleet.wbk of a folder was made from, where there is one.
 fn tell_old_book(rt: &HostRuntime, folder: &[u8], fleet: &[u8]) {
     let mut book = [0u8; 40001];
-    let content = file_io::found_in(rt, folder, b"fleet.wbk", &mut book);
-    let n = content.len;
-    old_files::tell_book(rt, fleet, &book[..n]);
+    if let Some(n) = file_io::found_in(rt, folder, b"fleet.wbk", &mut book) {
+        old_files::tell_book(rt, fleet, &book[..n]);
+    }
 }
 
 // Files the sheet of fleet.csv and sheet.csv of a folder there, and says where fleet.wbk is not of that fleet.csv. The CSVs are read into these buffers.
 fn file_read(rt: &HostRuntime, folder: &[u8], fleet: &mut [u8], csv: &mut [u8]) {
     let first = file_io::content_in(rt, folder, b"fleet.csv", fleet);
     let second = file_io::content_in(rt, folder, b"sheet.csv", csv);
-    let read = file_io::first_bytes(fleet, first.len);
-    if !first.there {
+    let Some(n) = first else {
         file_io::tell_kept(rt, folder, b"sheet.wsh");
         return;
-    }
+    };
+    let read = file_io::first_bytes(fleet, n);
     tell_old_book(rt, folder, read);
-    if !second.there {
-        file_io::tell_kept(rt, folder, b"sheet.wsh");
-        return;
+    match second {
+        Some(m) => file_made(rt, folder, read, file_io::first_bytes(csv, m)),
+        None => file_io::tell_kept(rt, folder, b"sheet.wsh"),
     }
-    file_made(rt, folder, read, file_io::first_bytes(csv, second.len));
 }
 
 // Makes the sheet of fleet.csv and sheet.csv in a folder, files it there as sheet.wsh and prints its lines. The current folder has no

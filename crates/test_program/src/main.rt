@@ -46,13 +46,7 @@ fn put_long(rt: &HostRuntime, name: &[u8], length: usize) {
     let n = file_io::read_file(rt, name, &mut short);
     test_buffers::put_bytes(&mut file, test_buffers::less(40000, n), &short[..n]);
     let path = paths::path_in(b"long", name);
-    let bytes = path.bytes;
-    let len = path.len;
-    file_io::replace_file(
-        rt,
-        file_io::first_bytes(&bytes, len),
-        file_io::first_bytes(&file, length),
-    );
+    file_io::replace_file(rt, path.as_bytes(), file_io::first_bytes(&file, length));
 }
 
 // The same in the folder `long`, once a file of it is so long.

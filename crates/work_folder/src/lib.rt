@@ -7,51 +7,39 @@ use refusals::Refusal;
 
 // Says what is known of a refusal that is neither of the files nor of the buffer.
 fn tell_working(rt: &HostRuntime, refusal: Refusal) {
-    if refusal == Refusal::VerdictNotSpent {
-        file_io::tell(
+    match refusal {
+        Refusal::VerdictNotSpent => file_io::tell(
             rt,
             b"sheet.wsh",
             b": the search does not end Spent, so nothing is worked over\n",
-        );
-    }
-    if refusal == Refusal::MovesAllowed {
-        file_io::tell(rt, b"MOVES", b": not from 1 to 1000\n");
+        ),
+        Refusal::MovesAllowed => file_io::tell(rt, b"MOVES", b": not from 1 to 1000\n"),
+        _ => {}
     }
 }
 
 // Works the search of these files over by at most so many moves, files the card of the result in a folder as worked.wcd and prints its listing.
 fn file_found(rt: &HostRuntime, folder: &[u8], book: &[u8], sheet: &[u8], moves: u32) {
+    old_files::tell_old(rt, folder, book, sheet);
     let mut output = [0u8; card_listing::MOST_CARD];
     let filing = worked_listing::worked_text(book, sheet, moves, &mut output);
     if let Err(refusal) = filing.filed {
         refusal_output::tell_detail(rt, book, sheet, refusal.number());
         tell_working(rt, refusal);
     }
-    let path = paths::path_in(folder, b"worked.wcd");
-    let bytes = path.bytes;
-    let name = file_io::first_bytes(&bytes, path.len);
-    if card_folder::file_or_leave(rt, name, &output, filing.filed) {
+    if file_io::replace_or_leave(rt, folder, b"worked.wcd", &output, filing.filed.ok()) {
         file_io::print(rt, filing.text);
     }
-}
-
-// The same of fleet.wbk and sheet.wsh there, which are read into these buffers.
-fn file_read(rt: &HostRuntime, folder: &[u8], moves: u32, book: &mut [u8], sheet: &mut [u8]) {
-    let n = file_io::read_in(rt, folder, b"fleet.wbk", book);
-    let m = file_io::read_in(rt, folder, b"sheet.wsh", sheet);
-    let fleet = file_io::first_bytes(book, n);
-    let asked = file_io::first_bytes(sheet, m);
-    old_files::tell_old(rt, folder, fleet, asked);
-    file_found(rt, folder, fleet, asked, moves);
 }
 
 // Searches fleet.wbk and sheet.wsh in a folder, works the search over by at most so many moves where it ends Spent, files the card of the
 // result there as worked.wcd and prints its listing. The current folder has no name. Where the call is refused or the card cannot be written,
 // an older worked.wcd stays as it was, and standard error says so, with what is known of the refusal. It says too
-// where a CSV in the folder is not what the book or the sheet was made from. Of each file one byte more is
-// read than it may have, so that a longer file is refused and not cut.
+// where a CSV in the folder is not what the book or the sheet was made from.
 pub fn file_worked(rt: &HostRuntime, folder: &[u8], moves: u32) {
-    let mut book = [0u8; 40001];
-    let mut sheet = [0u8; 40001];
-    file_read(rt, folder, moves, &mut book, &mut sheet);
+    file_io::with_files(
+        rt,
+        folder,
+        |book, sheet| file_found(rt, folder, book, sheet, moves),
+    );
 }

@@ -9,6 +9,3 @@ tell_detail-requires c = search (rules, choice_files)
 
 pub tell_card-requires : goal.tell_card-requires
 tell_card-requires c = search (rules, wrong_refused)
-
-pub print-requires : goal.print-requires
-print-requires c = c.better_text-chosen.ensures.holds.fits

@@ -2,7 +2,6 @@
 use mathlib.Core.Path.{sym}
 use Prim.Native.Nat.{ℕ}
 use lib.ListN.{length-replicate}
-use borrow.Author.Rules.{rules}
 use Rattle.book_folder.proofs.file_book.Goals as goal
 
 pub slice_bounds-file_read-end : goal.slice_bounds-file_read-end
