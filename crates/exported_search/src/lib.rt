@@ -44,7 +44,8 @@ pub fn dofitrano_search_with(
     ensures outcome_right_with { OutcomeRightWith (call_terms released lent table.now) book.now sheet.now (outcome (search_refusal_with (call_terms released lent table.now) book.now sheet.now (length shares.old)) (run_answer (call_problem (call_terms released lent table.now) book.now sheet.now))) shares.new }
     ensures table_value { released.limited ≡ false → lent ≡ false → call_terms released lent table.now ≡ plain_terms }
 {
-    let found = search::search_with(book, sheet, released, lent, table, &mut *shares);
+    let own_table = exported_types::lent_table(lent, table);
+    let found = search::search_with(book, sheet, released, own_table, &mut *shares);
     exported_types::reply_of(found)
 }
 
