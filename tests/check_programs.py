@@ -2,8 +2,8 @@
 """See that each program is one call of a function that a test program drives through its folders.
 
 A program is run in one folder, where one that prints a constant text would pass. So its work is a function of a folder's name,
-and its main calls that function on the folder that its argument names, or on the current one, which has no name, and does nothing else;
-a number that comes before the folder is passed on.
+and its main hands that function to the one that calls it on the folder that the argument names, or on the current one, which has no name,
+and does nothing else; a number that comes before the folder is passed on.
 The programs are those that tools/programs lists, and the tables of README.md and docs/programs.md have a row for each, README.md one for
 mixreport too, which is Python. What docs/programs.md says of standard error is said by the code.
 """
@@ -30,14 +30,12 @@ PROGRAMS = {
     "mixedition": ("edition_folder::file_other", "test_rewriting", "name"),
 }
 
-MAIN = ('fn main(rt: HostRuntime) { let mut name = [0u8; 4095]; let asked = arguments::folder(&rt, b"%s", &mut name); '
-        'if asked.known { %s(&rt, file_io::first_bytes(&name, asked.len)); } }')
+MAIN = 'fn main(rt: HostRuntime) { arguments::in_folder(&rt, b"%s", %s); }'
 
 # the programs that take a number before the folder, by the word that names it in the usage
 NUMBERS = {"mixqueue": "ALLOWANCE", "mixwork": "MOVES"}
 
-MAIN_WITH_NUMBER = ('fn main(rt: HostRuntime) { let mut name = [0u8; 4095]; let task = arguments::number_and_folder(&rt, b"%s", b"%s", &mut name); '
-                    'if task.known { %s(&rt, file_io::first_bytes(&name, task.len), task.number); } }')
+MAIN_WITH_NUMBER = 'fn main(rt: HostRuntime) { arguments::in_folder_with(&rt, b"%s", b"%s", %s); }'
 
 
 def main_of(program, function):

@@ -3,7 +3,7 @@
 
 docs/refusals.md has two tables: what each number means and what to do about it, and an index. A row of the index has a number and, each with its
 file, the definition that gives it, the function that returns it and a test case. tests/check_names.py sees that these names stand in their
-files; here the number must stand in the definition and in the function, the contract of the function must write the definition, or one that is made
+files; here the number must stand in the definition, and the reason that has it in crates/refusals in the function, the contract of the function must write the definition, or one that is made
 of it, and the case must be refused by it. The numbers of both tables and of the header are the same. Of a card's numbers, each is given by one line of all the definitions; 36 by two, one for the order of
 the boats and one for a boat that is not released.
 """
@@ -67,13 +67,18 @@ def main():
     if set(meant) != set(header):
         faults.append("docs/refusals.md and include/dofitrano.h: only one of them has %s" % sorted(set(meant) ^ set(header)))
     faults += ["include/dofitrano.h: %d has no comment" % number for number in header if not header[number]]
+    reasons = {int(number): name for name, number in re.findall(r"^    (\w+) = (\d+),$", read("crates/refusals/src/lib.rt"), re.M)}
+    if set(meant) != set(reasons):
+        faults.append("docs/refusals.md and crates/refusals: only one of them has %s" % sorted(set(meant) ^ set(reasons)))
+    numbers = dict(re.findall(r"^number (\w+) = (\d+)$", read("crates/refusals/specs/Numbers.antt"), re.M))
+    faults += ["crates/refusals: %s has another number in specs/" % name for number, name in reasons.items() if numbers.get(name) != str(number)]
     differ = set(index) ^ set(meant)
     if differ:
         faults.append("docs/refusals.md: only one of its tables has %s" % sorted(differ))
     for number, cells in sorted(index.items()):
         (definition, d_file), (code, c_file), (case, t_file) = (re.findall(r"`([^`]+)`", cell) for cell in cells[:3])
         for what, ok in (("the definition %s has no such number" % definition, re.search(r"\b%d\b" % number, part(d_file, definition))),
-                         ("the function %s does not return it" % code, re.search(r"\b%d\b" % number, part(c_file, code))),
+                         ("the function %s does not return it" % code, re.search(r"\bRefusal::%s\b" % reasons.get(number), part(c_file, code))),
                          ("the contract of %s does not write %s" % (code, definition), promised(c_file, code, definition)),
                          ("%s does not have the case `%s` with this number" % (t_file, case), refused(t_file, case, number))):
             if not ok:
