@@ -1,16 +1,7 @@
 // A card with each of its bits flipped.
 ghost use Rattle.std.specs.Prelude.{◌≡◌};
 
-use method::Searched;
 use test_buffers::between;
-
-// The number that refuses a card, 0 where it is accepted.
-fn refusal(found: Searched) -> u64 {
-    match found {
-        Searched::Refused(n) => n as u64,
-        Searched::Answered(_) => 0,
-    }
-}
 
 // The bits of a byte.
 const BITS: [u8; 8] = [1, 2, 4, 8, 16, 32, 64, 128];
@@ -32,7 +23,7 @@ fn flip(
         filed[at] = x ^ mask;
         let mut slots = [7u16; 4];
         let found = card::check_card(book, sheet, between(filed, 0, len), &mut slots);
-        test_printing::number(rt, refusal(found));
+        test_printing::number(rt, test_printing::refusal_number(found));
         filed[at] = x;
     }
 }

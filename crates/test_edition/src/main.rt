@@ -3,21 +3,13 @@
 // output is made by tests/expected/test_edition.py.
 #![tactic(auto)]
 
-use method::{Answer, Searched, Verdict};
+use method::{Answer, Verdict};
 use test_buffers::between;
 
 // The last letter of an edition.
 const WCD1: u64 = 49;
 
 const WCD2: u64 = 50;
-
-// The number that refuses a card, 0 where it is accepted.
-fn refusal(found: Searched) -> u64 {
-    match found {
-        Searched::Refused(n) => n as u64,
-        Searched::Answered(_) => 0,
-    }
-}
 
 // Checks a card with a list of 20 slots that hold 7, and prints the list.
 fn checked(rt: &HostRuntime, book: &[u8], sheet: &[u8], filed: &[u8]) {
@@ -39,10 +31,8 @@ fn forged(
     let mut slots = [7u16; 20];
     test_buffers::put_number(filed, test_buffers::less(len, 32), verdict, 2);
     test_buffers::put_number(filed, test_buffers::less(len, 1), letter, 1);
-    test_printing::number(
-        rt,
-        refusal(card::check_card(book, sheet, between(filed, 0, len), &mut slots)),
-    );
+    let found = card::check_card(book, sheet, between(filed, 0, len), &mut slots);
+    test_printing::number(rt, test_printing::refusal_number(found));
 }
 
 // The same with every verdict of one edition.
@@ -86,12 +76,7 @@ fn each(rt: &HostRuntime, table: &[u8]) {
 
 // Whether an answer is Beyond.
 fn is_beyond(a: Answer) -> bool {
-    let v = a.verdict;
-    match v {
-        Verdict::Within => false,
-        Verdict::Beyond(_) => true,
-        Verdict::Spent(_) => false,
-    }
+    matches!(a.verdict, Verdict::Beyond(_))
 }
 
 // Puts a tolerance into the sheet that ends at `m`, and answers whether the search then ends Beyond.
@@ -99,8 +84,8 @@ fn ends_beyond(book: &[u8], sheet: &mut [u8], m: usize, tolerance: u64) -> bool 
     let mut shares = [0u16; 256];
     test_buffers::put_number(sheet, test_buffers::less(m, 8), tolerance, 4);
     match search::search(book, between(sheet, 0, m), &mut shares) {
-        Searched::Refused(_) => false,
-        Searched::Answered(a) => is_beyond(a),
+        Err(_) => false,
+        Ok(a) => is_beyond(a),
     }
 }
 
