@@ -1,6 +1,10 @@
 -- A sheet compared with the one that two CSVs make: a law for each return.
 use mathlib.Core.Path.{◌≡◌, refl, sym, ap, subst, ◌∙◌}
-use mathlib.Core.Bool.{Bool, true, false, ◌||◌, not, cond}
+use mathlib.Core.Bool.{Bool, true, false, ◌||◌, not, cond, true≢false}
+use Rattle.std.specs.Prelude.{⊤, Result, Ok, Err, is_err}
+use Rattle.refusals.specs.declared.Refusal.{Refusal}
+use Rattle.refusals.specs.Numbers.{refusal_number}
+use Rattle.refusals.proofs.Numbers.{positive}
 use mathlib.Core.List.{List}
 use Prim.Native.Nat.{ℕ, zero, suc, ◌≤◌}
 use native.Mathlib.Omega.{arith}
@@ -21,10 +25,18 @@ use Rattle.csv_column_match.specs.Match.{mismatch}
 use Rattle.csv_sheet.specs.declared.Made.{Made}
 use Rattle.csv_sheet.specs.Sheets.{places, csv_sheet, nothing_made, total_fault, made_by, made_at, made_of_columns, made_of_rows, made_for_fleet, sheet_made, output_at, output_by}
 use Rattle.csv_sheet.specs.Promise.{SheetAccepted, SheetRightBy, SheetRight}
-use Rattle.editions.specs.declared.Rewritten.{Rewritten}
-use Rattle.editions.specs.declared.Rewritten.TheVariants.{Refused, Wrote}
+use Rattle.editions.specs.Rewritten.{Rewritten, Refused, Wrote}
 use Rattle.editions.specs.Rewriting.{sheet_front, other_number, other_edition, edition_refusal, rewriting}
 use Rattle.csv_origin.specs.Origin.{edition_of, front_of, sheet_by, sheet_of}
+
+-- ---- the number of a result
+pub some_number : (r : Result ⊤ Refusal) → is_err r ≡ true → refusal_number r ≡ 0 → ⊥
+some_number (Ok x) e z = absurd (true≢false (sym e))
+some_number (Err x) e z = positive x z
+
+pub no_number : (r : Result ⊤ Refusal) → is_err r ≡ false → refusal_number r ≡ 0
+no_number (Ok x) e = refl
+no_number (Err x) e = absurd (true≢false e)
 
 -- ---- front text
 module _ (s : List ℕ) {n : ℕ} (e : n ≡ sheet_refusal_in 1 64 s) where

@@ -6,7 +6,6 @@
 ghost use Rattle.std.specs.Prelude.{◌≡◌};
 ghost use Rattle.csv_origin.specs.Origin.{book_of, edition_of, front_of, sheet_of};
 
-use editions::Rewritten;
 use equal_bytes::is_same;
 
 // ENTRY. Whether a book is, byte for byte, the one that csv_book makes of a CSV. A CSV with a fault makes none.
@@ -31,8 +30,8 @@ fn is_edition_of(made: &[u8], sheet: &[u8]) -> bool
     }
     let mut output = [0u8; 40000];
     match other_edition::other_edition(made, &mut output) {
-        Rewritten::Refused(_) => false,
-        Rewritten::Wrote(_, size) => is_same(&output[..size], sheet),
+        Ok(e) => is_same(&output[..e.size], sheet),
+        Err(_) => false,
     }
 }
 

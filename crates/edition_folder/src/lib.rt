@@ -2,26 +2,14 @@
 // what is printed and filed to the reference.
 #![tactic(auto)]
 
-ghost use Rattle.std.specs.Prelude.{◌≡◌};
-ghost use Rattle.editions.specs.Rewriting.{rewriting_number};
-
-use editions::Rewritten;
+use editions::Edition;
+use refusals::Refusal;
 
 // How many bytes a conversion wrote, none where it is refused.
-fn size_of(given: Rewritten) -> Option<usize> {
+fn size_of(given: Result<Edition, Refusal>) -> Option<usize> {
     match given {
-        Rewritten::Refused(_) => None,
-        Rewritten::Wrote(_, size) => Some(size),
-    }
-}
-
-// The number that refuses a conversion, 0 where none does.
-fn number_of(given: Rewritten) -> u32
-    ensures { result ≡ rewriting_number given }
-{
-    match given {
-        Rewritten::Refused(n) => n,
-        Rewritten::Wrote(_, _) => 0,
+        Ok(e) => Some(e.size),
+        Err(_) => None,
     }
 }
 
@@ -34,8 +22,9 @@ pub fn file_other(rt: &HostRuntime, folder: &[u8]) {
     let n = file_io::read_in(rt, folder, b"sheet.wsh", &mut sheet);
     let mut output = [0u8; 40000];
     let given = other_edition::other_edition(&sheet[..n], &mut output);
-    let refusal = number_of(given);
-    file_io::tell_text(rt, edition_text::known_detail(&sheet[..n], refusal));
+    if let Err(refusal) = given {
+        file_io::tell_text(rt, edition_text::known_detail(&sheet[..n], refusal));
+    }
     if file_io::replace_or_leave(rt, folder, b"other.wsh", &output, size_of(given)) {
         file_io::print(rt, edition_text::edition_line(given));
     }

@@ -11,7 +11,7 @@ use lib.ListN.{length, drop, get_or, drop_of_length-le}
 use lib.Seq.{drop-cons}
 use Rattle.frank_wolfe.specs.Vectors.{sum}
 use Rattle.files.specs.Sheet.{sheet_columns, sheet_back, sheet, WSH1, WSH2, sheet_lettered, sheet_refusal_in}
-use Rattle.files.specs.Bytes.{number, values, all_in_range, between, length_in_range, trailer, body, reaches, body_refusal}
+use Rattle.files.specs.Bytes.{number as read_number, values, all_in_range, between, length_in_range, trailer, body, reaches, body_refusal}
 use Rattle.files.specs.Limits.{file_limit, step_limit}
 use Rattle.files.proofs.Accepted.{sheet_passed}
 use Rattle.files.proofs.Refusal.{between_true}
@@ -21,10 +21,12 @@ use Rattle.text.specs.Lines.{number_line, pair_line}
 use Rattle.text.specs.Texts.{Holds, Adds}
 use Rattle.text.specs.declared.Text.{Text}
 use Rattle.text.proofs.Texts.{adds_both, adds_to_empty}
-use Rattle.editions.specs.declared.Rewritten.{Rewritten}
-use Rattle.editions.specs.declared.Rewritten.TheVariants.{Refused, Wrote}
+use Rattle.editions.specs.Rewritten.{Rewritten, Refused, Wrote}
 use Rattle.editions.specs.Rewriting.{other_edition, edition_refusal}
 use Rattle.other_edition.specs.Ending.{Convertible}
+use Rattle.refusals.specs.declared.Refusal.{Refusal}
+use Rattle.refusals.specs.declared.Refusal.TheVariants.{BookLength, BookLetters, BookBoats, BookColumns, BookBack, BookValue, SheetLength, SheetLetters, SheetColumns, SheetSteps, SheetTolerance, SheetBack, SheetValue, ShareSlots, CardRoom, CardLength, CardLetters, CardCounts, CardVerdict, CardBack, CardBoats, CardShares, CardDistance, CardTolerance, CellUnweighed, CellReading, CellUnit, QueueSheets, QueueAllowance, SheetFactors, EditionFactors, EditionRoom, TableLength, TableShare, TableTotal, ReleasedBoats, VerdictNotSpent, MovesAllowed, MergedColumns, MergedBoats, MergedRoom, ReportCards}
+use Rattle.refusals.specs.Numbers.{number}
 use Rattle.edition_text.specs.Lines.{EDITION, REFUSED, SHEET_HAS, COLUMNS_RANGE, SHEET_COLUMN, FACTOR_IS, NOT_ONE, OTHER_HAS, BYTES_LIMIT, edition_line, first_other, columns_line, factor_line, size_line, edition_detail}
 
 -- ---- the line of a conversion
@@ -109,7 +111,7 @@ few_by false k h l = l
 body_few : (back count : ℕ) (s : List ℕ) → body_refusal 16 back count 16 17 s ≤ 46
 unfolding body_refusal
 body_few back count s =
-    let own = number 0 4 (trailer 16 s) in
+    let own = read_number 0 4 (trailer 16 s) in
     few_by (not (eqb own back && reaches 16 own s)) 16 (omega arith) (few_by (all_in_range (values count (body 16 back s))) 0 {x = 17} (omega arith) (omega arith))
 
 own_few : (s : List ℕ) → sheet_refusal_in 1 64 s ≤ 46
@@ -174,6 +176,56 @@ module _ (s : List ℕ) {n : ℕ} {t : Text} where
   unfolding edition_detail
   told_48 e h = rw e h
 
-  pub told_none : (n ≡ 13 → ⊥) → (n ≡ 47 → ⊥) → (n ≡ 48 → ⊥) → Holds [] t → Holds (edition_detail s n) t
+-- the number alone is known of every other reason
+module _ (s : List ℕ) where
+  no_line : (r : Refusal) → (r ≡ SheetColumns → ⊥) → (r ≡ EditionFactors → ⊥) → (r ≡ EditionRoom → ⊥) → edition_detail s (number r) ≡ []
   unfolding edition_detail
-  told_none x y z h = rw (ne_eqb n 13 x, ne_eqb n 47 y, ne_eqb n 48 z) h
+  no_line BookLength x y z = refl
+  no_line BookLetters x y z = refl
+  no_line BookBoats x y z = refl
+  no_line BookColumns x y z = refl
+  no_line BookBack x y z = refl
+  no_line BookValue x y z = refl
+  no_line SheetLength x y z = refl
+  no_line SheetLetters x y z = refl
+  no_line SheetColumns x y z = absurd (x refl)
+  no_line SheetSteps x y z = refl
+  no_line SheetTolerance x y z = refl
+  no_line SheetBack x y z = refl
+  no_line SheetValue x y z = refl
+  no_line ShareSlots x y z = refl
+  no_line CardRoom x y z = refl
+  no_line CardLength x y z = refl
+  no_line CardLetters x y z = refl
+  no_line CardCounts x y z = refl
+  no_line CardVerdict x y z = refl
+  no_line CardBack x y z = refl
+  no_line CardBoats x y z = refl
+  no_line CardShares x y z = refl
+  no_line CardDistance x y z = refl
+  no_line CardTolerance x y z = refl
+  no_line CellUnweighed x y z = refl
+  no_line CellReading x y z = refl
+  no_line CellUnit x y z = refl
+  no_line QueueSheets x y z = refl
+  no_line QueueAllowance x y z = refl
+  no_line SheetFactors x y z = refl
+  no_line EditionFactors x y z = absurd (y refl)
+  no_line EditionRoom x y z = absurd (z refl)
+  no_line TableLength x y z = refl
+  no_line TableShare x y z = refl
+  no_line TableTotal x y z = refl
+  no_line ReleasedBoats x y z = refl
+  no_line VerdictNotSpent x y z = refl
+  no_line MovesAllowed x y z = refl
+  no_line MergedColumns x y z = refl
+  no_line MergedBoats x y z = refl
+  no_line MergedRoom x y z = refl
+  no_line ReportCards x y z = refl
+
+  pub told_none : (r : Refusal) → (r ≡ SheetColumns → ⊥) → (r ≡ EditionFactors → ⊥) → (r ≡ EditionRoom → ⊥) → {t : Text} → Holds [] t → Holds (edition_detail s (number r)) t
+  told_none r x y z h = rw (no_line r x y z) h
+
+  pub told_accepted : {t : Text} → Holds [] t → Holds (edition_detail s 0) t
+  unfolding edition_detail
+  told_accepted h = h

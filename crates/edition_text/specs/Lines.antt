@@ -3,8 +3,7 @@ use Rattle.std.specs.Prelude.{cond, List, [], ◌∷◌, ◌++◌, ℕ, suc, ◌
 use Rattle.files.specs.Sheet.{sheet_columns, sheet}
 use Rattle.text.specs.Decimal.{decimal}
 use Rattle.text.specs.Lines.{number_line, pair_line}
-use Rattle.editions.specs.declared.Rewritten.{Rewritten}
-use Rattle.editions.specs.declared.Rewritten.TheVariants.{Refused, Wrote}
+use Rattle.editions.specs.Rewritten.{Rewritten, Refused, Wrote}
 use Rattle.editions.specs.Rewriting.{other_edition}
 
 -- ---- the words

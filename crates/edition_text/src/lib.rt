@@ -5,29 +5,30 @@
 #![tactic(auto)]
 
 ghost use Rattle.std.specs.Prelude.{◌≡◌, false, ◌≤◌, ◌<◌, length};
+ghost use Rattle.refusals.specs.Numbers.{number};
 ghost use Rattle.files.specs.Sheet as Sheets;
 ghost use Rattle.files.specs.Sheet.{sheet_refusal_in};
 ghost use Rattle.factors.specs.Factors.{all_ones};
 ghost use Rattle.files.specs.Limits.{file_limit};
+ghost use Rattle.editions.specs.Rewritten.{rewritten};
 ghost use Rattle.editions.specs.Rewriting.{other_edition, edition_refusal};
 ghost use Rattle.text.specs.Texts.{Holds};
 ghost use Rattle.edition_text.specs.Lines.{edition_line, first_other, columns_line, factor_line, size_line, edition_detail};
 
-use editions::Rewritten;
+use editions::Edition;
+use refusals::Refusal;
 use text::Text;
 
 // The most bytes a file may have.
 const MOST_BYTES: usize = 40000;
 
 // ENTRY. The line of what a conversion gave back: the edition and its bytes, or the number that refuses it.
-pub fn edition_line(given: Rewritten) -> Text
-    ensures { Holds (edition_line given) result }
+pub fn edition_line(given: Result<Edition, Refusal>) -> Text
+    ensures { Holds (edition_line (rewritten given)) result }
 {
     match given {
-        Rewritten::Refused(n) => Text::empty().with_line(b"refused ", n as u64),
-        Rewritten::Wrote(edition, size) => {
-            Text::empty().with_pair(b"edition ", edition as u64, size as u64)
-        }
+        Ok(e) => Text::empty().with_pair(b"edition ", e.number as u64, e.size as u64),
+        Err(refusal) => Text::empty().with_line(b"refused ", refusal.number() as u64),
     }
 }
 
@@ -81,23 +82,21 @@ fn size_line(sheet: &[u8], size: usize) -> Text
     told.with_bytes(b"\n")
 }
 
-// What is known of a refusal of a sheet's conversion by this number, in one line; no text where the number alone is known. The caller proves
-// that it is the number for an output of 40,000 bytes, so the sheet is not judged again.
-pub fn known_detail(sheet: &[u8], refusal: u32) -> Text
-    requires { refusal ≡ edition_refusal sheet.now file_limit }
-    ensures { Holds (edition_detail sheet.now refusal) result }
+// What is known of a refusal of a sheet's conversion, in one line; no text where the number alone is known. The caller proves that it is the
+// refusal for an output of 40,000 bytes, so the sheet is not judged again.
+pub fn known_detail(sheet: &[u8], refusal: Refusal) -> Text
+    requires { number refusal ≡ edition_refusal sheet.now file_limit }
+    ensures { Holds (edition_detail sheet.now (number refusal)) result }
 {
-    if refusal == 13 {
-        return columns_line(sheet);
+    match refusal {
+        Refusal::SheetColumns => columns_line(sheet),
+        Refusal::EditionFactors => factor_line(sheet),
+        Refusal::EditionRoom => {
+            let number = other_edition::other_number(sheet);
+            size_line(sheet, other_edition::other_size(sheet, number))
+        }
+        _ => Text::empty(),
     }
-    if refusal == 47 {
-        return factor_line(sheet);
-    }
-    if refusal == 48 {
-        let number = other_edition::other_number(sheet);
-        return size_line(sheet, other_edition::other_size(sheet, number));
-    }
-    Text::empty()
 }
 
 // ENTRY. What is known of the refusal of a sheet's conversion into an output of 40,000 bytes, in one line; no text where nothing is refused, or
@@ -105,5 +104,8 @@ pub fn known_detail(sheet: &[u8], refusal: u32) -> Text
 pub fn edition_detail(sheet: &[u8]) -> Text
     ensures { Holds (edition_detail sheet.now (edition_refusal sheet.now file_limit)) result }
 {
-    known_detail(sheet, other_edition::refusal_in(sheet, MOST_BYTES))
+    match other_edition::refusal_in(sheet, MOST_BYTES) {
+        Ok(()) => Text::empty(),
+        Err(refusal) => known_detail(sheet, refusal),
+    }
 }

@@ -14,8 +14,7 @@ use Rattle.factors.specs.Factors.{all_ones}
 use Rattle.method.specs.Answers.{slots_after}
 use Rattle.method.proofs.Promise.{length_after, slots_kept}
 use Rattle.card_format.proofs.Accepted.{both_zero}
-use Rattle.editions.specs.declared.Rewritten.{Rewritten}
-use Rattle.editions.specs.declared.Rewritten.TheVariants.{Refused, Wrote}
+use Rattle.editions.specs.Rewritten.{Rewritten, Refused, Wrote}
 use Rattle.editions.specs.Rewriting.{other_number, other_edition, edition_refusal, rewriting, rewriting_number}
 use Rattle.editions.specs.Promise.{EditionRight}
 use Rattle.editions.proofs.Converting.{converted, other_second}

@@ -2,8 +2,7 @@
 use Rattle.std.specs.Prelude.{◌≡◌, cond, List, ℕ, ◌≤◌, length, take}
 use Rattle.files.specs.Sheet.{WSH1, WSH2, sheet_lettered, sheet, sheet_refusal_in}
 use Rattle.files.specs.Editions.{Editions}
-use Rattle.editions.specs.declared.Rewritten.{Rewritten}
-use Rattle.editions.specs.declared.Rewritten.TheVariants.{Refused, Wrote}
+use Rattle.editions.specs.Rewritten.{Rewritten, Refused, Wrote}
 use Rattle.editions.specs.Rewriting.{sheet_front, other_edition, edition_refusal, rewriting_number}
 use Rattle.editions.specs.Outcomes.{SameOutcomes}
 

@@ -4,8 +4,7 @@ use Rattle.files.specs.Sheet.{WSH2, sheet_lettered, target_offset, sheet, sheet_
 use Rattle.files.specs.Limits.{file_limit}
 use Rattle.factors.specs.Factors.{all_ones}
 use Rattle.sheet_output.specs.Output.{edition_bytes}
-use Rattle.editions.specs.declared.Rewritten.{Rewritten}
-use Rattle.editions.specs.declared.Rewritten.TheVariants.{Refused, Wrote}
+use Rattle.editions.specs.Rewritten.{Rewritten, Refused, Wrote}
 
 -- the front text of a sheet: what stands before its body
 unfoldable pub sheet_front : List ℕ → List ℕ

@@ -2,7 +2,7 @@
 use mathlib.Core.Path.{◌≡◌, subst}
 use mathlib.Core.List.{List}
 use Prim.Native.Nat.{ℕ}
-use Rattle.editions.specs.declared.Rewritten.{Rewritten}
+use Rattle.editions.specs.Rewritten.{Rewritten}
 use Rattle.editions.specs.Promise.{EditionRight}
 use Rattle.scale_cells.specs.declared.ScaleCell.{ScaleCell}
 use Rattle.scale_cells.specs.declared.SheetValues.{SheetValues}

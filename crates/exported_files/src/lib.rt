@@ -37,7 +37,13 @@ pub fn dofitrano_sheet_values(
     ensures conversion_right { ConversionRight book.now (flat_cells kinds.now first.now second.now units.now) result }
 {
     let cells = scale_cell_lists::cells_of(kinds, first, second, units);
-    scale_conversion::sheet_values(book, cells)
+    match scale_conversion::sheet_values(book, cells) {
+        Ok(values) => SheetValues { refusal: 0, values },
+        Err(refusal) => SheetValues {
+            refusal: refusal.number(),
+            values: [0i16; 64],
+        },
+    }
 }
 
 // ENTRY. The sheet of scale cells for other languages: that of `scale_sheet` for the cells of four lists.
@@ -54,7 +60,21 @@ pub fn dofitrano_scale_sheet(
     ensures sheet_right { SheetRight book.now (flat_cells kinds.now first.now second.now units.now) steps tolerance result }
 {
     let cells = scale_cell_lists::cells_of(kinds, first, second, units);
-    scale_sheet::scale_sheet(book, cells, steps, tolerance)
+    match scale_sheet::scale_sheet(book, cells, steps, tolerance) {
+        Ok(made) => {
+            let bytes = made.bytes;
+            ScaleSheet {
+                refusal: 0,
+                len: made.len,
+                bytes,
+            }
+        }
+        Err(refusal) => ScaleSheet {
+            refusal: refusal.number(),
+            len: 0,
+            bytes: [0u8; 144],
+        },
+    }
 }
 
 // ENTRY. A sheet in its other edition for other languages: the reply of `other_edition` for this sheet and this output, and its bytes
@@ -75,5 +95,11 @@ pub fn dofitrano_merge_books(first: &[u8], second: &[u8], output: &mut [u8]) -> 
     ensures output_after { output.new ≡ slots_after (merge_refusal first.now second.now (length output.old)) (merged_book first.now second.now) output.old }
     ensures merge_right { MergeRight first.now second.now result output.new }
 {
-    merge_books::merge_books(first, second, output)
+    match merge_books::merge_books(first, second, output) {
+        Ok(len) => Merged { refusal: 0, len },
+        Err(refusal) => Merged {
+            refusal: refusal.number(),
+            len: 0,
+        },
+    }
 }

@@ -8,8 +8,8 @@ use Rattle.method.specs.Searched.{Refused, Answered}
 use Rattle.method.specs.Answers.{verdict_number}
 use Rattle.card_format.specs.Written.{Written}
 use Rattle.card_format.specs.Written as written
-use Rattle.editions.specs.declared.Rewritten.{Rewritten}
-use Rattle.editions.specs.declared.Rewritten.TheVariants as rewritten
+use Rattle.editions.specs.Rewritten.{Rewritten}
+use Rattle.editions.specs.Rewritten as rewritten
 use Rattle.exported_types.specs.declared.Reply.{Reply}
 use Rattle.exported_types.specs.Replies.{floor_of, shortfall_of, reply_of, card_reply_of, edition_reply_of}
 

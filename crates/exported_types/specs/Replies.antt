@@ -9,8 +9,8 @@ use Rattle.card_format.specs.Written.{Written}
 use Rattle.card_format.specs.Written as written
 use Rattle.exported_types.specs.declared.Reply.{Reply}
 use Rattle.exported_types.specs.declared.CardReply.{CardReply}
-use Rattle.editions.specs.declared.Rewritten.{Rewritten}
-use Rattle.editions.specs.declared.Rewritten.TheVariants as rewritten
+use Rattle.editions.specs.Rewritten.{Rewritten}
+use Rattle.editions.specs.Rewritten as rewritten
 use Rattle.exported_types.specs.declared.EditionReply.{EditionReply}
 
 -- what Beyond carries, E - 2 G, and 0 for the others

@@ -7,10 +7,11 @@ ghost use Rattle.std.specs.Prelude.{◌≡◌, option_copied};
 ghost use Rattle.method.specs.Calls.{lent_table};
 ghost use Rattle.method.specs.Searched.{searched};
 ghost use Rattle.card_format.specs.Written.{written};
+ghost use Rattle.editions.specs.Rewritten.{rewritten};
 ghost use Rattle.exported_types.specs.Replies.{floor_of, shortfall_of, reply_of, card_reply_of, edition_reply_of};
 
 use card_format::FiledCard;
-use editions::Rewritten;
+use editions::Edition;
 use method::{Answer, Verdict};
 use refusals::Refusal;
 
@@ -139,19 +140,19 @@ pub struct EditionReply {
 }
 
 // What a conversion gives back as plain numbers.
-pub fn edition_reply_of(given: Rewritten) -> EditionReply
-    ensures { result ≡ edition_reply_of given }
+pub fn edition_reply_of(given: Result<Edition, Refusal>) -> EditionReply
+    ensures { result ≡ edition_reply_of (rewritten given) }
 {
     match given {
-        Rewritten::Refused(n) => EditionReply {
-            refusal: n,
+        Err(r) => EditionReply {
+            refusal: r.number(),
             edition: 0,
             bytes: 0,
         },
-        Rewritten::Wrote(edition, size) => EditionReply {
+        Ok(e) => EditionReply {
             refusal: 0,
-            edition,
-            bytes: size,
+            edition: e.number,
+            bytes: e.size,
         },
     }
 }

@@ -5,15 +5,18 @@
 #![tactic(auto)]
 
 ghost use Rattle.std.specs.Prelude.{◌≡◌, ◌+◌, ◌*◌, ◌≤◌, length};
+ghost use Rattle.refusals.specs.Numbers.{refusal_number};
 ghost use Rattle.files.specs.Limits.{file_limit};
 ghost use Rattle.method.specs.Answers.{slots_after};
 ghost use Rattle.buffers.specs.Placed.{placed};
+ghost use Rattle.editions.specs.Rewritten.{rewritten};
 ghost use Rattle.editions.specs.Rewriting.{other_number, other_edition, edition_refusal, rewriting};
 ghost use Rattle.editions.specs.Promise.{EditionRight};
 ghost use Rattle.other_edition.specs.Ending.{ending, Convertible};
 
 use buffers::put_bytes;
-use editions::Rewritten;
+use editions::Edition;
+use refusals::Refusal;
 
 // The most bytes a file may have.
 const MOST_BYTES: usize = 40000;
@@ -42,26 +45,23 @@ pub fn other_size(sheet: &[u8], number: u32) -> usize
     sheet.len() + columns
 }
 
-// The number that refuses the conversion into an output of `room` bytes, 0 where none does.
-pub fn refusal_in(sheet: &[u8], room: usize) -> u32
-    ensures { result ≡ edition_refusal sheet.now room }
+// Whether the conversion into an output of `room` bytes is refused.
+pub fn refusal_in(sheet: &[u8], room: usize) -> Result<(), Refusal>
+    ensures { refusal_number result ≡ edition_refusal sheet.now room }
 {
-    let own = validation::sheet_refusal_in(sheet, 1, 64);
-    if own != 0 {
-        return own;
-    }
+    validation::sheet_refusal_in(sheet, 1, 64)?;
     if !factors::is_plain(sheet) {
-        return 47;
+        return Err(Refusal::EditionFactors);
     }
     let number = other_number(sheet);
     let size = other_size(sheet, number);
     if room < size {
-        return 48;
+        return Err(Refusal::EditionRoom);
     }
     if MOST_BYTES < size {
-        return 48;
+        return Err(Refusal::EditionRoom);
     }
-    0
+    Ok(())
 }
 
 // What follows the target, from its end on: every factor 1 in the edition 2, then the trailer. The target starts at the first byte.
@@ -100,17 +100,14 @@ fn put_other(sheet: &[u8], number: u32, output: &mut [u8])
 // more than 40,000 bytes (48), and leaves the output as it was; else gives the edition and how many bytes it wrote. Later bytes are as
 // they were. The third clause says that the result is accepted, asks for the same, goes back to the same bytes, and has the same outcomes
 // on every book (EditionRight).
-pub fn other_edition(sheet: &[u8], output: &mut [u8]) -> Rewritten
-    ensures value { result ≡ rewriting (edition_refusal sheet.now (length output.old)) (other_number sheet.now) (length (other_edition sheet.now)) }
+pub fn other_edition(sheet: &[u8], output: &mut [u8]) -> Result<Edition, Refusal>
+    ensures value { rewritten result ≡ rewriting (edition_refusal sheet.now (length output.old)) (other_number sheet.now) (length (other_edition sheet.now)) }
     ensures output_after { output.new ≡ slots_after (edition_refusal sheet.now (length output.old)) (other_edition sheet.now) output.old }
-    ensures edition_right { EditionRight sheet.now result output.new }
+    ensures edition_right { EditionRight sheet.now (rewritten result) output.new }
 {
-    let refusal = refusal_in(sheet, output.len());
-    if refusal != 0 {
-        return Rewritten::Refused(refusal);
-    }
+    refusal_in(sheet, output.len())?;
     let number = other_number(sheet);
     let size = other_size(sheet, number);
     put_other(sheet, number, output);
-    Rewritten::Wrote(number, size)
+    Ok(Edition { number, size })
 }

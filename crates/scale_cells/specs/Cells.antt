@@ -1,7 +1,9 @@
 -- The sheet value of a scale cell, and what refuses cells. Definitions only.
-use Rattle.std.specs.Prelude.{Bool, true, false, ◌&&◌, not, cond, List, [], ◌∷◌, ◌++◌, map, ℕ, zero, suc, ◌-◌, eqb, ℤ, pos, length, take, replicate, Float}
+use Rattle.std.specs.Prelude.{Bool, true, false, ◌&&◌, not, cond, List, [], ◌∷◌, ◌++◌, map, ℕ, zero, suc, ◌-◌, eqb, ℤ, pos, length, take, replicate, Float, Result, Ok, Err}
 use Rattle.std.specs.Float.{nan, binary64}
 use Rattle.std.specs.Float.Ieee.{sub}
+use Rattle.refusals.specs.declared.Refusal.{Refusal}
+use Rattle.refusals.specs.Numbers.{number}
 use Rattle.files.specs.Bytes.{between, in_range}
 use Rattle.files.specs.Book.{columns, book_refusal}
 use Rattle.rounding.specs.Rounding.{rounded}
@@ -53,3 +55,8 @@ values_after (suc n) vs = replicate 64 (pos 0)
 
 unfoldable pub sheet_values : (book : List ℕ) → List ScaleCell → SheetValues
 sheet_values b cs = record { refusal = scale_refusal b cs; values = values_after (scale_refusal b cs) (map cell_value (read_cells b cs)) }
+
+-- the same of a result of the code: the values, or the reason
+abbrev pub as_values : Result (List ℤ) Refusal → SheetValues
+as_values (Ok vs) = record { refusal = 0; values = vs }
+as_values (Err r) = record { refusal = number r; values = replicate 64 (pos 0) }

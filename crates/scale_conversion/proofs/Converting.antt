@@ -18,8 +18,7 @@ use Rattle.scale_cells.specs.Promise.{unweighed, cell_at}
 use Rattle.files.proofs.Values.{in_range_bound}
 use Rattle.scale_cells.proofs.Judging.{cell_in_range}
 use Rattle.scale_cells.proofs.Values.{default_value, refused_here, passed_here}
-use Rattle.scale_conversion.specs.declared.Outcome.{Outcome}
-use Rattle.scale_conversion.specs.Outcomes.{cell_outcome, outcome_of, values_of}
+use Rattle.scale_conversion.specs.Outcomes.{Outcome, cell_outcome, outcome_of, values_of}
 
 -- the fields of an outcome
 outcome_refusal : (n : ℕ) (v : ℤ) → (outcome_of n v).refusal ≡ n

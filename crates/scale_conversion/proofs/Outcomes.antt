@@ -19,22 +19,26 @@ use Rattle.scale_cells.specs.declared.Weighing.{Weighing}
 use Rattle.scale_cells.specs.declared.ScaleCell.{ScaleCell}
 use Rattle.scale_cells.specs.Cells.{is_weighed, net, cell_value, cell_refusal}
 use Rattle.scale_cells.proofs.Judging.{gives_41, gives_42, gives_43, gives_0}
-use Rattle.scale_conversion.specs.declared.Outcome.{Outcome}
-use Rattle.scale_conversion.specs.Outcomes.{net_cell, cell_outcome, outcome_of}
+use Rattle.std.specs.Prelude.{Ok, Err}
+use Rattle.refusals.specs.declared.Refusal.{Refusal}
+use Rattle.refusals.specs.declared.Refusal.TheVariants.{CellUnweighed, CellReading, CellUnit}
+use Rattle.refusals.specs.Numbers.{number}
+use Rattle.refusals.proofs.Numbers.{positive}
+use Rattle.scale_conversion.specs.Outcomes.{Outcome, outcome, net_cell, cell_outcome, outcome_of}
 
-pub refused_by : (n : ℕ) → ◌≡◌ {A = Outcome} (record { refusal = n; value = pos 0 }) (outcome_of n (pos 0))
+refused_by : (n : ℕ) (v : ℤ) → (n ≡ 0 → ⊥) → ◌≡◌ {A = Outcome} (record { refusal = n; value = pos 0 }) (outcome_of n v)
 unfolding outcome_of
-refused_by zero = refl
-refused_by (suc n) = refl
+refused_by zero v h = absurd (h refl)
+refused_by (suc n) v h = refl
 
 -- whole kilograms that are read back from their bits
 pub kilograms_small : (k : ℤ) → nat_abs k ≤ 9007199254740992 → nat_abs (to_z w64 (of_z w64 k)) ≤ 9007199254740992
 kilograms_small k h = rw (read w64 9007199254740992 h tt) h
 
 -- a cell that is refused
-by_number : (s : ScaleCell) (n : ℕ) → cell_refusal s ≡ suc n → outcome_of (suc n) (pos 0) ≡ cell_outcome s
-unfolding cell_outcome outcome_of
-by_number s n e = rw e
+by_number : (s : ScaleCell) (r : Refusal) → cell_refusal s ≡ number r → outcome (Err r) ≡ cell_outcome s
+unfolding cell_outcome
+by_number s r e = rw e (refused_by (number r) (cell_value s) (positive r))
 
 -- ---- a value outside the range, and inside
 too_low : (v : ℤ) → lt_z v (negsuc 1999) ≡ true → in_range v ≡ false
@@ -65,29 +69,29 @@ module _ (x : Float) (u : ℕ) where
   unfolding net
   limit_is e = e
 
-  pub net_beyond : within_limit x ≡ false → outcome_of 42 (pos 0) ≡ cell_outcome s
-  net_beyond l = by_number s 41 (gives_42 s (net_weighed x u) (limit_is l))
+  pub net_beyond : within_limit x ≡ false → outcome (Err CellReading) ≡ cell_outcome s
+  net_beyond l = by_number s CellReading (gives_42 s (net_weighed x u) (limit_is l))
 
   pub value_is : {k v : ℤ} → k ≡ whole x → v ≡ rounded k u → v ≡ cell_value s
   unfolding cell_value net
   value_is ek ev = ev ∙ rw ek
 
   module _ (l : within_limit x ≡ true) where
-    outside : between 1 10000 u && in_range (cell_value s) ≡ false → outcome_of 43 (pos 0) ≡ cell_outcome s
-    outside f = by_number s 42 (gives_43 s (net_weighed x u) (limit_is l) f)
+    outside : between 1 10000 u && in_range (cell_value s) ≡ false → outcome (Err CellUnit) ≡ cell_outcome s
+    outside f = by_number s CellUnit (gives_43 s (net_weighed x u) (limit_is l) f)
 
-    pub unit_outside : between 1 10000 u ≡ false → outcome_of 43 (pos 0) ≡ cell_outcome s
+    pub unit_outside : between 1 10000 u ≡ false → outcome (Err CellUnit) ≡ cell_outcome s
     unit_outside f = outside (rw f)
 
     -- y is the value
     module _ {y : ℤ} (ey : y ≡ cell_value s) where
-      value_outside : in_range y ≡ false → outcome_of 43 (pos 0) ≡ cell_outcome s
+      value_outside : in_range y ≡ false → outcome (Err CellUnit) ≡ cell_outcome s
       value_outside f = outside (rw (← ey, f) (and-false (between 1 10000 u)))
 
-      pub value_low : lt_z y (negsuc 1999) ≡ true → outcome_of 43 (pos 0) ≡ cell_outcome s
+      pub value_low : lt_z y (negsuc 1999) ≡ true → outcome (Err CellUnit) ≡ cell_outcome s
       value_low h = value_outside (too_low y h)
 
-      pub value_high : lt_z (pos 2000) y ≡ true → outcome_of 43 (pos 0) ≡ cell_outcome s
+      pub value_high : lt_z (pos 2000) y ≡ true → outcome (Err CellUnit) ≡ cell_outcome s
       value_high h = value_outside (too_high y h)
 
       module _ (h : lt_z y (negsuc 1999) ≡ false) (k : lt_z (pos 2000) y ≡ false) where
@@ -97,15 +101,15 @@ module _ (x : Float) (u : ℕ) where
         pub value_fits : SFits w16 y
         value_fits = fits w16 2000 small tt
 
-        pub value_inside : between 1 10000 u ≡ true → ◌≡◌ {A = Outcome} (record { refusal = 0; value = to_z w16 (of_z w16 y) }) (cell_outcome s)
+        pub value_inside : between 1 10000 u ≡ true → ◌≡◌ {A = Outcome} (outcome (Ok (to_z w16 (of_z w16 y)))) (cell_outcome s)
         unfolding cell_outcome outcome_of
         value_inside b = rw (gives_0 s (net_weighed x u) (limit_is l) (rw (b, ← ey) (inside y h k)), read w16 2000 small tt, ey)
 
 -- ---- a cell in its three cases
 module _ (s : ScaleCell) where
-  pub unweighed_refused : s.cell ≡ Unweighed → outcome_of 41 (pos 0) ≡ cell_outcome s
+  pub unweighed_refused : s.cell ≡ Unweighed → outcome (Err CellUnweighed) ≡ cell_outcome s
   unfolding is_weighed
-  unweighed_refused e = by_number s 40 (gives_41 s (rw e))
+  unweighed_refused e = by_number s CellUnweighed (gives_41 s (rw e))
 
   pub net_given : {x : Float} → s.cell ≡ Net x → cell_outcome (net_cell x s.unit) ≡ cell_outcome s
   net_given e = ap (λ c. cell_outcome (record { cell = c; unit = s.unit })) (sym e)

@@ -43,30 +43,30 @@ module _ (b : List ℕ) (cs : List ScaleCell) (k t : ℕ) (L : length cs ≡ 64)
   Given r = (r ≡ scale_sheet b cs k t) × SheetRight b cs k t r
 
   -- ---- refusals
-  refused_by : (n : ℕ) → scale_sheet_refusal b cs k t ≡ suc n → Reason b cs k t (suc n) → {r : ScaleSheet} → r ≡ refused_sheet (suc n) → Given r
+  refused_by : (n : ℕ) → scale_sheet_refusal b cs k t ≡ suc n → Reason b cs k t (suc n) → Given (refused_sheet (suc n))
   unfolding scale_sheet sheet_after SheetRightBy
-  refused_by n e why {r} er = (er ∙ rw e refl, subst (λ (x : ScaleSheet). SheetRight b cs k t x) (sym er) (refl, why))
+  refused_by n e why = (rw e refl, (refl, why))
 
-  pub cells_refused : (n : ℕ) → scale_refusal b cs ≡ n → (n ≡ 0 → ⊥) → {r : ScaleSheet} → r ≡ refused_sheet n → Given r
+  pub cells_refused : (n : ℕ) → scale_refusal b cs ≡ n → (n ≡ 0 → ⊥) → Given (refused_sheet n)
   unfolding sheet_values ValuesRight scale_sheet_refusal
-  cells_refused zero e h er = absurd (h refl)
-  cells_refused (suc n) e h er =
+  cells_refused zero e h = absurd (h refl)
+  cells_refused (suc n) e h =
       refused_by n (rw (ne_eqb (scale_refusal b cs) 0 (λ z. h (sym e ∙ z))) e)
-      (by_cells (suc n) (subst (λ (m : ℕ). ValuesRight b cs m (sheet_values b cs).values) e (conversion_right b cs L).right)) er
+      (by_cells (suc n) (subst (λ (m : ℕ). ValuesRight b cs m (sheet_values b cs).values) e (conversion_right b cs L).right))
 
   accepted_values : scale_refusal b cs ≡ 0 → ValuesAccepted b cs (sheet_values b cs).values
   unfolding sheet_values ValuesRight
   accepted_values z = subst (λ (m : ℕ). ValuesRight b cs m (sheet_values b cs).values) z (conversion_right b cs L).right
 
-  pub steps_refused : scale_refusal b cs ≡ 0 → between 1 step_limit k ≡ false → {r : ScaleSheet} → r ≡ refused_sheet 14 → Given r
+  pub steps_refused : scale_refusal b cs ≡ 0 → between 1 step_limit k ≡ false → Given (refused_sheet 14)
   unfolding scale_sheet_refusal
-  steps_refused z e er = refused_by 13 (rw (eq-eqb (scale_refusal b cs) 0 z, e)) (by_steps z (steps_outside k e)) er
+  steps_refused z e = refused_by 13 (rw (eq-eqb (scale_refusal b cs) 0 z, e)) (by_steps z (steps_outside k e))
 
-  pub tolerance_refused : scale_refusal b cs ≡ 0 → between 1 step_limit k ≡ true → 1024000000 < t → {r : ScaleSheet} → r ≡ refused_sheet 15 → Given r
+  pub tolerance_refused : scale_refusal b cs ≡ 0 → between 1 step_limit k ≡ true → 1024000000 < t → Given (refused_sheet 15)
   unfolding scale_sheet_refusal
-  tolerance_refused z e l er =
+  tolerance_refused z e l =
       let p = between_true 1 step_limit k e in
-      refused_by 14 (rw (eq-eqb (scale_refusal b cs) 0 z, e, lt-ltb 1024000000 t l)) (by_tolerance z p.0 p.1 l) er
+      refused_by 14 (rw (eq-eqb (scale_refusal b cs) 0 z, e, lt-ltb 1024000000 t l)) (by_tolerance z p.0 p.1 l)
 
 -- what the last test leaves
 pub record Passed (b : List ℕ) (cs : List ScaleCell) (k t : ℕ) : Type 0 where

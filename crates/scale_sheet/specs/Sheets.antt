@@ -1,5 +1,7 @@
 -- The sheet that scale cells, steps and a tolerance give. Definitions only.
-use Rattle.std.specs.Prelude.{not, cond, List, ◌++◌, map, ℕ, zero, suc, ◌-◌, eqb, ltb, length, replicate}
+use Rattle.std.specs.Prelude.{not, cond, List, ◌++◌, map, ℕ, zero, suc, ◌-◌, eqb, ltb, length, replicate, Result, Ok, Err}
+use Rattle.refusals.specs.declared.Refusal.{Refusal}
+use Rattle.refusals.specs.Numbers.{number}
 use Rattle.frank_wolfe.specs.Vectors.{ones}
 use Rattle.files.specs.Bytes.{between}
 use Rattle.files.specs.Book.{columns}
@@ -8,6 +10,7 @@ use Rattle.files.specs.Limits.{step_limit}
 use Rattle.scale_cells.specs.declared.ScaleCell.{ScaleCell}
 use Rattle.scale_cells.specs.Cells.{cell_value, read_cells, scale_refusal}
 use Rattle.sheet_output.specs.Output.{sheet_bytes}
+use Rattle.scale_sheet.specs.declared.MadeSheet.{MadeSheet}
 use Rattle.scale_sheet.specs.declared.ScaleSheet.{ScaleSheet}
 
 -- the first refusal that applies: 1 to 6, then 41 to 43 cell by cell, then 14, then 15; 0 if none does
@@ -25,6 +28,11 @@ asked b cs k t = record { target = map cell_value (read_cells b cs); factors = o
 -- no byte
 abbrev pub refused_sheet : (refusal : ℕ) → ScaleSheet
 refused_sheet n = record { refusal = n; len = 0; bytes = replicate 144 0 }
+
+-- of a result of the code: a made sheet, or the reason
+abbrev pub as_sheet : Result MadeSheet Refusal → ScaleSheet
+as_sheet (Ok m) = record { refusal = 0; len = m.len; bytes = m.bytes }
+as_sheet (Err r) = refused_sheet (number r)
 
 -- by number: 0 gives these bytes and zeros behind them, any other number refuses
 unfoldable pub sheet_after : (refusal : ℕ) → List ℕ → ScaleSheet

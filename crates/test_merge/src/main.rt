@@ -23,11 +23,7 @@ fn merged_within(
 fn merged(rt: &HostRuntime, first: &[u8], second: &[u8], room: usize) {
     let mut output = [7u8; merged_book::MOST_BYTES];
     let made = merged_within(first, second, &mut output, room);
-    let refused = match made {
-        Ok(_) => 0,
-        Err(refusal) => refusal.number(),
-    };
-    test_printing::line(rt, b"refused", refused as u64);
+    test_printing::line(rt, b"refused", test_printing::refusal_number(made));
     test_printing::line(rt, b"bytes", made.unwrap_or(0) as u64);
     test_printing::line(rt, b"sum", test_buffers::checksum(&output));
 }

@@ -95,8 +95,8 @@ pub fn refused(rt: &HostRuntime, refusal: Refusal) {
     line(rt, b"refused", refusal.number() as u64);
 }
 
-// The number of a refusal, 0 of an answer.
-pub fn refusal_number(found: Result<Answer, Refusal>) -> u64 {
+// The number of a refusal, 0 where there is none.
+pub fn refusal_number<T: Copy>(found: Result<T, Refusal>) -> u64 {
     match found {
         Ok(_) => 0,
         Err(refusal) => refusal.number() as u64,

@@ -2,15 +2,16 @@
 // another. The cases and folders are made by tests/make_data.py, the expected output by tests/expected/test_rewriting.py.
 #![tactic(auto)]
 
-use editions::Rewritten;
+use editions::Edition;
+use refusals::Refusal;
 use test_buffers::{between, u16_at};
 
 // Prints the line of a conversion; gives back how many bytes it wrote.
-fn size_of(rt: &HostRuntime, given: Rewritten) -> usize {
+fn size_of(rt: &HostRuntime, given: Result<Edition, Refusal>) -> usize {
     file_io::print(rt, edition_text::edition_line(given));
     match given {
-        Rewritten::Refused(_) => 0,
-        Rewritten::Wrote(_, size) => size,
+        Ok(e) => e.size,
+        Err(_) => 0,
     }
 }
 
@@ -20,11 +21,7 @@ fn rewritten(rt: &HostRuntime, sheet: &[u8], buffer: &mut [u8], room: usize) -> 
     if buffer.len() < room {
         return size_of(rt, other_edition::other_edition(sheet, buffer));
     }
-    let start = 0;
-    size_of(
-        rt,
-        other_edition::other_edition(sheet, &mut buffer[start..room]),
-    )
+    size_of(rt, other_edition::other_edition(sheet, &mut buffer[..room]))
 }
 
 // Converts a sheet into an output of `room` bytes and back into one of 50,000, and prints what is known of a refusal and a sum over each

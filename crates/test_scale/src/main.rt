@@ -3,8 +3,9 @@
 
 mod draws;
 
-use scale_cells::{ScaleCell, SheetValues};
-use scale_sheet::ScaleSheet;
+use refusals::Refusal;
+use scale_cells::ScaleCell;
+use scale_sheet::MadeSheet;
 use test_buffers::between;
 
 // Puts a fleet book of one boat, or of none, and gives back where it ends.
@@ -31,22 +32,26 @@ fn print_first(rt: &HostRuntime, values: [i16; 64]) {
     }
 }
 
-// A line of the refusal, the first values and a sum of all 64.
-fn print_found(rt: &HostRuntime, found: SheetValues) {
-    let values = found.values;
+// A line of the refusal, the first values and a sum of all 64, each 0 where there are none.
+fn print_found(rt: &HostRuntime, found: Result<[i16; 64], Refusal>) {
     test_printing::word(rt, b"values");
-    test_printing::number(rt, found.refusal as u64);
+    test_printing::number(rt, test_printing::refusal_number(found));
+    let values = found.unwrap_or([0i16; 64]);
     print_first(rt, values);
     test_printing::number(rt, sum(values));
     test_printing::word(rt, b"\n");
 }
 
-// A line of the refusal, the length and a sum of the bytes.
-fn print_made(rt: &HostRuntime, made: ScaleSheet) {
+// A line of the refusal, the length and a sum of the bytes, each 0 where there is no sheet.
+fn print_made(rt: &HostRuntime, made: Result<MadeSheet, Refusal>) {
     test_printing::word(rt, b"sheet");
-    test_printing::number(rt, made.refusal as u64);
-    test_printing::number(rt, made.len as u64);
-    let bytes = made.bytes;
+    test_printing::number(rt, test_printing::refusal_number(made));
+    let sheet = made.unwrap_or(MadeSheet {
+        len: 0,
+        bytes: [0u8; 144],
+    });
+    test_printing::number(rt, sheet.len as u64);
+    let bytes = sheet.bytes;
     test_printing::number(rt, test_buffers::checksum(&bytes));
     test_printing::word(rt, b"\n");
 }

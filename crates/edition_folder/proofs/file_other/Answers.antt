@@ -4,4 +4,4 @@ use borrow.Author.Rules.{rules}
 use Rattle.edition_folder.proofs.file_other.Goals as goal
 
 pub known_detail-requires : goal.known_detail-requires
-known_detail-requires c = number_known c.number_of-refusal.ensures c.other_edition-given.ensures.edition_right (search rules)
+known_detail-requires c = number_known c.in-Err.is c.other_edition-given.ensures.edition_right (search rules)

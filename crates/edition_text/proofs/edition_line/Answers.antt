@@ -1,10 +1,11 @@
 -- `edition_text::edition_line` meets its contract.
+use mathlib.Core.Path.{ap}
+use Rattle.editions.specs.Rewritten.{rewritten}
 use Rattle.edition_text.proofs.Telling.{refused_told, wrote_told}
-use borrow.Author.Rules.{rules}
 use Rattle.edition_text.proofs.edition_line.Goals as goal
 
-pub returns-in-Refused : goal.returns-in-Refused
-returns-in-Refused c = search (rules, refused_told)
+pub returns-in-Ok : goal.returns-in-Ok
+returns-in-Ok c = wrote_told _ _ (ap rewritten c.in-Ok.is) c.empty.ensures c.with_pair.ensures.adds
 
-pub returns-in-Wrote : goal.returns-in-Wrote
-returns-in-Wrote c = search (rules, wrote_told)
+pub returns-in-Err : goal.returns-in-Err
+returns-in-Err c = refused_told _ (ap rewritten c.in-Err.is) c.empty-in-Err.ensures (rw c.number.ensures at c.with_line.ensures.adds)

@@ -2,7 +2,6 @@
 use mathlib.Core.Path.{ap, ◌∙◌}
 use Rattle.exported_types.specs.Replies.{edition_reply_of}
 use Rattle.exported_files.proofs.Promises.{edition_right}
-use borrow.Author.Rules.{rules}
 use Rattle.exported_files.proofs.dofitrano_other_edition.Goals as goal
 
 pub returns : goal.returns

@@ -1,10 +1,11 @@
 -- `exported_types::edition_reply_of` meets its contract.
+use mathlib.Core.Path.{ap}
+use Rattle.editions.specs.Rewritten.{rewritten}
 use Rattle.exported_types.proofs.Replying.{edition_refused, edition_wrote}
-use borrow.Author.Rules.{rules}
 use Rattle.exported_types.proofs.edition_reply_of.Goals as goal
 
-pub returns-in-Refused : goal.returns-in-Refused
-returns-in-Refused c = search (rules, edition_refused)
+pub returns-in-Err : goal.returns-in-Err
+returns-in-Err c = rw c.number.ensures (edition_refused (ap rewritten c.in-Err.is))
 
-pub returns-in-Wrote : goal.returns-in-Wrote
-returns-in-Wrote c = search (rules, edition_wrote)
+pub returns-in-Ok : goal.returns-in-Ok
+returns-in-Ok c = edition_wrote (ap rewritten c.in-Ok.is)

@@ -4,7 +4,7 @@ use Rattle.method.specs.Searched.{searched}
 use Rattle.exported_types.proofs.Replying.{answered}
 use mir.Facts.{to_z-of_z}
 use Rattle.exported_types.specs.Replies.{reply_of}
-use borrow.Author.Rules.{rules, sfits_of}
+use borrow.Author.Rules.{sfits_of}
 use mir.Syntax.{w64}
 use Rattle.exported_types.proofs.reply_of.Goals as goal
 

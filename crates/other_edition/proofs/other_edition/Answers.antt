@@ -4,29 +4,32 @@ use Rattle.files.proofs.Accepted.{sheet_passed}
 use Rattle.files.proofs.Numbers.{all_bytes_known}
 use Rattle.editions.proofs.Rewriting.{passes, refused, wrote}
 use Rattle.other_edition.proofs.Putting.{placed_after}
+use Rattle.refusals.proofs.Numbers.{positive}
+use Rattle.std.proofs.lemmas.Result.{err_from_is_err_and}
 use Rattle.other_edition.proofs.other_edition.Goals as goal
 
-pub returns-then-refusal-ne0 : goal.returns-then-refusal-ne0
-returns-then-refusal-ne0 c =
+pub returns-in_err-refusal_in : goal.returns-in_err-refusal_in
+returns-in_err-refusal_in c =
     let h = all_bytes_known _ c.shared_slice_known-1.given in
-    let q = refused _ c.args.output.now h _ c.refusal_in-refusal.ensures c.if-refusal-ne0.true in
-    record { value = q.0; output_after = q.1.0; edition_right = q.1.1 }
+    let p = err_from_is_err_and c.from_residual.result c.from_residual.ensures.1 in
+    let q = refused _ c.args.output.now h _ c.in_err-refusal_in.ensures (positive _) in
+    rw (p.1, p.2) (record { value = q.0; output_after = q.1.0; edition_right = q.1.1 })
 
 pub other_number-number-requires : goal.other_number-number-requires
-other_number-number-requires c = (sheet_passed 1 64 _ (passes _ _ (sym c.refusal_in-refusal.ensures ∙ c.if-refusal-ne0.false)).own).fits.at_least
+other_number-number-requires c = (sheet_passed 1 64 _ (passes _ _ (sym c.in_ok-refusal_in.ensures)).own).fits.at_least
 
 pub other_size-size-requires : goal.other_size-size-requires
 other_size-size-requires c =
-    let passed = passes _ _ (sym c.refusal_in-refusal.ensures ∙ c.if-refusal-ne0.false) in
+    let passed = passes _ _ (sym c.in_ok-refusal_in.ensures) in
     record { convertible = (passed.own, passed.plain); number_value = c.other_number-number.ensures }
 
 pub put_other-requires : goal.put_other-requires
 put_other-requires c =
-    let passed = passes _ _ (sym c.refusal_in-refusal.ensures ∙ c.if-refusal-ne0.false) in
+    let passed = passes _ _ (sym c.in_ok-refusal_in.ensures) in
     record { convertible = (passed.own, passed.plain); number_value = c.other_number-number.ensures; sheet_in_bounds = passed.fits }
 
 pub returns : goal.returns
 returns c =
     let h = all_bytes_known _ c.shared_slice_known-1.given in
-    let q = wrote _ c.args.output.now h (sym c.refusal_in-refusal.ensures ∙ c.if-refusal-ne0.false) _ c.other_number-number.ensures _ c.other_size-size.ensures (c.put_other.ensures ∙ placed_after _ _) in
+    let q = wrote _ c.args.output.now h (sym c.in_ok-refusal_in.ensures) _ c.other_number-number.ensures _ c.other_size-size.ensures (c.put_other.ensures ∙ placed_after _ _) in
     record { value = q.0; output_after = q.1.0; edition_right = q.1.1 }

@@ -1,5 +1,5 @@
 -- `scale_conversion::net_outcome` meets its contract: a law of `Outcomes` for each return.
-use borrow.Author.Rules.{rules, sfits_of}
+use borrow.Author.Rules.{sfits_of}
 use mathlib.Core.Path.{◌≡◌, sym, ◌∙◌}
 use mathlib.Core.Bool.{true}
 use native.Mathlib.Omega.{arith}
@@ -15,12 +15,12 @@ use Rattle.scale_conversion.proofs.Outcomes.{kilograms_small, net_beyond, unit_o
 use Rattle.scale_conversion.proofs.net_outcome.Goals as goal
 
 pub returns-then-not-is_within_limit : goal.returns-then-not-is_within_limit
-returns-then-not-is_within_limit c = c.refused.ensures ∙ net_beyond _ _ (sym c.is_within_limit.ensures ∙ c.if-not-is_within_limit.true)
+returns-then-not-is_within_limit c = net_beyond _ _ (sym c.is_within_limit.ensures ∙ c.if-not-is_within_limit.true)
 
 pub returns-then-not-is_between : goal.returns-then-not-is_between
 returns-then-not-is_between c =
     let limit-passed : within_limit c.args.net ≡ true = sym c.is_within_limit.ensures ∙ c.if-not-is_within_limit.false in
-    c.refused-then-not-is_between.ensures ∙ unit_outside _ _ limit-passed (sym c.is_between.ensures ∙ c.if-not-is_between.true)
+    unit_outside _ _ limit-passed (sym c.is_between.ensures ∙ c.if-not-is_between.true)
 
 pub whole_kilograms-requires : goal.whole_kilograms-requires
 whole_kilograms-requires c =
@@ -36,16 +36,16 @@ pub returns-then-value-ltminus2000 : goal.returns-then-value-ltminus2000
 returns-then-value-ltminus2000 c =
     let limit-passed : within_limit c.args.net ≡ true = sym c.is_within_limit.ensures ∙ c.if-not-is_within_limit.false in
     let value : (let a = c.args in to_z w64 (of_z w64 c.rounded-value.result) ≡ cell_value (net_cell a.net a.unit)) = to_z-of_z {w = w64} (sfits_of c.rounded-value.type_inv) ∙ value_is _ _ (to_z-of_z {w = w64} (sfits_of c.whole_kilograms.type_inv) ∙ c.whole_kilograms.ensures.0) c.rounded-value.ensures in
-    c.refused-then-value-ltminus2000.ensures ∙ value_low _ _ limit-passed value c.if-value-ltminus2000.true
+    value_low _ _ limit-passed value c.if-value-ltminus2000.true
 
 pub returns-then-value-gt2000 : goal.returns-then-value-gt2000
 returns-then-value-gt2000 c =
     let limit-passed : within_limit c.args.net ≡ true = sym c.is_within_limit.ensures ∙ c.if-not-is_within_limit.false in
     let value : (let a = c.args in to_z w64 (of_z w64 c.rounded-value.result) ≡ cell_value (net_cell a.net a.unit)) = to_z-of_z {w = w64} (sfits_of c.rounded-value.type_inv) ∙ value_is _ _ (to_z-of_z {w = w64} (sfits_of c.whole_kilograms.type_inv) ∙ c.whole_kilograms.ensures.0) c.rounded-value.ensures in
-    c.refused-then-value-gt2000.ensures ∙ value_high _ _ limit-passed value c.if-value-gt2000.true
+    value_high _ _ limit-passed value c.if-value-gt2000.true
 
-pub overflow_cast-small : goal.overflow_cast-small
-overflow_cast-small c =
+pub overflow_cast-result : goal.overflow_cast-result
+overflow_cast-result c =
     let limit-passed : within_limit c.args.net ≡ true = sym c.is_within_limit.ensures ∙ c.if-not-is_within_limit.false in
     let value : (let a = c.args in to_z w64 (of_z w64 c.rounded-value.result) ≡ cell_value (net_cell a.net a.unit)) = to_z-of_z {w = w64} (sfits_of c.rounded-value.type_inv) ∙ value_is _ _ (to_z-of_z {w = w64} (sfits_of c.whole_kilograms.type_inv) ∙ c.whole_kilograms.ensures.0) c.rounded-value.ensures in
     value_fits _ _ limit-passed value c.if-value-ltminus2000.false c.if-value-gt2000.false

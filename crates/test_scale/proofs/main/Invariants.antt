@@ -1,5 +1,5 @@
 -- `test_scale::main` meets its contract.
-use Prim.Native.Nat.{◌-◌, ◌≤◌}
+use Prim.Native.Nat.{◌≤◌}
 use Rattle.test_scale.proofs.main.Given as goal
 
 abbrev pub invariant-loop-number : goal.invariant-loop-number
