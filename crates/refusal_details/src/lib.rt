@@ -176,16 +176,12 @@ pub fn known_detail(book: &[u8], sheet: &[u8], refusal: u32) -> Text
     requires { files_refusal book.now sheet.now ≡ refusal }
     ensures { Holds (detail book.now sheet.now refusal) result }
 {
-    if refusal == 6 {
-        return value_line(book);
+    match refusal {
+        6 => value_line(book),
+        13 => columns_line(book, sheet),
+        17 => target_line(book, sheet),
+        _ => Text::empty(),
     }
-    if refusal == 13 {
-        return columns_line(book, sheet);
-    }
-    if refusal == 17 {
-        return target_line(book, sheet);
-    }
-    Text::empty()
 }
 
 // ENTRY. What is known of a refusal of a book and a sheet, in one line; no text where another number or none refuses them, or nothing more
