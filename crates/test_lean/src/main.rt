@@ -2,13 +2,14 @@
 // folders are made by tests/leanings.py, the expected output by tests/expected/test_lean.py.
 #![tactic(auto)]
 
+use refusals::Refusal;
 use test_buffers::{between, u16_at};
 
-// Where the next pair of a file of cases starts, and what refused so far.
+// Where the next pair of a file of cases starts, and what refused one so far.
 #[derive(Clone, Copy)]
 struct Walk {
     at: usize,
-    refusal: u32,
+    checked: Result<(), Refusal>,
 }
 
 // Checks the pair that starts at `w.at`, two lengths of 2 bytes each and both files, unless something was refused.
@@ -17,20 +18,28 @@ fn pair(book: &[u8], cases: &[u8], w: Walk, before: usize, slots: &mut [u16]) ->
     let sheet = at + 4;
     let filed = sheet + u16_at(cases, at) as usize;
     let end = filed + u16_at(cases, at + 2) as usize;
-    if w.refusal != 0 {
+    if w.checked.is_err() {
         return Walk {
             at: end,
-            refusal: w.refusal,
+            checked: w.checked,
         };
     }
-    let refusal = lean_cards::lean_card(
+    let checked = lean_cards::lean_card(
         book,
         between(cases, sheet, filed),
         between(cases, filed, end),
         before,
         slots,
     );
-    Walk { at: end, refusal }
+    Walk { at: end, checked }
+}
+
+// The number of what refused one, 0 where nothing did.
+fn number_of(checked: Result<(), Refusal>) -> u32 {
+    match checked {
+        Ok(()) => 0,
+        Err(refusal) => refusal.number(),
+    }
 }
 
 // Prints the report of `cards` cards, of which `pairs` pairs are there to be read from `start` on. Gives back where the next case starts.
@@ -45,12 +54,15 @@ fn report(
     let mut slots = [7u16; leaning::MOST_SLOTS];
     let mut w = Walk {
         at: start,
-        refusal: lean_cards::lean_start(book, cards),
+        checked: lean_cards::lean_start(book, cards),
     };
     for k in 0..pairs {
         w = pair(book, cases, w, k, &mut slots);
     }
-    file_io::print(rt, lean_listing::lean_text(book, w.refusal, cards, &slots));
+    file_io::print(
+        rt,
+        lean_listing::lean_text(book, number_of(w.checked), cards, &slots),
+    );
     w.at
 }
 
