@@ -1,12 +1,11 @@
 -- Texts with the parts of a line about a card, and the line by what the code finds.
 use mathlib.Core.Path.{◌≡◌, refl, sym, ap, ◌∙◌}
 use mathlib.Core.Bool.{Bool, true, false, cond}
-use mathlib.Core.List.{List, [], ◌∷◌, ◌++◌}
-use Prim.Native.Nat.{ℕ, zero, suc, ◌+◌, ◌*◌, ◌-◌, ◌≤◌, ◌<◌}
-use native.Mathlib.Numerals.{add-one}
+use mathlib.Core.List.{List, []}
+use Prim.Native.Nat.{ℕ, suc, ◌+◌, ◌*◌, ◌-◌, ◌≤◌, ◌<◌}
 use native.Mathlib.Omega.{arith}
 use borrow.Author.Tests.{eq-eqb, ne_eqb, lt-ltb, le-ltb, le-leb, lt-leb}
-use lib.Dec.{eqb, ltb}
+use lib.Dec.{eqb}
 use lib.ListN.{length, take}
 use lib.Seq.{take_all, length-take-le}
 use Rattle.frank_wolfe.specs.Vectors.{sum}
@@ -33,8 +32,10 @@ use Rattle.card_format.specs.Format.{card_fields, card_test, pair_count, card_sh
 use Rattle.card_format.specs.Checks.{check_refusal}
 use Rattle.card_truth.specs.Readable.{CardReadable}
 use Rattle.card_input.proofs.Reading.{back_at, verdict_at, tolerance_at, distance_at, gap_at, boats_at, columns_at}
-use Rattle.card_details.specs.Words.{HAS, BYTES_BELOW, BYTES_ABOVE, NO_LETTERS, BOATS_BOOK, COLUMNS_BOOK, VERDICT, NOT_TO, STEPS_SHEET, BACK, MORE_THAN, BYTES_BEFORE, NOT_FOURS, IN_ENTRY, BOAT, NOT_ABOVE, NOT_IN_BOOK, NO_SHARE, SHARES_OF, BOATS_THAN, STEPS, TOTAL, NOT, DISTANCE, GAP, ITS_SHARES, SPENT, SHEET_HAS, TOLERANCE, SHEET}
-use Rattle.card_details.specs.Details.{NEWLINE, said, counts, size_line, counts_line, steps_line, back_line, entry_fault, entry_line, entries_line, total_line, numbers_line, tolerance_line, form_line, truth_line, card_detail}
+use Rattle.card_details.specs.Words.{HAS, BYTES_BELOW, BYTES_ABOVE, NO_LETTERS, BOATS_BOOK, COLUMNS_BOOK, VERDICT, NOT_TO, STEPS_SHEET, BACK, MORE_THAN, BYTES_BEFORE, NOT_FOURS, SHARES_OF, BOATS_THAN, STEPS, TOTAL, NOT, DISTANCE, GAP, ITS_SHARES, SPENT, SHEET_HAS, TOLERANCE, SHEET}
+use Rattle.card_details.specs.declared.EntryFault.{EntryFault}
+use Rattle.card_details.specs.declared.EntryFault.TheVariants.{NotAbove, NotInBook, NoShare}
+use Rattle.card_details.specs.Details.{NEWLINE, said, counts, size_line, counts_line, steps_line, back_line, fault_number, entry_fault, entry_line, entries_line, total_line, numbers_line, tolerance_line, form_line, truth_line, card_detail}
 
 -- ---- Names, words and numbers
 module _ (name : List ℕ) {t u : Text} where
@@ -110,18 +111,10 @@ pub fault_none : (next n boat share : ℕ) → next ≤ boat → boat < n → (s
 unfolding entry_fault
 fault_none next n boat share h k z = simp (le-ltb boat next h, lt-leb n boat k, ne_eqb share 0 z)
 
-module _ (name : List ℕ) (i boat k : ℕ) {t : Text} where
-  pub order_told : k ≡ 1 → Holds (counts name IN_ENTRY i BOAT boat NOT_ABOVE) t → Holds (entry_line name i boat k) t
-  unfolding entry_line
-  order_told e x = rw e x
-
-  pub book_told : k ≡ 2 → Holds (counts name IN_ENTRY i BOAT boat NOT_IN_BOOK) t → Holds (entry_line name i boat k) t
-  unfolding entry_line
-  book_told e x = rw e x
-
-  pub share_told : (k ≡ 1 → ⊥) → (k ≡ 2 → ⊥) → Holds (counts name IN_ENTRY i BOAT boat NO_SHARE) t → Holds (entry_line name i boat k) t
-  unfolding entry_line
-  share_told d e x = rw (ne_eqb k 1 d, ne_eqb k 2 e) x
+fault_positive : (f : EntryFault) → fault_number f ≡ 0 → ⊥
+fault_positive NotAbove e = omega (arith, e)
+fault_positive NotInBook e = omega (arith, e)
+fault_positive NoShare e = omega (arith, e)
 
 entries_more : (name : List ℕ) (i k next n at : ℕ) (w : List ℕ) →
     entries_line name i (suc k) next n at w ≡
@@ -153,8 +146,8 @@ module _ {name w : List ℕ} {start count n i next at : ℕ} (d : Entered name w
         let e : count - i ≡ suc (count - (i + 1)) = omega arith in
         sym d.later ∙ rw (e, entries_more name i (count - (i + 1)) next n at w, ← eb, ← es, ← ef)
 
-    pub entered_fault : {t : Text} → (fault ≡ 0 → ⊥) → Holds (entry_line name (i + 1) boat fault) t → Holds (entries_line name 0 count 0 n start w) t
-    entered_fault z x = rw (step, ne_eqb fault 0 z) x
+    pub entered_fault : {t : Text} (f : EntryFault) → fault_number f ≡ fault → Holds (entry_line name (i + 1) boat (fault_number f)) t → Holds (entries_line name 0 count 0 n start w) t
+    entered_fault f e x = rw (step, ← e, ne_eqb (fault_number f) 0 (fault_positive f)) x
 
     pub entered_more : fault ≡ 0 → Entered name w start count n (i + 1) (boat + 1) (at + 4)
     entered_more z = record { within = omega arith; place = omega (arith, d.place); later = sym (step ∙ rw (eq-eqb fault 0 z)) }

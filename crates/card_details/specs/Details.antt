@@ -1,6 +1,6 @@
 -- What is known of a refusal of a card, in one line that starts with the name of its file. Which cards each number refuses is said by
 -- `check_refusal`; a line says which of its tests fails first, and both numbers that it compares. Definitions only.
-use Rattle.std.specs.Prelude.{cond, List, [], ◌∷◌, ◌++◌, ℕ, zero, suc, ◌+◌, ◌*◌, ◌-◌, eqb, ltb, leb, length, take}
+use Rattle.std.specs.Prelude.{cond, List, [], ◌∷◌, ◌++◌, ℕ, zero, suc, ◌+◌, ◌*◌, ◌-◌, eqb, ltb, leb, length, take, Option, None, Some}
 use Rattle.frank_wolfe.specs.Vectors.{sum}
 use Rattle.files.specs.Bytes.{number, between, body_offset}
 use Rattle.files.specs.Book.{boats, columns}
@@ -11,6 +11,8 @@ use Rattle.method.specs.Problem.{fixed, weight}
 use Rattle.method.specs.Answers.{verdict_number}
 use Rattle.card_format.specs.Format.{card_fields, pair_count, card_shares, card_answer}
 use Rattle.card_format.specs.Checks.{check_refusal}
+use Rattle.card_details.specs.declared.EntryFault.{EntryFault}
+use Rattle.card_details.specs.declared.EntryFault.TheVariants.{NotAbove, NotInBook, NoShare}
 use Rattle.card_details.specs.Words.{HAS, BYTES_BELOW, BYTES_ABOVE, NO_LETTERS, BOATS_BOOK, COLUMNS_BOOK, VERDICT, NOT_TO, STEPS_SHEET, BACK, MORE_THAN, BYTES_BEFORE, NOT_FOURS, IN_ENTRY, BOAT, NOT_ABOVE, NOT_IN_BOOK, NO_SHARE, SHARES_OF, BOATS_THAN, STEPS, TOTAL, NOT, DISTANCE, GAP, ITS_SHARES, SPENT, SHEET_HAS, TOLERANCE, SHEET}
 
 abbrev pub NEWLINE : List ℕ
@@ -45,6 +47,16 @@ unfoldable pub back_line : (name book card : List ℕ) → List ℕ
 back_line name b w =
     let back = (card_fields w).back in
     cond (leb back (length w - 36)) (counts name BACK back NOT_FOURS (4 * boats b) NEWLINE) (counts name BACK back MORE_THAN (length w - 36) BYTES_BEFORE)
+
+-- the number of what is wrong with an entry of the list, 0 where nothing is
+abbrev pub fault_number : EntryFault → ℕ
+fault_number NotAbove = 1
+fault_number NotInBook = 2
+fault_number NoShare = 3
+
+abbrev pub option_number : Option EntryFault → ℕ
+option_number None = 0
+option_number (Some fault) = fault_number fault
 
 -- what is wrong with an entry of the list, of a boat that may be from `next` on and below `boats`: 1 to 3, 0 where nothing is
 unfoldable pub entry_fault : (next boats boat share : ℕ) → ℕ

@@ -16,8 +16,8 @@ ghost use Rattle.method.specs.Problem.{fixed, weight};
 ghost use Rattle.card_format.specs.Format.{card_fields, card_shares, card_answer};
 ghost use Rattle.card_format.specs.Checks.{check_refusal};
 ghost use Rattle.card_truth.specs.Readable.{CardReadable};
-ghost use Rattle.card_details.specs.Words.{ITS_SHARES};
-ghost use Rattle.card_details.specs.Details.{NEWLINE, said, counts, size_line, counts_line, steps_line, back_line, entry_fault, entry_line, entries_line, total_line, numbers_line, tolerance_line, form_line, truth_line, card_detail};
+ghost use Rattle.card_details.specs.Words.{ITS_SHARES, IN_ENTRY, BOAT};
+ghost use Rattle.card_details.specs.Details.{NEWLINE, said, counts, size_line, counts_line, steps_line, back_line, fault_number, option_number, entry_fault, entry_line, entries_line, total_line, numbers_line, tolerance_line, form_line, truth_line, card_detail};
 
 use method::Answer;
 use text::Text;
@@ -151,54 +151,58 @@ fn back_line(name: &[u8], book: &[u8], card: &[u8]) -> Text
     )
 }
 
-// What is wrong with an entry of a card's list, of a boat that may be from `next` on and below `boats`.
-fn entry_fault(next: usize, boats: usize, boat: usize, share: u32) -> u32
-    ensures { result ≡ entry_fault next boats boat share }
-{
-    if boat < next {
-        return 1;
-    }
-    if boats <= boat {
-        return 2;
-    }
-    if share == 0 {
-        return 3;
-    }
-    0
+// What is wrong with an entry of a card's list.
+#[derive(Clone, Copy)]
+pub enum EntryFault {
+    // its boat is not above the boat before it
+    NotAbove,
+    // its boat is not in the book
+    NotInBook,
+    // its share is 0
+    NoShare,
 }
 
-// The line of an entry, counted from 1, with this fault.
-fn entry_line(name: &[u8], place: usize, boat: usize, fault: u32) -> Text
-    ensures { Holds (entry_line name.now place boat fault) result }
+// What is wrong with an entry of a boat that may be from `next` on and below `boats`.
+fn entry_fault(next: usize, boats: usize, boat: usize, share: u32) -> Option<EntryFault>
+    ensures { option_number result ≡ entry_fault next boats boat share }
 {
-    if fault == 1 {
-        return counts(
-            name,
-            b", entry ",
-            place as u64,
-            b": boat ",
-            boat as u64,
-            b" is not above the boat before it\n",
-        );
+    if boat < next {
+        return Some(EntryFault::NotAbove);
     }
-    if fault == 2 {
-        return counts(
-            name,
-            b", entry ",
-            place as u64,
-            b": boat ",
-            boat as u64,
-            b" is not in fleet.wbk\n",
-        );
+    if boats <= boat {
+        return Some(EntryFault::NotInBook);
     }
+    if share == 0 {
+        return Some(EntryFault::NoShare);
+    }
+    None
+}
+
+// The line of an entry, counted from 1, whose boat is followed by these words.
+fn boat_line(name: &[u8], place: usize, boat: usize, words: &[u8]) -> Text
+    requires { length words.now ≤ 100 }
+    ensures { Holds (counts name.now IN_ENTRY place BOAT boat words.now) result }
+{
     counts(
         name,
         b", entry ",
         place as u64,
         b": boat ",
         boat as u64,
-        b" has a share of 0\n",
+        words,
     )
+}
+
+// The line of an entry, counted from 1, with this fault.
+#[tactic(auto, unfolding(crate::specs::Details::entry_line))]
+fn entry_line(name: &[u8], place: usize, boat: usize, fault: EntryFault) -> Text
+    ensures { Holds (entry_line name.now place boat (fault_number fault)) result }
+{
+    match fault {
+        EntryFault::NotAbove => boat_line(name, place, boat, b" is not above the boat before it\n"),
+        EntryFault::NotInBook => boat_line(name, place, boat, b" is not in fleet.wbk\n"),
+        EntryFault::NoShare => boat_line(name, place, boat, b" has a share of 0\n"),
+    }
 }
 
 // The line of the first entry with a fault, of `count` from `start` on; no text where none has one.
@@ -210,8 +214,7 @@ fn entries_line(name: &[u8], card: &[u8], start: usize, count: usize, boats: usi
     let mut at = start;
     for i in 0..count {
         let boat = files::u16_at(card, at) as usize;
-        let fault = entry_fault(next, boats, boat, files::u16_at(card, at + 2));
-        if fault != 0 {
+        if let Some(fault) = entry_fault(next, boats, boat, files::u16_at(card, at + 2)) {
             return entry_line(name, i + 1, boat, fault);
         }
         next = boat + 1;
@@ -330,29 +333,23 @@ fn form_line(name: &[u8], book: &[u8], sheet: &[u8], card: &[u8], refusal: u32) 
     requires le_refusal { (31 ≤ refusal) × (refusal < 37) }
     ensures { Holds (form_line name.now book.now sheet.now card.now refusal) result }
 {
-    if refusal == 31 {
-        return size_line(name, card);
+    match refusal {
+        31 => size_line(name, card),
+        32 => said(name, b" does not end in WCD1 or WCD2\n"),
+        33 => counts_line(name, book, card),
+        34 => steps_line(name, sheet, card),
+        35 => back_line(name, book, card),
+        _ => {
+            let count = card_input::pair_count(card);
+            entries_line(
+                name,
+                card,
+                card.len() - 36 - 4 * count,
+                count,
+                files::boats(book),
+            )
+        }
     }
-    if refusal == 32 {
-        return said(name, b" does not end in WCD1 or WCD2\n");
-    }
-    if refusal == 33 {
-        return counts_line(name, book, card);
-    }
-    if refusal == 34 {
-        return steps_line(name, sheet, card);
-    }
-    if refusal == 35 {
-        return back_line(name, book, card);
-    }
-    let count = card_input::pair_count(card);
-    entries_line(
-        name,
-        card,
-        card.len() - 36 - 4 * count,
-        count,
-        files::boats(book),
-    )
 }
 
 // The line of a card of right form that is not true, 37 to 39.
@@ -378,16 +375,11 @@ pub fn known_card_detail(name: &[u8], book: &[u8], sheet: &[u8], card: &[u8], re
     requires { check_refusal book.now sheet.now card.now 256 ≡ refusal }
     ensures { Holds (card_detail name.now book.now sheet.now card.now refusal) result }
 {
-    if refusal < 31 {
-        return Text::empty();
+    match refusal {
+        31..=36 => form_line(name, book, sheet, card, refusal),
+        37..=39 => truth_line(name, book, sheet, card, refusal),
+        _ => Text::empty(),
     }
-    if refusal < 37 {
-        return form_line(name, book, sheet, card, refusal);
-    }
-    if refusal < 40 {
-        return truth_line(name, book, sheet, card, refusal);
-    }
-    Text::empty()
 }
 
 // The number that refuses files and a card, or 0.

@@ -1,6 +1,5 @@
 -- `card_details::card_detail` meets its contract.
 use Rattle.card_details.proofs.Lines.{not_refused}
-use borrow.Author.Rules.{rules}
 use Rattle.card_details.proofs.card_detail.Goals as goal
 
 pub returns-then-refusal_of-refusal : goal.returns-then-refusal_of-refusal

@@ -1,6 +1,5 @@
 -- `card_details::counts` meets its contract.
 use Rattle.card_details.proofs.Lines.{counts_told}
-use borrow.Author.Rules.{rules}
 use Rattle.card_details.proofs.counts.Goals as goal
 
 pub returns : goal.returns

@@ -1,7 +1,6 @@
 -- `card_details::numbers_line` meets its contract.
 use Rattle.files.proofs.Accepted.{files_accepted}
 use Rattle.card_details.proofs.Lines.{answer_asked, answer_told}
-use borrow.Author.Rules.{rules}
 use Rattle.card_details.proofs.numbers_line.Goals as goal
 
 pub answer_of-answer-requires : goal.answer_of-answer-requires

@@ -2,7 +2,6 @@
 use native.Mathlib.Omega.{arith}
 use Rattle.card_details.proofs.Refused.{accepted, book_size, sheet_size, card_size, entries_room, entries_asked, shares_are, readable, few_steps, totalled}
 use Rattle.card_details.proofs.Lines.{truth_37, truth_38, truth_39}
-use borrow.Author.Rules.{rules}
 use Rattle.card_details.proofs.truth_line.Goals as goal
 
 pub tolerance_line-requires : goal.tolerance_line-requires
