@@ -14,8 +14,14 @@ pub fn none() -> Released {
 // What a search for C gives, in short, where a table lies beside a flag that says that none is lent, and no set is handed in.
 fn unread(rt: &HostRuntime, book: &[u8], sheet: &[u8], table: &[u16]) {
     let mut slots = [7u16; 256];
-    let reply =
-        exported_search::dofitrano_search_with(book, sheet, none(), false, table, &mut slots);
+    let reply = exported_search::dofitrano_search_with(
+        book,
+        sheet,
+        none(),
+        false,
+        table,
+        &mut slots,
+    );
     test_printing::word(rt, b"unread");
     test_printing::number(rt, reply.refusal as u64);
     test_printing::number(rt, reply.steps as u64);
@@ -34,10 +40,7 @@ fn found(
     filed: &mut [u8],
 ) -> usize {
     let mut slots = [7u16; 256];
-    test_printing::outcome(
-        rt,
-        search::search_with(book, sheet, set, table, &mut slots),
-    );
+    test_printing::outcome(rt, search::search_with(book, sheet, set, table, &mut slots));
     test_printing::slots(rt, &slots, boats % 65536 + 1);
     let n = test_card_printing::print_written(
         rt,
@@ -81,8 +84,8 @@ fn checked(
 // The card of a search without a set: its length.
 fn put_whole(book: &[u8], sheet: &[u8], table: Option<&[u16]>, output: &mut [u8]) -> usize {
     match written_card::write_card_with(book, sheet, none(), table, output) {
-        Written::Refused(_) => 0,
-        Written::Filed(_, len) => len,
+        Err(_) => 0,
+        Ok(card) => card.size,
     }
 }
 

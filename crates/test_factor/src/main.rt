@@ -145,7 +145,11 @@ fn with_sets(
     let boats = (plan.boats % 65536) as usize;
     let set = sets::draw_set(seed, boats);
     let another = sets::draw_set(seed, boats);
-    let lent = if test_samples::draw(seed, 2) == 0 { Some(table) } else { None };
+    let lent = if test_samples::draw(seed, 2) == 0 {
+        Some(table)
+    } else {
+        None
+    };
     let end = test_buffers::put_bytes(&mut other, 0, book);
     sets::put_others(&mut other, seed, plan, rows, set);
     lent::among(rt, book, book, sheet, set, another, lent, boats);
