@@ -2,7 +2,7 @@
 // tests/expected/test_worked.py.
 #![tactic(auto)]
 
-use method::{Released, Searched};
+use method::Released;
 use test_buffers::{between, byte_at, u16_at};
 
 // The 4-byte number at `at`.
@@ -25,10 +25,8 @@ fn set_at(cases: &[u8], at: usize) -> Released {
 // Prints the number by which the check refuses a card, 0 where it accepts it.
 fn checked(rt: &HostRuntime, book: &[u8], sheet: &[u8], set: Released, filed: &[u8]) {
     let mut slots = [7u16; 256];
-    match card::check_card_with(book, sheet, set, false, &[0u16; 0], filed, &mut slots) {
-        Searched::Refused(n) => test_printing::line(rt, b"checked", n as u64),
-        Searched::Answered(_) => test_printing::line(rt, b"checked", 0),
-    }
+    let found = card::check_card_with(book, sheet, set, None, filed, &mut slots);
+    test_printing::line(rt, b"checked", test_printing::refusal_number(found));
 }
 
 // A search worked over into the first `room` bytes of a buffer, all of them where it has fewer. Prints what the call gives back, and gives back
