@@ -15,7 +15,7 @@ use Rattle.sheet_queue.proofs.Records.{lengths_count}
 use Rattle.sheet_queue.proofs.Refusals.{passes, too_many}
 use Rattle.sheet_queue.proofs.Promise.{queue_right}
 use Rattle.queue_rounds.specs.declared.Plan.{Plan}
-use Rattle.queue_rounds.specs.declared.Outcome.{Outcome}
+use Rattle.queue_rounds.specs.Outcomes.{Outcome}
 use Rattle.queue_rounds.specs.Plans.{plan_lengths}
 use Rattle.queue_rounds.specs.Work.{count_after, plan_records, plan_slots, Ran}
 use Rattle.queue_rounds.proofs.Turns.{same_or_other}

@@ -3,7 +3,7 @@ use Rattle.std.specs.Prelude.{Bool, true, false, List, ℕ, zero, suc, ltb, get_
 use Rattle.sheet_queue.specs.declared.SheetRecord.{SheetRecord}
 use Rattle.sheet_queue.specs.Queue.{blank}
 use Rattle.queue_rounds.specs.declared.Plan.{Plan}
-use Rattle.queue_rounds.specs.declared.Outcome.{Outcome}
+use Rattle.queue_rounds.specs.Outcomes.{Outcome}
 use Rattle.exported_queue.specs.declared.Lengths.{Lengths}
 
 unfoldable pub no_lengths : Lengths

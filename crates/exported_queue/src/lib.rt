@@ -8,10 +8,12 @@
 ghost use Rattle.std.specs.Prelude.{◌≡◌, ◌≤◌, ◌<◌, length};
 ghost use Rattle.sheet_queue.specs.Queue.{lengths, queue_refusal, records_after, queue_slots_after};
 ghost use Rattle.sheet_queue.specs.Promise.{QueueRight};
+ghost use Rattle.std.specs.Prelude.{Ok};
+ghost use Rattle.queue_rounds.specs.Outcomes.{outcome};
 ghost use Rattle.queue_rounds.specs.Work.{Ran};
 ghost use Rattle.exported_queue.specs.Lists.{no_lengths, with_length, lengths_to, plan_of, stored};
 
-use queue_rounds::{Outcome, Plan};
+use queue_rounds::{Plan, Refused, Served};
 use sheet_queue::SheetRecord;
 
 // The lengths of the first 16 sheets of a queue.
@@ -56,21 +58,21 @@ fn run_lengths(
     sheets: &[u8],
     allowance: u32,
     shares: &mut [u16],
-) -> Outcome
-    ensures { Ran book.now (plan_of lengths count) sheets.now allowance shares.old result shares.new }
+) -> Result<Served, Refused>
+    ensures { Ran book.now (plan_of lengths count) sheets.now allowance shares.old (outcome result) shares.new }
 {
     let at = lengths.at;
     let plan = Plan { count, lengths: at };
     queue_rounds::run_plan(plan, book, sheets, allowance, shares)
 }
 
-// The first records of a queue as those of an outcome.
-fn store(queue: &mut [SheetRecord], outcome: Outcome, count: usize)
+// The first records of a queue as those that were served.
+fn store(queue: &mut [SheetRecord], served: Served, count: usize)
     requires { (count ≤ length queue.old) × (count ≤ 16) }
-    ensures { queue.new ≡ stored queue.old outcome count }
+    ensures { queue.new ≡ stored queue.old (outcome (Ok served)) count }
 {
     for i in 0..count {
-        queue[i] = queue_rounds::record_at(outcome, i);
+        queue[i] = queue_rounds::record_at(served, i);
     }
 }
 
@@ -91,7 +93,11 @@ pub fn dofitrano_run_queue(
 {
     let lengths = lengths_of(queue);
     let count = queue.len();
-    let outcome = run_lengths(lengths, count, book, sheets, allowance, shares);
-    store(queue, outcome, outcome.count);
-    outcome.refusal
+    match run_lengths(lengths, count, book, sheets, allowance, shares) {
+        Ok(served) => {
+            store(queue, served, served.count);
+            0
+        }
+        Err(refused) => refused.reason.number(),
+    }
 }

@@ -6,6 +6,8 @@ ghost use Rattle.std.specs.Prelude.{◌≡◌, ◌+◌, ◌≤◌, ◌<◌, leng
 ghost use Rattle.queue_folder.specs.Folder.{sheet_bytes, most_read, ReadBehind, SomeSheets, SomeQueue};
 
 use numbered_files::{name_of, tell_of};
+use queue_rounds::Refused;
+use refusals::Refusal;
 use text::Text;
 
 // The bytes that are read of a sheet: one more than it may have, so that a longer file is refused and not cut.
@@ -60,39 +62,36 @@ fn tell_book(rt: &HostRuntime, folder: &[u8]) {
     tell_of(rt, folder, name, b": this book is refused\n");
 }
 
-// Names what the printed number refuses: where it refuses a sheet, the one behind those that are accepted.
-fn tell_refused(rt: &HostRuntime, folder: &[u8], count: usize, refusal: u32, accepted: usize)
-    requires { accepted ≤ most_read }
+// Names what is refused: of the sheets the one behind those that are accepted.
+fn tell_refused(rt: &HostRuntime, folder: &[u8], count: usize, refused: Refused)
+    requires { refused.accepted ≤ most_read }
 {
-    if refusal == 0 {
-        return;
-    }
-    if refusal <= 6 {
-        tell_book(rt, folder);
-        return;
-    }
-    if refusal == 45 {
-        file_io::tell(
+    match refused.reason {
+        Refusal::BookLength
+        | Refusal::BookLetters
+        | Refusal::BookBoats
+        | Refusal::BookColumns
+        | Refusal::BookBack
+        | Refusal::BookValue => tell_book(rt, folder),
+        Refusal::QueueAllowance => file_io::tell(
             rt,
             b"ALLOWANCE",
             b": not from the number of sheets to 5760\n",
-        );
-        return;
+        ),
+        Refusal::QueueSheets => {
+            if count == 0 {
+                tell_sheet(rt, folder, 0, b": could not be opened\n");
+                return;
+            }
+            tell_sheet(
+                rt,
+                folder,
+                sheet_queue::MOST_SHEETS,
+                b": there are more than 16 sheets\n",
+            );
+        }
+        _ => tell_sheet(rt, folder, refused.accepted, b": this sheet is refused\n"),
     }
-    if refusal != 44 {
-        tell_sheet(rt, folder, accepted, b": this sheet is refused\n");
-        return;
-    }
-    if count == 0 {
-        tell_sheet(rt, folder, 0, b": could not be opened\n");
-        return;
-    }
-    tell_sheet(
-        rt,
-        folder,
-        sheet_queue::MOST_SHEETS,
-        b": there are more than 16 sheets\n",
-    );
 }
 
 // The listing of a book and of the first sheets of a folder, which are read into this buffer, on an allowance.
@@ -111,7 +110,9 @@ fn queue_in(
     let sheets = file_io::first_bytes(buffer, read.len);
     let lengths = read.lengths;
     let listed = queue_listing::queue_text(book, &lengths[..count], sheets, allowance);
-    tell_refused(rt, folder, count, listed.refusal, listed.accepted);
+    if let Err(refused) = listed.queue {
+        tell_refused(rt, folder, count, refused);
+    }
     listed.text
 }
 

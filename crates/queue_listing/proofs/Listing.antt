@@ -14,9 +14,9 @@ use Rattle.sheet_queue.proofs.Rounds.{below_or_not}
 use Rattle.sheet_queue.proofs.Refusals.{passes, too_many, too_many_accepted}
 use Rattle.sheet_queue.proofs.Promise.{queue_right}
 use Rattle.queue_rounds.specs.declared.Plan.{Plan}
-use Rattle.queue_rounds.specs.declared.Outcome.{Outcome}
+use Rattle.queue_rounds.specs.Outcomes.{Outcome}
 use Rattle.queue_rounds.specs.Plans.{plan_lengths}
-use Rattle.queue_rounds.specs.Work.{plan_records, Ran}
+use Rattle.queue_rounds.specs.Work.{count_after, plan_records, Ran}
 use Rattle.queue_listing.specs.Plans.{Plans}
 use Rattle.queue_listing.specs.Lines.{sheet_lines, queue_text, queue_of, no_shares, listing_refusal, listing_accepted, queue_listing, ListedRight}
 
@@ -55,6 +55,11 @@ module _ {b ns bs : List ℕ} {a : ℕ} {p : Plan} {r : Outcome} {slots' : List 
   accepted_is =
       R.accepted_is ∙ ap (λ (n : ℕ). accepted_of n b (plan_lengths p) bs a) P.count_is
       ∙ ⊎_elim (λ (h : 16 < length ns). too_many_accepted (length ns) b (plan_lengths p) ns bs a h) (λ (h : length ns ≤ 16). ap (λ (ms : List ℕ). accepted_of (length ns) b ms bs a) (P.lengths_are h)) (below_or_not 16 (length ns))
+
+  -- all of them where none refuses: as many as there are records
+  pub accepted_all : r.refusal ≡ 0 → r.accepted ≡ r.count → length ns ≡ listing_accepted b ns bs a
+  unfolding count_after
+  accepted_all z e = sym P.count_is ∙ sym (R.count_is ∙ ap (λ (n : ℕ). count_after n p) z) ∙ sym e ∙ accepted_is
 
   refused_by : {t : Text} (n : ℕ) → (n ≡ 0 → ⊥) → Holds (refused_line n) t → Holds (queue_text n (records_after n b bs a (queue_of ns))) t
   unfolding queue_text

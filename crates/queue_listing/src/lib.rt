@@ -7,8 +7,9 @@ ghost use Rattle.std.specs.Prelude.{◌≡◌, suc, ◌+◌, ◌≤◌, ◌<◌,
 ghost use Rattle.text.specs.Texts.{text_limit, Holds, Adds};
 ghost use Rattle.queue_listing.specs.Lines.{named, verdict_words, sheet_line, sheet_lines, listing_refusal, listing_accepted, queue_listing, ListedRight};
 ghost use Rattle.queue_listing.specs.Plans.{Plans};
+ghost use Rattle.queue_rounds.specs.Outcomes.{judged_number, judged_accepted};
 
-use queue_rounds::{Outcome, Plan};
+use queue_rounds::{Plan, Refused, Served};
 use sheet_queue::SheetRecord;
 use text::Text;
 
@@ -61,15 +62,15 @@ fn with_sheet(text: Text, before: usize, record: SheetRecord) -> Text
     fourth.with_bytes(b"\n")
 }
 
-// The lines of an outcome's records.
-fn lines(outcome: Outcome) -> Text
-    requires { (outcome.count ≤ 16) × (length outcome.records ≡ 16) }
-    ensures { Holds (sheet_lines 0 (take outcome.count outcome.records)) result }
+// The lines of a queue's records.
+fn lines(served: Served) -> Text
+    requires { (served.count ≤ 16) × (length served.records ≡ 16) }
+    ensures { Holds (sheet_lines 0 (take served.count served.records)) result }
 {
-    let count = outcome.count;
+    let count = served.count;
     let mut longer = Text::empty();
     for i in 0..count {
-        longer = with_sheet(longer, i, queue_rounds::record_at(outcome, i));
+        longer = with_sheet(longer, i, queue_rounds::record_at(served, i));
     }
     longer
 }
@@ -95,40 +96,38 @@ fn plan_of(lengths: &[u32]) -> Plan
     }
 }
 
-// The listing of a queue, the number that refuses it, or 0, and how many of its sheets are accepted ahead of the one that refuses it: 0
-// where something ahead of the sheets does.
+// The listing of a queue, and what refuses it, with how many of its sheets are accepted ahead of the one that refuses it: 0 where something
+// ahead of the sheets does.
 #[derive(Clone, Copy)]
 pub struct Listed {
-    pub refusal: u32,
-    pub accepted: usize,
+    pub queue: Result<(), Refused>,
     pub text: Text,
 }
 
 // ENTRY. The queue of sheets of these lengths, which stand back to back in one buffer, on one allowance of steps: a line a sheet, or the
 // number that refuses it, as `dofitrano_run_queue` runs and refuses it. The last clause says of what is listed all that this entry promises.
 pub fn queue_text(book: &[u8], lengths: &[u32], sheets: &[u8], allowance: u32) -> Listed
-    ensures refusal_value { result.refusal ≡ listing_refusal book.now lengths.now sheets.now allowance }
-    ensures accepted_value { result.accepted ≡ listing_accepted book.now lengths.now sheets.now allowance }
+    ensures refusal_value { judged_number result.queue ≡ listing_refusal book.now lengths.now sheets.now allowance }
+    ensures accepted_value { judged_accepted (length lengths.now) result.queue ≡ listing_accepted book.now lengths.now sheets.now allowance }
     ensures holds { Holds (queue_listing book.now lengths.now sheets.now allowance) result.text }
     ensures listed_right { ListedRight book.now lengths.now sheets.now allowance }
 {
     let mut shares = [0u16; 4096];
     let plan = plan_of(lengths);
-    let outcome = queue_rounds::run_plan(plan, book, sheets, allowance, &mut shares);
-    let refusal = outcome.refusal;
-    let accepted = outcome.accepted;
-    if refusal != 0 {
-        let text = listing::refused_listing(refusal);
-        return Listed {
-            refusal,
-            accepted,
-            text,
-        };
-    }
-    let text = lines(outcome);
-    Listed {
-        refusal,
-        accepted,
-        text,
+    match queue_rounds::run_plan(plan, book, sheets, allowance, &mut shares) {
+        Ok(served) => {
+            let text = lines(served);
+            Listed {
+                queue: Ok(()),
+                text,
+            }
+        }
+        Err(refused) => {
+            let text = listing::refused_listing(refused.reason);
+            Listed {
+                queue: Err(refused),
+                text,
+            }
+        }
     }
 }

@@ -1,16 +1,16 @@
 -- The parts of a share list cleared one after the other.
 use mathlib.Core.Path.{◌≡◌, refl, sym, ap, ◌∙◌}
-use mathlib.Core.Logic.{◌⊎◌, ⊎_elim}
+use mathlib.Core.Logic.{⊎_elim}
 use mathlib.Core.List.{List, [], ◌++◌}
-use Prim.Native.Nat.{ℕ, suc, ◌+◌, ◌*◌, ◌-◌, ◌≤◌, ◌<◌}
+use Prim.Native.Nat.{ℕ, ◌+◌, ◌*◌, ◌-◌, ◌≤◌, ◌<◌}
 use native.Mathlib.Omega.{arith}
-use lib.ListN.{length, get_or, take, drop, replicate, length-append, length-drop, length-replicate, get_or-replicate}
+use lib.ListN.{length, take, drop, replicate, length-append, length-drop, length-replicate, get_or-replicate}
 use lib.Seq.{drop-drop}
 use borrow.Rule.Slice.PartMut.{mid_of, put_mid}
 use Rattle.method.specs.Answers.{slots_after}
 use Rattle.sheet_queue.specs.Queue.{filled}
 use Rattle.sheet_queue.specs.Promise.{part}
-use Rattle.sheet_queue.proofs.Parts.{part_of, put_at, put_length, put_same, put_other, put_rest, filled_by}
+use Rattle.sheet_queue.proofs.Parts.{put_at, put_length, put_same, put_other, put_rest, filled_by}
 use Rattle.queue_rounds.proofs.Turns.{same_or_other}
 use Rattle.queue_rounds.proofs.Works.{mid_is, put_is, mid_length, whole}
 

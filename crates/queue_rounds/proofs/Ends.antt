@@ -1,8 +1,8 @@
 -- How a queue starts, and what it leaves when its rounds are done.
 use mathlib.Core.Path.{◌≡◌, refl, sym, ap, ◌∙◌, subst}
-use mathlib.Core.Bool.{Bool, true, false}
-use mathlib.Core.Logic.{◌⊎◌, ⊎_elim}
-use mathlib.Core.List.{List, [], ◌++◌}
+use mathlib.Core.Bool.{false}
+use mathlib.Core.Logic.{⊎_elim}
+use mathlib.Core.List.{List, []}
 use Prim.Native.Nat.{ℕ, zero, suc, ◌+◌, ◌*◌, ◌-◌, ◌≤◌, ◌<◌}
 use native.Mathlib.Omega.{arith}
 use borrow.Author.Tests.{ne_eqb}
@@ -12,11 +12,10 @@ use lib.ListN.{length, get_or, set, take, drop, replicate, length-set, length-dr
 use lib.Seq.{get_or-set_same, get_or-set_other, get_or-take, length-take-le, take_at, drop_at, ext_get_or}
 use Rattle.integers.proofs.Filling.{replicate_parts}
 use Rattle.files.specs.Book.{boats}
-use Rattle.files.specs.Sheet.{files_refusal}
 use Rattle.files.proofs.Accepted.{files_accepted}
-use Rattle.method.specs.Problem.{Problem, fixed, plain_terms, call_problem, problem}
+use Rattle.method.specs.Problem.{fixed, plain_terms, call_problem, problem}
 use Rattle.method.specs.Iterates.{start, iterate}
-use Rattle.method.specs.Answers.{slots_after, steps_used, run_iterate}
+use Rattle.method.specs.Answers.{slots_after, steps_used}
 use Rattle.method.proofs.Schedules.{fixed_sized}
 use Rattle.method.proofs.Accepted.{sized}
 use Rattle.method.proofs.Promise.{slots_kept}
@@ -26,7 +25,7 @@ use Rattle.iteration.specs.States.{Holds}
 use Rattle.run_loop.proofs.Keeping.{scores_start}
 use Rattle.sheet_queue.specs.declared.SheetRecord.{SheetRecord}
 use Rattle.sheet_queue.specs.Rounds.{steps_got}
-use Rattle.sheet_queue.specs.Queue.{blank, sheets_of, problems, with_steps, own_steps, queue_steps, refusal_of, accepted_of, record_of, records_of, shares_of, filled}
+use Rattle.sheet_queue.specs.Queue.{blank, problems, queue_steps, refusal_of, accepted_of, record_of, records_of, shares_of, filled}
 use Rattle.sheet_queue.specs.Promise.{part}
 use Rattle.sheet_queue.proofs.Alone.{alone_iterate}
 use Rattle.sheet_queue.proofs.Fair.{fair, everyone_starts}
@@ -36,15 +35,14 @@ use Rattle.sheet_queue.proofs.Refusals.{Passes, passes, sheet_accepted}
 use Rattle.sheet_turn.specs.Turns.{plain_book, plain_sheet, TurnScores}
 use Rattle.sheet_turn.proofs.Plain.{plain_same}
 use Rattle.queue_rounds.specs.declared.Plan.{Plan}
-use Rattle.queue_rounds.specs.declared.Outcome.{Outcome}
 use Rattle.queue_rounds.specs.declared.Rounds.{Rounds}
 use Rattle.queue_rounds.specs.declared.Work.{Work}
 use Rattle.queue_rounds.specs.Plans.{plan_lengths, plan_sheets, sheet_of, own_of, Accepted}
 use Rattle.queue_rounds.specs.Counts.{Sheets, Kept}
-use Rattle.queue_rounds.specs.Work.{no_state, Started, SheetAt, Working, SameRest, ServedAll, count_after, plan_records, plan_slots, Ran}
+use Rattle.queue_rounds.specs.Work.{no_state, Started, Working, SameRest, ServedAll, count_after, plan_records, plan_slots, Ran}
 use Rattle.queue_rounds.proofs.Turns.{same_or_other}
 use Rattle.queue_rounds.proofs.Sheets.{sheet_count, sheet_length}
-use Rattle.queue_rounds.proofs.Works.{own_length, own_here, boats_few, rest_both}
+use Rattle.queue_rounds.proofs.Works.{own_length, own_here, boats_few}
 
 -- ---- The first states, one after the other
 

@@ -4,7 +4,7 @@ use mathlib.Core.Logic.{◌⊎◌, inl, inr, ⊎_elim}
 use mathlib.Core.List.{List, ◌∷◌}
 use Prim.Native.Nat.{ℕ, zero, suc, ◌+◌, ◌-◌, ◌≤◌, ◌<◌}
 use native.Mathlib.Omega.{arith}
-use lib.ListN.{length, get_or, take, replicate, length-take}
+use lib.ListN.{length, take, replicate, length-take}
 use lib.Seq.{get_or-take}
 use Rattle.frank_wolfe.specs.Vectors.{sum}
 use Rattle.queue_rounds.specs.declared.Rounds.{Rounds}

@@ -1,38 +1,34 @@
 -- A queue between two turns: what a turn asks of it, what it leaves, and that the others keep what is theirs.
 use mathlib.Core.Path.{◌≡◌, refl, sym, ap, ◌∙◌, subst}
-use mathlib.Core.Bool.{Bool, true, false}
-use mathlib.Core.Logic.{◌⊎◌, ⊎_elim}
-use mathlib.Core.List.{List, [], ◌++◌, append-nil}
-use Prim.Native.Nat.{ℕ, suc, ◌+◌, ◌*◌, ◌-◌, ◌≤◌, ◌<◌}
+use mathlib.Core.Bool.{true}
+use mathlib.Core.Logic.{⊎_elim}
+use mathlib.Core.List.{List, ◌++◌, append-nil}
+use Prim.Native.Nat.{ℕ, ◌+◌, ◌*◌, ◌-◌, ◌≤◌, ◌<◌}
 use native.Mathlib.Omega.{arith}
-use native.Mathlib.Numerals.{add-one}
 use lib.Dec.{eqb}
 use lib.IntN.{ℤ}
-use lib.ListN.{length, get_or, set, take, drop, length-set, length-append, length-take, length-drop, take-append-drop}
+use lib.ListN.{length, get_or, set, take, drop, length-set, length-append, length-drop}
 use lib.Seq.{get_or-set_same, get_or-set_other, length-take-le, take_at, drop_at, drop-length}
 use borrow.Rule.Slice.PartMut.{mid_of, put_mid}
 use Rattle.files.specs.Book.{boats}
 use Rattle.files.specs.Sheet.{files_refusal}
 use Rattle.files.proofs.Accepted.{files_accepted}
-use Rattle.method.specs.Problem.{Problem, fixed, problem}
+use Rattle.method.specs.Problem.{fixed, problem}
 use Rattle.method.specs.Iterates.{iterate}
 use Rattle.method.specs.Answers.{steps_used}
-use Rattle.method.proofs.Running.{stopped}
 use Rattle.iteration.specs.declared.State.{State}
 use Rattle.iteration.specs.States.{Holds}
-use Rattle.run_loop.specs.Runs.{ScoresAt}
 use Rattle.sheet_queue.specs.declared.SheetRecord.{SheetRecord}
-use Rattle.sheet_queue.specs.Queue.{blank, problems, record_of}
+use Rattle.sheet_queue.specs.Queue.{blank, record_of}
 use Rattle.sheet_queue.specs.Promise.{part}
 use Rattle.sheet_queue.proofs.Parts.{part_of, put_at, put_length, put_same, put_other, put_rest}
 use Rattle.sheet_queue.proofs.Records.{own_at, own_count}
 use Rattle.sheet_queue.proofs.Promise.{book_shares}
 use Rattle.sheet_turn.specs.Turns.{plain_book, plain_sheet, TurnShares, TurnScores}
 use Rattle.queue_rounds.specs.declared.Plan.{Plan}
-use Rattle.queue_rounds.specs.declared.Rounds.{Rounds}
 use Rattle.queue_rounds.specs.declared.Work.{Work}
-use Rattle.queue_rounds.specs.Plans.{plan_lengths, plan_sheets, sheet_of, own_of, Accepted}
-use Rattle.queue_rounds.specs.Counts.{Kept, Turned, is_due, taken}
+use Rattle.queue_rounds.specs.Plans.{plan_sheets, sheet_of, own_of, Accepted}
+use Rattle.queue_rounds.specs.Counts.{Turned, is_due, taken}
 use Rattle.queue_rounds.specs.Work.{no_state, SheetAt, Working, SameRest}
 use Rattle.queue_rounds.proofs.Sheets.{sheet_count}
 use Rattle.queue_rounds.proofs.Turns.{same_or_other, left_is, more, few, moves}

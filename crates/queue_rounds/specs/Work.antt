@@ -10,7 +10,7 @@ use Rattle.sheet_queue.specs.Queue.{blank, problems, queue_steps, refusal_of, ac
 use Rattle.sheet_queue.specs.Promise.{part}
 use Rattle.sheet_turn.specs.Turns.{plain_book, plain_sheet, TurnScores}
 use Rattle.queue_rounds.specs.declared.Plan.{Plan}
-use Rattle.queue_rounds.specs.declared.Outcome.{Outcome}
+use Rattle.queue_rounds.specs.Outcomes.{Outcome}
 use Rattle.queue_rounds.specs.declared.Work.{Work}
 use Rattle.queue_rounds.specs.Plans.{plan_lengths, plan_sheets, sheet_of, own_of, Accepted}
 use Rattle.queue_rounds.specs.Counts.{Kept}

@@ -5,13 +5,16 @@
 
 ghost use Rattle.std.specs.Prelude.{◌≡◌, ◌-◌, ◌*◌, ◌+◌, ◌≤◌, ◌<◌, length, get_or, take, replicate, pos};
 ghost use Rattle.frank_wolfe.specs.Vectors.{sum};
+ghost use Rattle.refusals.specs.Numbers.{refusal_number};
 ghost use Rattle.files.specs.Book.{boats};
 ghost use Rattle.sheet_queue.specs.Queue.{blank, sheets_refusal, accepted_ahead, refusal_ahead, refusal_of, accepted_of, filled};
 ghost use Rattle.queue_rounds.specs.Plans.{plan_lengths, plan_sheets, sheet_of, own_of, Accepted};
+ghost use Rattle.queue_rounds.specs.Outcomes.{outcome, judged_number, judged_accepted};
 ghost use Rattle.queue_rounds.specs.Counts.{is_due, taken, Turned, Rounded};
 ghost use Rattle.queue_rounds.specs.Work.{no_state, Started, Working, SameRest, ServedAll, Ran};
 
 use iteration::State;
+use refusals::Refusal;
 use sheet_queue::SheetRecord;
 
 // The sheets of a queue: how many, and the lengths of the first 16.
@@ -21,21 +24,18 @@ pub struct Plan {
     pub lengths: [u32; 16],
 }
 
-// What refuses a queue: its number, or 0, and how many sheets are accepted ahead of the one that refuses it.
+// Why a queue is refused, and how many sheets are accepted ahead of the one that refuses it.
 #[derive(Clone, Copy)]
-pub struct Judged {
-    pub refusal: u32,
+pub struct Refused {
+    pub reason: Refusal,
     pub accepted: usize,
 }
 
-// What a queue leaves: the number that refuses it, or 0; how many records there are, none on a refusal; the records; and how many sheets are
-// accepted ahead of the one that refuses it.
+// What a queue leaves that is not refused: how many records there are, and the records.
 #[derive(Clone, Copy)]
-pub struct Outcome {
-    pub refusal: u32,
+pub struct Served {
     pub count: usize,
     pub records: [SheetRecord; 16],
-    pub accepted: usize,
 }
 
 // For each sheet the steps that it took and whether it is finished, and what is left of the allowance.
@@ -90,78 +90,71 @@ fn sheet_at<'a>(plan: Plan, i: usize, sheets: &'a [u8]) -> &'a [u8]
     &sheets[start..end]
 }
 
-// The number that refuses the first refused sheet, for a book of so many columns, or 0, and how many are accepted ahead of it.
-fn judge_sheets(plan: Plan, columns: u32, sheets: &[u8]) -> Judged
+// Judges the sheets for a book of so many columns: the first refused sheet refuses them.
+fn judge_sheets(plan: Plan, columns: u32, sheets: &[u8]) -> Result<(), Refused>
     requires count_bound { plan.count ≤ 16 }
     requires plan_value { sum (plan_lengths plan) ≡ length sheets.now }
-    ensures refusal_value { result.refusal ≡ sheets_refusal columns (plan_sheets plan sheets.now) }
-    ensures accepted_value { result.accepted ≡ accepted_ahead columns (plan_sheets plan sheets.now) }
+    ensures refusal_value { judged_number result ≡ sheets_refusal columns (plan_sheets plan sheets.now) }
+    ensures accepted_value { judged_accepted plan.count result ≡ accepted_ahead columns (plan_sheets plan sheets.now) }
 {
     let count = plan.count;
-    let mut i = 0;
-    while i < count {
-        let refusal = validation::sheet_refusal(sheet_at(plan, i, sheets), columns);
-        if refusal != 0 {
-            return Judged {
-                refusal,
+    for i in 0..count {
+        if let Err(reason) = validation::sheet_refusal(sheet_at(plan, i, sheets), columns) {
+            return Err(Refused {
+                reason,
                 accepted: i,
-            };
+            });
         }
-        i += 1;
     }
-    Judged {
-        refusal: 0,
-        accepted: i,
-    }
+    Ok(())
 }
 
-// The number that refuses the queue ahead of its sheets, or 0.
-fn refusal_ahead(plan: Plan, book: &[u8], sheets: &[u8], allowance: u32) -> u32
-    ensures { result ≡ refusal_ahead plan.count book.now (plan_lengths plan) sheets.now allowance }
+// What refuses the queue ahead of its sheets.
+fn refusal_ahead(plan: Plan, book: &[u8], sheets: &[u8], allowance: u32) -> Result<(), Refusal>
+    ensures { refusal_number result ≡ refusal_ahead plan.count book.now (plan_lengths plan) sheets.now allowance }
 {
-    let of_book = validation::book_refusal(book);
-    if of_book != 0 {
-        return of_book;
-    }
+    validation::book_refusal(book)?;
     let count = plan.count;
     if !file_parts::is_between(1, sheet_queue::MOST_SHEETS, count) {
-        return 44;
+        return Err(Refusal::QueueSheets);
     }
     if total_of(plan, count) != sheets.len() {
-        return 44;
+        return Err(Refusal::QueueSheets);
     }
     if (allowance as usize) < count {
-        return 45;
+        return Err(Refusal::QueueAllowance);
     }
     if allowance > sheet_queue::MOST_STEPS {
-        return 45;
+        return Err(Refusal::QueueAllowance);
     }
-    0
+    Ok(())
 }
 
 // What refuses the queue.
-fn judge(plan: Plan, book: &[u8], sheets: &[u8], allowance: u32, slots: usize) -> Judged
-    ensures refusal_value { result.refusal ≡ refusal_of plan.count book.now (plan_lengths plan) sheets.now allowance slots }
-    ensures accepted_value { result.accepted ≡ accepted_of plan.count book.now (plan_lengths plan) sheets.now allowance }
+fn judge(
+    plan: Plan,
+    book: &[u8],
+    sheets: &[u8],
+    allowance: u32,
+    slots: usize,
+) -> Result<(), Refused>
+    ensures refusal_value { judged_number result ≡ refusal_of plan.count book.now (plan_lengths plan) sheets.now allowance slots }
+    ensures accepted_value { judged_accepted plan.count result ≡ accepted_of plan.count book.now (plan_lengths plan) sheets.now allowance }
 {
-    let ahead = refusal_ahead(plan, book, sheets, allowance);
-    if ahead != 0 {
-        return Judged {
-            refusal: ahead,
+    if let Err(reason) = refusal_ahead(plan, book, sheets, allowance) {
+        return Err(Refused {
+            reason,
             accepted: 0,
-        };
+        });
     }
-    let judged = judge_sheets(plan, files::columns(book) as u32, sheets);
-    if judged.refusal != 0 {
-        return judged;
-    }
+    judge_sheets(plan, files::columns(book) as u32, sheets)?;
     if slots < sheet_queue::SLOTS * plan.count {
-        return Judged {
-            refusal: 21,
-            accepted: judged.accepted,
-        };
+        return Err(Refused {
+            reason: Refusal::ShareSlots,
+            accepted: plan.count,
+        });
     }
-    judged
+    Ok(())
 }
 
 // ---- Turns
@@ -367,41 +360,22 @@ pub fn run_plan(
     sheets: &[u8],
     allowance: u32,
     shares: &mut [u16],
-) -> Outcome
-    ensures { Ran book.now plan sheets.now allowance shares.old result shares.new }
+) -> Result<Served, Refused>
+    ensures { Ran book.now plan sheets.now allowance shares.old (outcome result) shares.new }
 {
-    let judged = judge(plan, book, sheets, allowance, shares.len());
-    if judged.refusal != 0 {
-        let none = SheetRecord {
-            asked: 0,
-            used: 0,
-            finished: false,
-            distance: 0,
-            gap: 0,
-            verdict: 0,
-            length: 0,
-        };
-        return Outcome {
-            refusal: judged.refusal,
-            count: 0,
-            records: [none; 16],
-            accepted: judged.accepted,
-        };
-    }
+    judge(plan, book, sheets, allowance, shares.len())?;
     let records = serve_all(plan, book, sheets, allowance, shares);
-    Outcome {
-        refusal: 0,
+    Ok(Served {
         count: plan.count,
         records,
-        accepted: judged.accepted,
-    }
+    })
 }
 
 // Record i of a queue.
-pub fn record_at(outcome: Outcome, i: usize) -> SheetRecord
+pub fn record_at(served: Served, i: usize) -> SheetRecord
     requires { i < 16 }
-    ensures { result ≡ get_or outcome.records i blank }
+    ensures { result ≡ get_or served.records i blank }
 {
-    let records = outcome.records;
+    let records = served.records;
     records[i]
 }

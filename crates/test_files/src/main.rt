@@ -5,6 +5,7 @@
 
 mod cases;
 
+use refusals::Refusal;
 use test_buffers::{between, less};
 use test_tables::field;
 
@@ -35,20 +36,20 @@ fn put_sheet(file: &mut [u8], line: &[u8], value: u64) -> usize {
     less(40001, field(line, b'L', 22) as usize)
 }
 
-fn book_refusal(line: &[u8], value: u64) -> u32 {
+fn book_refusal(line: &[u8], value: u64) -> Result<(), Refusal> {
     let mut file = [0u8; 40001];
     let start = put_book(&mut file, line, value);
     validation::book_refusal(between(&file, start, 40001))
 }
 
-fn sheet_refusal(line: &[u8], value: u64) -> u32 {
+fn sheet_refusal(line: &[u8], value: u64) -> Result<(), Refusal> {
     let mut file = [0u8; 40001];
     let start = put_sheet(&mut file, line, value);
     let columns = (field(line, b'Q', 3) % 4294967296) as u32;
     validation::sheet_refusal(between(&file, start, 40001), columns)
 }
 
-fn files_refusal(book_line: &[u8], sheet_line: &[u8]) -> u32 {
+fn files_refusal(book_line: &[u8], sheet_line: &[u8]) -> Result<(), Refusal> {
     let mut book = [0u8; 40001];
     let mut sheet = [0u8; 40001];
     let i = put_book(&mut book, book_line, field(book_line, b'V', 0));
@@ -56,8 +57,8 @@ fn files_refusal(book_line: &[u8], sheet_line: &[u8]) -> u32 {
     validation::files_refusal(between(&book, i, 40001), between(&sheet, j, 40001))
 }
 
-// The refusal of a line's file or files.
-fn refusal(line: &[u8], value: u64) -> u32 {
+// What refuses a line's file or files.
+fn refusal(line: &[u8], value: u64) -> Result<(), Refusal> {
     let middle = test_tables::find(line, 0, b';');
     if middle < line.len() {
         return files_refusal(
@@ -71,8 +72,12 @@ fn refusal(line: &[u8], value: u64) -> u32 {
     book_refusal(line, value)
 }
 
-// Ends a line of the output.
-fn print_refusal(rt: &HostRuntime, number: u32) {
+// Ends a line of the output, with the number of a refusal, 0 where there is none.
+fn print_refusal(rt: &HostRuntime, judged: Result<(), Refusal>) {
+    let number = match judged {
+        Ok(()) => 0,
+        Err(refusal) => refusal.number(),
+    };
     let _ = rt.write_all(b": ");
     let _ = rt.print(number as u64);
     let _ = rt.write_all(b"\n");

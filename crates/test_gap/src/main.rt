@@ -144,7 +144,6 @@ fn follow(start: State, book: &[u8], sheet: &[u8], layout: Layout, diameter: u64
     requires holds { Holds fixed book.now sheet.now 0 start }
 {
     let steps = files::steps(sheet);
-    let none = [0u16; 0];
     let mut shares = [0u16; 256];
     let mut scores = [0i64; 256];
     let mut tags = [0u8; 257];
@@ -164,8 +163,7 @@ fn follow(start: State, book: &[u8], sheet: &[u8], layout: Layout, diameter: u64
             state,
             book,
             sheet,
-            false,
-            &none,
+            None,
             layout,
             &mut shares,
             &mut scores,
@@ -240,8 +238,7 @@ fn summary(rt: &HostRuntime, totals: Totals) {
 
 // Follows the method on a book and a sheet, and reports.
 fn followed(rt: &HostRuntime, book: &[u8], sheet: &[u8], totals: Totals) -> Totals {
-    let refusal = validation::files_refusal(book, sheet);
-    if refusal != 0 {
+    if let Err(refusal) = validation::files_refusal(book, sheet) {
         test_printing::refused(rt, refusal);
         return totals;
     }

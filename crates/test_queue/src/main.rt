@@ -4,7 +4,7 @@
 
 ghost use Rattle.std.specs.Prelude.{◌<◌};
 
-use queue_rounds::{Outcome, Plan};
+use queue_rounds::{Plan, Refused, Served};
 use test_buffers::{between, u16_at};
 
 // The 4-byte number at `at`.
@@ -41,11 +41,11 @@ fn sum_of(slots: &[u16]) -> u64 {
 }
 
 // Prints record i.
-fn record(rt: &HostRuntime, outcome: Outcome, i: usize) {
+fn record(rt: &HostRuntime, served: Served, i: usize) {
     if 16 <= i {
         return;
     }
-    let record = queue_rounds::record_at(outcome, i);
+    let record = queue_rounds::record_at(served, i);
     test_printing::word(rt, b"record");
     test_printing::number(rt, record.asked as u64);
     test_printing::number(rt, record.used as u64);
@@ -57,11 +57,11 @@ fn record(rt: &HostRuntime, outcome: Outcome, i: usize) {
     test_printing::word(rt, b"\n");
 }
 
-// Prints the records of an outcome.
-fn records(rt: &HostRuntime, outcome: Outcome) {
-    let count = outcome.count;
+// Prints the records of a queue.
+fn records(rt: &HostRuntime, served: Served) {
+    let count = served.count;
     for i in 0..count {
-        record(rt, outcome, i);
+        record(rt, served, i);
     }
 }
 
@@ -73,12 +73,11 @@ fn run_within(
     allowance: u32,
     shares: &mut [u16],
     slots: usize,
-) -> Outcome {
+) -> Result<Served, Refused> {
     if shares.len() < slots {
         return queue_rounds::run_plan(plan, book, sheets, allowance, shares);
     }
-    let start = 0;
-    queue_rounds::run_plan(plan, book, sheets, allowance, &mut shares[start..slots])
+    queue_rounds::run_plan(plan, book, sheets, allowance, &mut shares[..slots])
 }
 
 // The case at `start`: four numbers of 2 bytes each, the allowance, 16 lengths, then the book and the sheets. Gives back where the next
@@ -97,9 +96,17 @@ fn case(rt: &HostRuntime, cases: &[u8], start: usize) -> usize {
         &mut shares,
         u16_at(cases, at + 2) as usize,
     );
-    test_printing::line(rt, b"refused", outcome.refusal as u64);
-    test_printing::line(rt, b"accepted", outcome.accepted as u64);
-    records(rt, outcome);
+    match outcome {
+        Ok(served) => {
+            test_printing::line(rt, b"refused", 0);
+            test_printing::line(rt, b"accepted", served.count as u64);
+            records(rt, served);
+        }
+        Err(refused) => {
+            test_printing::refused(rt, refused.reason);
+            test_printing::line(rt, b"accepted", refused.accepted as u64);
+        }
+    }
     test_printing::line(rt, b"sum", sum_of(&shares));
     end
 }

@@ -16,7 +16,7 @@ pub slice_bounds-queue_text-end : goal.slice_bounds-queue_text-end
 slice_bounds-queue_text-end c = sym (length-take-le _ _ (omega (arith, c.requires.0, c.read_sheets-read.ensures.some_sheets.long)))
 
 pub tell_refused-requires : goal.tell_refused-requires
-tell_refused-requires c = accepted_within _ _ _ _ c.queue_text-listed.ensures.accepted_value c.requires.0 c.read_sheets-read.ensures.some_sheets.long
+tell_refused-requires c = accepted_within _ _ _ _ (rw c.in-Err.is at c.queue_text-listed.ensures.accepted_value) c.requires.0 c.read_sheets-read.ensures.some_sheets.long
 
 pub shape_of-buffer : goal.shape_of-buffer
 shape_of-buffer c = c.read_sheets-read.ensures.buffer_len_unchanged

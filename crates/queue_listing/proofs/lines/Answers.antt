@@ -10,7 +10,7 @@ use Rattle.queue_listing.proofs.lines.Goals as goal
 
 pub loop-i-init : goal.loop-i-init
 loop-i-init c =
-    let x = c.args.outcome in
+    let x = c.args.served in
     let e : length (take x.count x.records) ≡ x.count = length-take-le x.count x.records (omega (arith, c.requires.0, c.requires.1)) in
     (sheets_start (omega (arith, c.requires.0)) c.empty-longer.ensures, e)
 

@@ -7,4 +7,4 @@ use Rattle.queue_listing.proofs.Adding.{SheetsAdded}
 use Rattle.queue_listing.proofs.lines.Given as goal
 
 abbrev pub invariant-loop-i : goal.invariant-loop-i
-invariant-loop-i l = SheetsAdded (take l.outcome.count l.outcome.records) l.longer l.i × (length (take l.outcome.count l.outcome.records) ≡ l.outcome.count)
+invariant-loop-i l = SheetsAdded (take l.served.count l.served.records) l.longer l.i × (length (take l.served.count l.served.records) ≡ l.served.count)

@@ -2,8 +2,6 @@
 -- A turn sets the slots of the boats in part i to 0.
 -- It ends: the parts that are left fall by one.
 use native.Mathlib.Omega.{arith}
-use borrow.Author.Rules.{rules}
-use Prim.Native.Nat.{◌-◌}
 use Rattle.queue_rounds.proofs.Works.{mid_length}
 use Rattle.queue_rounds.proofs.Clearing.{cleared_none, cleared_more, cleared_all}
 use Rattle.queue_rounds.proofs.clear_parts.Goals as goal

@@ -1,7 +1,6 @@
 -- `queue_rounds::due` meets its contract.
 use mathlib.Core.Path.{refl}
 use native.Mathlib.Omega.{arith}
-use borrow.Author.Rules.{rules}
 use borrow.Author.Tests.{lt-ltb, le-ltb}
 use Rattle.queue_rounds.proofs.due.Goals as goal
 

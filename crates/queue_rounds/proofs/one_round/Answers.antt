@@ -3,8 +3,6 @@
 -- It ends: the sheets that are left fall by one.
 use mathlib.Core.Path.{sym, ◌∙◌}
 use native.Mathlib.Omega.{arith}
-use borrow.Author.Rules.{rules}
-use Prim.Native.Nat.{◌-◌}
 use Rattle.queue_rounds.proofs.Passes.{starts, passes, passed}
 use Rattle.queue_rounds.proofs.Works.{own_length, rest_same, rest_both}
 use Rattle.queue_rounds.proofs.one_round.Goals as goal

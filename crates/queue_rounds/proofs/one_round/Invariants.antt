@@ -1,9 +1,7 @@
 -- `queue_rounds::one_round` meets its contract. The loop keeps `Partway`: the turns of the sheets from i on end where the whole round ends; `Working` holds, and slots that are no shares are as they were.
 -- A turn of the loop gives sheet i its turn.
 -- It ends: the sheets that are left fall by one.
-use native.Mathlib.Omega.{arith}
-use borrow.Author.Rules.{rules}
-use Prim.Native.Nat.{◌-◌, ◌≤◌}
+use Prim.Native.Nat.{◌≤◌}
 use Rattle.queue_rounds.specs.Plans.{own_of}
 use Rattle.queue_rounds.specs.Work.{Working, SameRest}
 use Rattle.queue_rounds.proofs.Passes.{Partway}

@@ -2,9 +2,6 @@
 -- A turn makes one more round; where it takes no step, no later round takes one, and the function returns.
 -- It ends: a round that takes a step leaves fewer steps of the allowance.
 use mathlib.Core.Path.{sym, ◌∙◌}
-use native.Mathlib.Omega.{arith}
-use borrow.Author.Rules.{rules}
-use Prim.Native.Nat.{◌-◌}
 use Rattle.queue_rounds.proofs.Serving.{begins, goes, falls, stops}
 use Rattle.queue_rounds.proofs.Works.{rest_same, rest_both}
 use Rattle.queue_rounds.proofs.Ends.{served_end}

@@ -1,9 +1,6 @@
 -- `queue_rounds::serve` meets its contract. The loop keeps `Serving`: the steps used are those after some number of whole rounds, and with the steps left they are the allowance; `Working` holds, and slots that are no shares are as they were.
 -- A turn makes one more round; where it takes no step, no later round takes one, and the function returns.
 -- It ends: a round that takes a step leaves fewer steps of the allowance.
-use native.Mathlib.Omega.{arith}
-use borrow.Author.Rules.{rules}
-use Prim.Native.Nat.{◌-◌}
 use Rattle.queue_rounds.specs.Plans.{own_of}
 use Rattle.queue_rounds.specs.Work.{Working, SameRest}
 use Rattle.queue_rounds.proofs.Serving.{Serving}

@@ -1,7 +1,6 @@
 -- `queue_rounds::serve_all` meets its contract.
 use mathlib.Core.Path.{refl}
 use native.Mathlib.Omega.{arith}
-use borrow.Author.Rules.{rules}
 use Rattle.files.proofs.Accepted.{files_accepted}
 use Rattle.queue_rounds.proofs.Works.{boats_few, rest_both}
 use Rattle.queue_rounds.proofs.Ends.{start_rest, start_works}

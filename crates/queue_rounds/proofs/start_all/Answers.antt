@@ -2,8 +2,6 @@
 -- A turn puts the first state of sheet i.
 -- It ends: the sheets that are left fall by one.
 use native.Mathlib.Omega.{arith}
-use borrow.Author.Rules.{rules}
-use Prim.Native.Nat.{◌-◌}
 use lib.ListN.{length-replicate}
 use Rattle.queue_rounds.specs.Work.{no_state}
 use Rattle.queue_rounds.proofs.Ends.{started_none, started_more, started_all}

@@ -1,9 +1,7 @@
 -- `queue_rounds::start_all` meets its contract. The loop keeps `StartedTo`: the first i sheets have their first states.
 -- A turn puts the first state of sheet i.
 -- It ends: the sheets that are left fall by one.
-use native.Mathlib.Omega.{arith}
-use borrow.Author.Rules.{rules}
-use Prim.Native.Nat.{◌-◌, ◌≤◌}
+use Prim.Native.Nat.{◌≤◌}
 use Rattle.queue_rounds.proofs.Ends.{StartedTo}
 use Rattle.queue_rounds.proofs.start_all.Given as goal
 

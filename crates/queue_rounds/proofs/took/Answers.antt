@@ -1,6 +1,5 @@
 -- `queue_rounds::took` meets its contract.
 use mathlib.Core.Path.{refl}
-use borrow.Author.Rules.{rules}
 use Rattle.queue_rounds.proofs.took.Goals as goal
 
 pub returns : goal.returns

@@ -2,7 +2,6 @@
 use mathlib.Core.Path.{◌≡◌}
 use native.Mathlib.Omega.{arith}
 use borrow.Author.Rules.{rules}
-use Prim.Native.Nat.{◌-◌}
 use lib.ListN.{length}
 use Rattle.queue_rounds.proofs.Sheets.{totalled_none, totalled_more, totalled_all}
 use Rattle.queue_rounds.proofs.total_of.Goals as goal

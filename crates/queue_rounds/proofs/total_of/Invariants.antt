@@ -1,7 +1,5 @@
 -- `queue_rounds::total_of` meets its contract.
-use native.Mathlib.Omega.{arith}
-use borrow.Author.Rules.{rules}
-use Prim.Native.Nat.{◌-◌, ◌≤◌}
+use Prim.Native.Nat.{◌≤◌}
 use Rattle.queue_rounds.proofs.Sheets.{Totalled}
 use Rattle.queue_rounds.proofs.total_of.Given as goal
 

@@ -1,8 +1,7 @@
 -- `queue_rounds::turn` meets its contract.
 use mathlib.Core.Path.{sym, ◌∙◌}
 use native.Mathlib.Omega.{arith}
-use borrow.Author.Rules.{rules}
-use Prim.Native.Nat.{ℕ, ◌+◌, ◌*◌, ◌-◌, ◌<◌}
+use Prim.Native.Nat.{ℕ, ◌+◌, ◌*◌, ◌<◌}
 use Rattle.queue_rounds.proofs.Turns.{waits}
 use Rattle.queue_rounds.proofs.Works.{own_length, rest_same, i_few, slots_room, scores_room, turn_asks, took_asks, turn_turned, turn_rest, turn_works}
 use Rattle.queue_rounds.proofs.turn.Goals as goal

@@ -13,20 +13,20 @@ steps-steps-requires c = (sheet_fits _ _ c.requires.sheet_value).at_least
 pub loop-state-init : goal.loop-state-init
 loop-state-init c = follow_start _ _ c.requires.sheet_value c.requires.holds
 
+pub slice_bounds-step-end : goal.slice_bounds-step-end
+slice_bounds-step-end c = sym c.loop-state.invariant.shares_long
+
 pub slice_bounds-step-end-in-loop-state : goal.slice_bounds-step-end-in-loop-state
-slice_bounds-step-end-in-loop-state c = sym c.loop-state.invariant.shares_long
+slice_bounds-step-end-in-loop-state c = sym c.loop-state.invariant.long
 
 pub slice_bounds-step-end-in-loop-state-2 : goal.slice_bounds-step-end-in-loop-state-2
-slice_bounds-step-end-in-loop-state-2 c = sym c.loop-state.invariant.long
+slice_bounds-step-end-in-loop-state-2 c = sym c.loop-state.invariant.remembers.tags_long
 
 pub slice_bounds-step-end-in-loop-state-3 : goal.slice_bounds-step-end-in-loop-state-3
-slice_bounds-step-end-in-loop-state-3 c = sym c.loop-state.invariant.remembers.tags_long
+slice_bounds-step-end-in-loop-state-3 c = sym c.loop-state.invariant.remembers.targets_long
 
 pub slice_bounds-step-end-in-loop-state-4 : goal.slice_bounds-step-end-in-loop-state-4
-slice_bounds-step-end-in-loop-state-4 c = sym c.loop-state.invariant.remembers.targets_long
-
-pub slice_bounds-step-end-in-loop-state-5 : goal.slice_bounds-step-end-in-loop-state-5
-slice_bounds-step-end-in-loop-state-5 c = sym c.loop-state.invariant.memory_long
+slice_bounds-step-end-in-loop-state-4 c = sym c.loop-state.invariant.memory_long
 
 pub step-state-requires : goal.step-state-requires
 step-state-requires c =

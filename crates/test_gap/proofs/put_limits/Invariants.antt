@@ -1,6 +1,5 @@
 -- `test_gap::put_limits` meets its contract.
 use mathlib.Core.Path.{◌≡◌}
-use Prim.Native.Nat.{◌-◌}
 use lib.ListN.{length}
 use Rattle.test_gap.proofs.put_limits.Given as goal
 

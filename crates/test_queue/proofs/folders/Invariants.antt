@@ -1,6 +1,5 @@
 -- `test_queue::folders` meets its contract.
-use borrow.Author.Rules.{rules}
-use Prim.Native.Nat.{◌-◌, ◌≤◌}
+use Prim.Native.Nat.{◌≤◌}
 use Rattle.test_queue.proofs.folders.Given as goal
 
 abbrev pub invariant-loop-number : goal.invariant-loop-number

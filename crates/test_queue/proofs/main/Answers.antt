@@ -2,7 +2,6 @@
 use mathlib.Core.Path.{sym}
 use Prim.Native.Nat.{ℕ}
 use lib.ListN.{length-replicate}
-use borrow.Author.Rules.{rules}
 use Rattle.test_queue.proofs.main.Goals as goal
 
 pub slice_bounds-run-end : goal.slice_bounds-run-end

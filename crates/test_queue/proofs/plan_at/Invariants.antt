@@ -1,8 +1,7 @@
 -- `test_queue::plan_at` meets its contract. The loop keeps that i is at most 16.
 -- A turn reads length i at its place in the case and puts it.
 -- It ends: the lengths that are left of 16 fall by one.
-use Prim.Native.Nat.{◌-◌, ◌≤◌}
-use borrow.Author.Rules.{rules}
+use Prim.Native.Nat.{◌≤◌}
 use Rattle.test_queue.proofs.plan_at.Given as goal
 
 abbrev pub invariant-loop-i : goal.invariant-loop-i

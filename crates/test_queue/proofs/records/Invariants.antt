@@ -1,6 +1,5 @@
 -- `test_queue::records` meets its contract.
-use Prim.Native.Nat.{◌-◌, ◌≤◌}
-use borrow.Author.Rules.{rules}
+use Prim.Native.Nat.{◌≤◌}
 use Rattle.test_queue.proofs.records.Given as goal
 
 abbrev pub invariant-loop-i : goal.invariant-loop-i

@@ -1,7 +1,5 @@
 -- `test_queue::sum_of` meets its contract.
-use Prim.Native.Nat.{◌-◌}
 use native.Mathlib.Omega.{arith}
-use borrow.Author.Rules.{rules}
 use Rattle.test_queue.proofs.sum_of.Goals as goal
 
 pub loop-i-preserved : goal.loop-i-preserved
