@@ -1,6 +1,5 @@
 -- `better_folder::tell_card` meets its contract.
 use Rattle.better_card.proofs.Wrong.{first_refused, second_refused}
-use borrow.Author.Rules.{rules}
 use Rattle.better_folder.proofs.tell_card.Goals as goal
 
 pub tell_card-requires : goal.tell_card-requires
