@@ -26,26 +26,18 @@ fn tell_card(
     refusal_output::tell_card(rt, b"first.wcd", book, sheet, first, refusal);
 }
 
-// Files the better of first.wcd and second.wcd, for fleet.wbk and sheet.wsh of a folder, there as better.wcd without front text, and
-// prints its listing. The current folder has no name. Where a file is refused or the card cannot be written, an older better.wcd
-// stays as it was, and standard error says so, with what is known of a refusal and of which file it is.
-pub fn file_better(rt: &HostRuntime, folder: &[u8]) {
-    let mut book = [0u8; 40001];
-    let mut sheet = [0u8; 40001];
+// Files the better of first.wcd and second.wcd of a folder, for these files of it, and prints its listing.
+fn file_found(rt: &HostRuntime, folder: &[u8], book: &[u8], sheet: &[u8]) {
     let mut first = [0u8; 40001];
     let mut second = [0u8; 40001];
-    let n = file_io::read_in(rt, folder, b"fleet.wbk", &mut book);
-    let m = file_io::read_in(rt, folder, b"sheet.wsh", &mut sheet);
     let k = file_io::read_in(rt, folder, b"first.wcd", &mut first);
     let l = file_io::read_in(rt, folder, b"second.wcd", &mut second);
-    let fleet = file_io::first_bytes(&book, n);
-    let asked = file_io::first_bytes(&sheet, m);
     let one = file_io::first_bytes(&first, k);
     let other = file_io::first_bytes(&second, l);
-    let chosen = better_listing::better_text(fleet, asked, one, other);
+    let chosen = better_listing::better_text(book, sheet, one, other);
     let choice = chosen.choice;
-    refusal_output::tell_detail(rt, fleet, asked, choice.refusal);
-    tell_card(rt, fleet, asked, one, other, chosen.wrong, choice.refusal);
+    refusal_output::tell_detail(rt, book, sheet, choice.refusal);
+    tell_card(rt, book, sheet, one, other, chosen.wrong, choice.refusal);
     let part = better_card::part_of(one, other, choice);
     let written = if choice.refusal == 0 {
         Some(choice.len)
@@ -55,4 +47,15 @@ pub fn file_better(rt: &HostRuntime, folder: &[u8]) {
     if file_io::replace_or_leave(rt, folder, b"better.wcd", part, written) {
         file_io::print(rt, chosen.text);
     }
+}
+
+// Files the better of first.wcd and second.wcd, for fleet.wbk and sheet.wsh of a folder, there as better.wcd without front text, and
+// prints its listing. The current folder has no name. Where a file is refused or the card cannot be written, an older better.wcd
+// stays as it was, and standard error says so, with what is known of a refusal and of which file it is.
+pub fn file_better(rt: &HostRuntime, folder: &[u8]) {
+    file_io::with_files(
+        rt,
+        folder,
+        |book, sheet| file_found(rt, folder, book, sheet),
+    );
 }

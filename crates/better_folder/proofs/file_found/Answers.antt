@@ -1,8 +1,8 @@
--- `better_folder::file_better` meets its contract.
+-- `better_folder::file_found` meets its contract.
 use Rattle.refusal_output.proofs.Numbers.{choice_files}
 use Rattle.better_card.proofs.Wrong.{wrong_refused}
 use borrow.Author.Rules.{rules}
-use Rattle.better_folder.proofs.file_better.Goals as goal
+use Rattle.better_folder.proofs.file_found.Goals as goal
 
 pub tell_detail-requires : goal.tell_detail-requires
 tell_detail-requires c = search (rules, choice_files)
