@@ -7,7 +7,7 @@
 pub fn books(rt: &HostRuntime) {
     crate::each_case(
         rt,
-        b"book length 0: N1 C1 K2 L0
+        "book length 0: N1 C1 K2 L0
 book length 11: N1 C1 K2 L11
 book length 12: N1 C1 K2 L12
 book length 13: N1 C1 K2 L13
@@ -38,7 +38,7 @@ book of 65535 columns: N1 C65535 K2 L14
 pub fn book_bodies(rt: &HostRuntime) {
     crate::each_case(
         rt,
-        b"book back 0: K0
+        "book back 0: K0
 book back 11: K11
 book back 12: K12
 book back 13: K13
@@ -69,7 +69,7 @@ book letters and value: W0 P2 V2001
 pub fn sheets(rt: &HostRuntime) {
     crate::each_case(
         rt,
-        b"sheet length 0: L0
+        "sheet length 0: L0
 sheet length 15: L15
 sheet length 16: L16
 sheet length 21: L21
@@ -105,7 +105,7 @@ sheet of 65 columns for 65: C65 Q65 K130 L146
 pub fn sheet_bodies(rt: &HostRuntime) {
     crate::each_case(
         rt,
-        b"sheet back 0: K0
+        "sheet back 0: K0
 sheet back 5: K5
 sheet back 6: K6
 sheet back 7: K7
@@ -137,7 +137,7 @@ sheet steps and value: S0 P2 V2001
 pub fn factored_sheets(rt: &HostRuntime) {
     crate::each_case(
         rt,
-        b"sheet with factors length 15: W843600727 K9 F65793 L15
+        "sheet with factors length 15: W843600727 K9 F65793 L15
 sheet with factors length 16: W843600727 K9 F65793 L16
 sheet with factors length 24: W843600727 K9 F65793 L24
 sheet with factors length 25: W843600727 K9 F65793 L25
@@ -173,7 +173,7 @@ sheet with factors front just before the body: A W843600727 K9 F65793 L27 P11
 pub fn factors(rt: &HostRuntime) {
     crate::each_case(
         rt,
-        b"sheet factors 0 0 0: W843600727 K9 L25 F0
+        "sheet factors 0 0 0: W843600727 K9 L25 F0
 sheet factors 1 0 0: W843600727 K9 L25 F1
 sheet factors 0 0 1: W843600727 K9 L25 F65536
 sheet factors 0 63 0: W843600727 K9 L25 F16128
@@ -203,7 +203,7 @@ sheet value and factors: W843600727 K9 L25 F0 P9 V2001
 pub fn both(rt: &HostRuntime) {
     crate::each_case(
         rt,
-        b"both accepted: ; C2 K4 L20
+        "both accepted: ; C2 K4 L20
 both empty: L0; L0
 book accepted, sheet empty: ; L0
 book value out, sheet short: P2 V2001; C2 K4 L15

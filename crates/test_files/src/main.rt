@@ -93,8 +93,8 @@ fn value_case(rt: &HostRuntime, line: &[u8], value: u64) {
 
 // A case for each value of the list.
 fn value_cases(rt: &HostRuntime, line: &[u8]) {
-    for i in 0..7 {
-        value_case(rt, line, VALUES[i]);
+    for value in &VALUES {
+        value_case(rt, line, *value);
     }
 }
 
@@ -108,11 +108,9 @@ fn case(rt: &HostRuntime, line: &[u8]) {
 }
 
 // Each line of a table.
-pub fn each_case(rt: &HostRuntime, table: &[u8]) {
-    let mut at = 0;
-    while at < table.len() {
-        case(rt, test_tables::line(table, at));
-        at = test_tables::next_line(table, at);
+pub fn each_case(rt: &HostRuntime, table: &str) {
+    for line in table.lines() {
+        case(rt, line.as_bytes());
     }
 }
 
