@@ -27,11 +27,9 @@ fn case(rt: &HostRuntime, line: &[u8]) {
 }
 
 // Each line of a table.
-fn each_case(rt: &HostRuntime, table: &[u8]) {
-    let mut at = 0;
-    while at < table.len() {
-        case(rt, test_tables::line(table, at));
-        at = test_tables::next_line(table, at);
+fn each_case(rt: &HostRuntime, table: &str) {
+    for line in table.lines() {
+        case(rt, line.as_bytes());
     }
 }
 
@@ -41,7 +39,7 @@ fn each_case(rt: &HostRuntime, table: &[u8]) {
 fn main(rt: HostRuntime) {
     each_case(
         &rt,
-        b"sheet of no steps: J1 M0
+        "sheet of no steps: J1 M0
 list of two slots: J2
 a:
 b: M3

@@ -90,11 +90,9 @@ fn check(rt: &HostRuntime, line: &[u8]) {
 }
 
 // Checks the card of each line.
-fn check_all(rt: &HostRuntime, table: &[u8]) {
-    let mut at = 0;
-    while at < table.len() {
-        check(rt, test_tables::line(table, at));
-        at = test_tables::next_line(table, at);
+fn check_all(rt: &HostRuntime, table: &str) {
+    for line in table.lines() {
+        check(rt, line.as_bytes());
     }
 }
 
@@ -105,7 +103,7 @@ fn check_all(rt: &HostRuntime, table: &[u8]) {
 fn trailers(rt: &HostRuntime) {
     check_all(
         rt,
-        b"equal shares:
+        "equal shares:
 one share at the only step: P11 K4 V3 S1 E10 G16 B40 M1
 far target: P1323 K8 V2 E648 G0 B44 X5
 35 bytes: B35
@@ -139,7 +137,7 @@ back 8: K8
 fn pairs_and_numbers(rt: &HostRuntime) {
     check_all(
         rt,
-        b"boats 1 0 2: P120222
+        "boats 1 0 2: P120222
 boats 0 0 2: P020222
 boats 0 1 3: P021232
 shares 0 4 2: P001422
@@ -167,7 +165,7 @@ gap 33 and tolerance 2: G33 T2
 fn editions(rt: &HostRuntime) {
     check_all(
         rt,
-        b"former equal shares: L826557271
+        "former equal shares: L826557271
 former far target: P1323 K8 V2 E648 G0 B44 X5 L826557271
 sharper first step beyond: P11 K4 V2 S1 E26 G16 B40 X5
 former first step beyond: P11 K4 V2 S1 E26 G16 B40 X5 L826557271
