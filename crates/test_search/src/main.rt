@@ -29,8 +29,8 @@ fn checksum(slots: &[u16]) -> u64
     ensures { result ≡ checksum slots.now }
 {
     let mut sum = 0;
-    for i in 0..slots.len() {
-        sum = (257 * sum + wide(slots[i])) % 1000003;
+    for slot in slots {
+        sum = (257 * sum + wide(*slot)) % 1000003;
     }
     sum
 }
@@ -57,11 +57,9 @@ fn files(rt: &HostRuntime, line: &[u8]) {
 }
 
 // The same of each line of a table.
-fn each(rt: &HostRuntime, table: &[u8]) {
-    let mut at = 0;
-    while at < table.len() {
-        files(rt, test_tables::line(table, at));
-        at = test_tables::next_line(table, at);
+fn each(rt: &HostRuntime, table: &str) {
+    for line in table.lines() {
+        files(rt, line.as_bytes());
     }
 }
 
@@ -89,7 +87,7 @@ fn with_front(rt: &HostRuntime, size: usize) {
 fn marked_and_limits(rt: &HostRuntime) {
     each(
         rt,
-        b"p.wbk a.wsh:
+        "p.wbk a.wsh:
 p.wbk b.wsh:
 p.wbk c.wsh:
 p.wbk d.wsh:
@@ -129,7 +127,7 @@ h.wbk tolerance1.wsh:
 fn lists(rt: &HostRuntime) {
     each(
         rt,
-        b"p.wbk a.wsh: L3
+        "p.wbk a.wsh: L3
 p.wbk a.wsh: L2
 p.wbk a.wsh: L0
 boats256.wbk columns1.wsh: L255

@@ -4,8 +4,8 @@ use native.Mathlib.Omega.{arith}
 use Rattle.test_buffers.proofs.Sums.{sum_more, sum_end}
 use Rattle.test_search.proofs.checksum.Goals as goal
 
-pub loop-i-preserved : goal.loop-i-preserved
-loop-i-preserved c = (omega arith, sum_more c.args.slots.now c.loop-i.i c.loop-i.sum c.loop-i.invariant.1 (search rules) c.wide.ensures.value)
+pub loop-slot-preserved : goal.loop-slot-preserved
+loop-slot-preserved c = (omega arith, sum_more c.args.slots.now c.loop-slot.slot-index c.loop-slot.sum c.loop-slot.invariant.1 (search rules) c.wide.ensures.value)
 
 pub returns : goal.returns
-returns c = sum_end c.args.slots.now c.loop-i.i c.loop-i.sum c.loop-i.invariant.1 (search rules)
+returns c = sum_end c.args.slots.now c.loop-slot.slot-index c.loop-slot.sum c.loop-slot.invariant.1 (search rules)
