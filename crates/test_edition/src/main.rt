@@ -66,11 +66,9 @@ fn filed_before(rt: &HostRuntime, line: &[u8]) {
 }
 
 // Each line of a table.
-fn each(rt: &HostRuntime, table: &[u8]) {
-    let mut at = 0;
-    while at < table.len() {
-        filed_before(rt, test_tables::line(table, at));
-        at = test_tables::next_line(table, at);
+fn each(rt: &HostRuntime, table: &str) {
+    for line in table.lines() {
+        filed_before(rt, line.as_bytes());
     }
 }
 
@@ -92,13 +90,12 @@ fn ends_beyond(book: &[u8], sheet: &mut [u8], m: usize, tolerance: u64) -> bool 
 // The greatest tolerance at which the search ends Beyond, 0 where it ends so at none: it does at every lower one.
 fn border(book: &[u8], sheet: &mut [u8], m: usize) -> u64 {
     let mut best = 0;
-    let mut bit = 536870912;
-    while 0 < bit {
+    for place in 0u32..30 {
+        let bit = 536870912 >> place;
         let next = best % 1073741824 + bit % 1073741824;
         if ends_beyond(book, sheet, m, next) {
             best = next;
         }
-        bit /= 2;
     }
     best
 }
@@ -149,7 +146,7 @@ fn one(rt: &HostRuntime, seed: &mut u64, number: u64) {
 fn all_filed_before(rt: &HostRuntime) {
     each(
         rt,
-        b"a: Bp.wbk Sa.wsh Ca.wcd
+        "a: Bp.wbk Sa.wsh Ca.wcd
 b: Bp.wbk Sb.wsh Cb.wcd
 c: Bp.wbk Sc.wsh Cc.wcd
 d: Bp.wbk Sd.wsh Cd.wcd

@@ -276,12 +276,10 @@ fn wide(boats: u64, scale: u64, steps: u64) -> Plan {
 
 // Books of 64 columns.
 fn wide_cases(rt: &HostRuntime, seed: &mut u64) {
-    let mut number = 0;
-    while number < 30 {
+    for number in 0..30 {
         one(rt, seed, number, wide(6, 20, 8), 20);
-        number += 1;
     }
-    one(rt, seed, number, wide(256, 2000, 12), 20);
+    one(rt, seed, 30, wide(256, 2000, 12), 20);
 }
 
 // Books of 9 to 40 boats, whose sets have more than one byte.

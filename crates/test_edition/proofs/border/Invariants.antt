@@ -4,8 +4,5 @@ use borrow.Author.Rules.{rules}
 use lib.ListN.{length}
 use Rattle.test_edition.proofs.border.Given as goal
 
-abbrev pub invariant-loop-bit : goal.invariant-loop-bit
-invariant-loop-bit l = length l.sheet ≡ length l.initial.sheet
-
-abbrev pub decreases-loop-bit : goal.decreases-loop-bit
-decreases-loop-bit l = l.bit
+abbrev pub invariant-loop-place : goal.invariant-loop-place
+invariant-loop-place l = length l.sheet ≡ length l.initial.sheet
