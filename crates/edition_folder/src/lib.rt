@@ -2,17 +2,6 @@
 // what is printed and filed to the reference.
 #![tactic(auto)]
 
-use editions::Edition;
-use refusals::Refusal;
-
-// How many bytes a conversion wrote, none where it is refused.
-fn size_of(given: Result<Edition, Refusal>) -> Option<usize> {
-    match given {
-        Ok(e) => Some(e.size),
-        Err(_) => None,
-    }
-}
-
 // Converts sheet.wsh in a folder into its other edition, files that there as other.wsh and prints its edition and bytes, or the number that
 // refuses it. The current folder has no name. Where the sheet is refused or other.wsh cannot be written, an older one stays as it was, and
 // standard error says so, with what is known of a refusal. One byte more is read than a file may have, so that a longer file is refused and
@@ -25,7 +14,8 @@ pub fn file_other(rt: &HostRuntime, folder: &[u8]) {
     if let Err(refusal) = given {
         file_io::tell_text(rt, edition_text::known_detail(&sheet[..n], refusal));
     }
-    if file_io::replace_or_leave(rt, folder, b"other.wsh", &output, size_of(given)) {
+    let size = given.ok().map(|edition| edition.size);
+    if file_io::replace_or_leave(rt, folder, b"other.wsh", &output, size) {
         file_io::print(rt, edition_text::edition_line(given));
     }
 }
