@@ -1,5 +1,4 @@
 -- `card::check_card` meets its contract: that of `check_card_with`, with nothing handed in.
-use borrow.Author.Rules.{rules}
 use Rattle.card.proofs.check_card.Goals as goal
 
 pub returns : goal.returns

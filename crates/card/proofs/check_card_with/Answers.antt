@@ -1,11 +1,10 @@
 -- `card::check_card_with` meets its contract.
 use Rattle.std.specs.Prelude.{option_copied}
-use mathlib.Core.Path.{sym, ◌∙◌}
+use mathlib.Core.Path.{sym}
 use Rattle.refusals.proofs.Numbers.{positive}
 use Rattle.files.proofs.Numbers.{all_bytes_known}
 use Rattle.method.proofs.Searched.{passed_searched}
 use Rattle.card.proofs.Checking.{promised, refused_by_call}
-use borrow.Author.Rules.{rules}
 use Rattle.card.proofs.check_card_with.Goals as goal
 
 pub returns-in_err-call_refusal : goal.returns-in_err-call_refusal

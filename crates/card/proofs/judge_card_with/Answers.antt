@@ -1,6 +1,6 @@
 -- `card::judge_card_with` meets its contract.
 use Rattle.std.specs.Prelude.{option_copied}
-use mathlib.Core.Path.{refl, sym, ◌∙◌}
+use mathlib.Core.Path.{refl, ◌∙◌}
 use Rattle.method.specs.Calls.{terms_in}
 use Rattle.refusals.proofs.Numbers.{positive}
 use Rattle.method.proofs.Accepted.{files_ok}

@@ -2,7 +2,6 @@
 use Rattle.std.specs.Prelude.{option_copied}
 use mathlib.Core.Path.{◌∙◌}
 use native.Mathlib.Omega.{arith}
-use borrow.Author.Rules.{rules}
 use Rattle.method.specs.Calls.{schedule_in, terms}
 use Rattle.method.proofs.Schedules.{schedule_sized}
 use Rattle.iteration.proofs.States.{sheet_fits}

@@ -3,7 +3,6 @@ use Rattle.std.specs.Prelude.{option_copied}
 use Rattle.method.specs.Calls.{terms_in}
 use Rattle.method.proofs.Accepted.{files_ok, schedule_ok}
 use Rattle.released_card.proofs.Judging.{unlimited_judgement}
-use borrow.Author.Rules.{rules}
 use Rattle.released_card.proofs.judged.Goals as goal
 
 pub plain_judged-requires : goal.plain_judged-requires

@@ -1,5 +1,4 @@
 -- `released_card::may_stand` meets its contract.
-use borrow.Author.Rules.{rules}
 use Rattle.released_card.proofs.may_stand.Goals as goal
 
 pub returns : goal.returns

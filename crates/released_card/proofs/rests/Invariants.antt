@@ -1,10 +1,8 @@
 -- `released_card::rests` meets its contract. The loop keeps `Resting`: the boats from i on decide as all do, since each boat before i may be used or holds none.
 -- A turn tests boat i; where it fails the answer is no.
 -- It ends: the boats that are left fall by one.
-use Prim.Native.Nat.{◌-◌, ◌≤◌}
-use native.Mathlib.Omega.{arith}
+use Prim.Native.Nat.{◌≤◌}
 use lib.ListN.{take}
-use borrow.Author.Rules.{rules}
 use Rattle.method.specs.ReleasedBoats.{usable}
 use Rattle.released_card.proofs.Resting.{Resting}
 use Rattle.released_card.proofs.rests.Given as goal

@@ -1,5 +1,4 @@
 -- `written_card::write_card` meets its contract: that of `write_card_with`, with nothing handed in.
-use borrow.Author.Rules.{rules}
 use Rattle.written_card.proofs.write_card.Goals as goal
 
 pub returns : goal.returns

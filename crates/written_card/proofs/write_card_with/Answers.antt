@@ -1,13 +1,12 @@
 -- `written_card::write_card_with` meets its contract.
 use Rattle.std.specs.Prelude.{option_copied}
-use mathlib.Core.Path.{sym, ◌∙◌}
+use mathlib.Core.Path.{sym}
 use Rattle.method.specs.Calls.{terms_in}
 use Rattle.refusals.proofs.Numbers.{positive}
 use Rattle.method.proofs.Accepted.{files_ok}
 use Rattle.card_format.proofs.Written.{passed_written}
 use Rattle.iteration.proofs.States.{book_fits, sheet_fits}
 use Rattle.written_card.proofs.Filing.{refused_by_call, refused_short, pairs_fit, filed}
-use borrow.Author.Rules.{rules}
 use Rattle.written_card.proofs.write_card_with.Goals as goal
 
 pub returns-in_err-call_refusal : goal.returns-in_err-call_refusal
