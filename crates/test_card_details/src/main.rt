@@ -4,7 +4,6 @@
 
 ghost use Rattle.std.specs.Prelude.{◌<◌};
 
-use method::Searched;
 use test_buffers::{between, u16_at};
 
 // Prints the lines of one number, with a name and with one of 106 bytes, where there is one.
@@ -23,17 +22,14 @@ fn of(rt: &HostRuntime, book: &[u8], sheet: &[u8], card: &[u8], number: u32) {
 }
 
 // The number that refuses a book, a sheet and a card.
-fn refusal_of(book: &[u8], sheet: &[u8], card: &[u8]) -> u32 {
+fn refusal_of(book: &[u8], sheet: &[u8], card: &[u8]) -> u64 {
     let mut shares = [0u16; 256];
-    match card::check_card(book, sheet, card, &mut shares) {
-        Searched::Refused(n) => n,
-        Searched::Answered(_) => 0,
-    }
+    test_printing::refusal_number(card::check_card(book, sheet, card, &mut shares))
 }
 
 // Prints the number that refuses a book, a sheet and a card, and the lines of all numbers.
 fn told(rt: &HostRuntime, book: &[u8], sheet: &[u8], card: &[u8]) {
-    test_printing::line(rt, b"refusal", refusal_of(book, sheet, card) as u64);
+    test_printing::line(rt, b"refusal", refusal_of(book, sheet, card));
     for number in 0..60 {
         of(rt, book, sheet, card, number);
     }
