@@ -18,7 +18,7 @@ use Rattle.sheet_output.proofs.Values.{length_values_bytes}
 use Rattle.buffers.proofs.Writing.{front_taken}
 use Rattle.book_output.specs.Output.{book_trailer}
 use Rattle.book_output.proofs.Back.{book_trailer_length}
-use Rattle.csv_fleet_tokens.specs.declared.Table.{Table}
+use Rattle.csv_fleet_tokens.specs.Table.{Table}
 use Rattle.csv_fleet_reader.specs.Fleet.{fleet_values, last_table, last_line}
 use Rattle.csv_fleet_rows.specs.Rows.{fleet_rows, Whole, FaultlessWhole}
 use Rattle.csv_fleet_rows.proofs.Counting.{faultless_whole}

@@ -16,8 +16,7 @@ use Rattle.csv_bytes.specs.Tokens.{NumberedStep, step, ending, tokens, separator
 use Rattle.csv_fleet_reader.proofs.Reading.{next_tokens, last_token}
 use Rattle.csv_fields.specs.Fields.{byte_if}
 use Rattle.csv_fields.proofs.Fielding.{both, few_one}
-use Rattle.csv_cells.specs.declared.Place.{Place}
-use Rattle.csv_cells.specs.Cells.{start, moved, is_in, is_past, cell_byte, cell_from, cell_text}
+use Rattle.csv_cells.specs.Cells.{Place, start, moved, is_in, is_past, cell_byte, cell_from, cell_text}
 use Rattle.csv_cells.proofs.Past.{past_no_bytes}
 use Rattle.csv_cells.proofs.Places.{Within, within_start, within_more}
 

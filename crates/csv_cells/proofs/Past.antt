@@ -7,8 +7,7 @@ use native.Mathlib.Omega.{arith}
 use borrow.Author.Tests.{ltb-true, eqb-true, eqb-false, eq-eqb, ne_eqb}
 use lib.Dec.{ltb, eqb}
 use Rattle.csv_fields.specs.Fields.{byte_if}
-use Rattle.csv_cells.specs.declared.Place.{Place}
-use Rattle.csv_cells.specs.Cells.{moved, is_in, is_past, cell_from}
+use Rattle.csv_cells.specs.Cells.{Place, moved, is_in, is_past, cell_from}
 use Rattle.csv_cells.proofs.Steps.{moved_faulty, moved_near}
 
 -- ---- the test

@@ -8,8 +8,7 @@ use Rattle.csv_bytes.specs.declared.Mode.{Mode}
 use Rattle.csv_bytes.specs.declared.Mode.TheVariants.{Start}
 use Rattle.csv_bytes.specs.Tokens.{NumberedStep, step, ending, tokens, separator, mark_size, csv_tokens}
 use Rattle.csv_fleet_reader.proofs.Reading.{mark_inside, next_tokens, last_token}
-use Rattle.csv_cells.specs.declared.Place.{Place}
-use Rattle.csv_cells.specs.Cells.{start, moved, place_from, last_place, line_at, line_from, line_of}
+use Rattle.csv_cells.specs.Cells.{Place, start, moved, place_from, last_place, line_at, line_from, line_of}
 use Rattle.csv_cells.proofs.Steps.{moved_near}
 
 -- after i bytes a place is not far

@@ -6,8 +6,7 @@ use lib.ListN.{length, get_or}
 use Rattle.csv_bytes.specs.declared.Mode.{Mode}
 use Rattle.csv_bytes.specs.declared.Mode.TheVariants.{Start}
 use Rattle.csv_bytes.specs.Tokens.{NumberedStep, step, ending, separator, mark_size}
-use Rattle.csv_cells.specs.declared.Place.{Place}
-use Rattle.csv_cells.specs.Cells.{start, moved, last_place, line_at, line_of, width_at, width}
+use Rattle.csv_cells.specs.Cells.{Place, start, moved, last_place, line_at, line_of, width_at, width}
 use Rattle.csv_cells.proofs.Places.{Placing, placing_start, placing_more, placing_end, Lining, lining_start, lining_more, lining_end}
 use Rattle.csv_cells.proofs.Widths.{Widening, widening_start, widening_more, widening_end}
 

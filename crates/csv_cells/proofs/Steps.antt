@@ -5,8 +5,7 @@ use Prim.Native.Nat.{ℕ, ◌+◌, ◌≤◌, ◌<◌}
 use native.Mathlib.Omega.{arith}
 use borrow.Author.Tests.{ltb-true, eqb-true, eq-eqb, ne_eqb, lt-ltb, le-ltb}
 use lib.Dec.{ltb, eqb}
-use Rattle.csv_cells.specs.declared.Place.{Place}
-use Rattle.csv_cells.specs.Cells.{faulty, with_text, next_field, row_after, next_line, ended, consumed, moved}
+use Rattle.csv_cells.specs.Cells.{Place, faulty, with_text, next_field, row_after, next_line, ended, consumed, moved}
 
 module _ (p : Place) where
   pub text_added : p.size < 200 → record { line = p.line; row = p.row; field = p.field; size = p.size + 1; fault = 0 } ≡ with_text p

@@ -13,8 +13,7 @@ use Rattle.csv_bytes.specs.Tokens.{NumberedStep, step, tokens, separator, mark_s
 use Rattle.csv_fleet_reader.proofs.Reading.{next_tokens}
 use Rattle.csv_fields.specs.Fields.{byte_if}
 use Rattle.csv_fields.proofs.Fielding.{both}
-use Rattle.csv_cells.specs.declared.Place.{Place}
-use Rattle.csv_cells.specs.Cells.{start, moved, is_in, cell_from, cell_text, width_to, width, width_at}
+use Rattle.csv_cells.specs.Cells.{Place, start, moved, is_in, cell_from, cell_text, width_to, width, width_at}
 use Rattle.csv_cells.proofs.Steps.{moved_near, few_fields}
 use Rattle.csv_cells.proofs.Places.{Within, within_start, within_more}
 use Rattle.csv_cells.proofs.Celling.{no_bytes_left}

@@ -3,14 +3,27 @@
 use Rattle.std.specs.Prelude.{Bool, true, false, cond, List, [], ◌∷◌, ◌++◌, ℕ, zero, suc, ◌+◌, ltb, eqb, length}
 use Rattle.csv_bytes.specs.Tokens.{csv_tokens}
 use Rattle.csv_fields.specs.Fields.{byte_if}
-use Rattle.csv_cells.specs.declared.Place.{Place}
+use Rattle.csv_fleet_tokens.specs.Faults.{option_number}
+use Rattle.csv_cells.specs.declared.Place.{Place as Read}
 
--- what is wrong, besides a token that is: a field of more than 200 bytes, more than 65 fields in a line. The numbers are those of fleet_table
+-- what is wrong, besides a token that is: a field of more than 200 bytes, more than 65 fields in a line. The numbers are those of csv_fleet_tokens
 abbrev pub LONG : ℕ
 LONG = 1
 
 abbrev pub MANY : ℕ
 MANY = 4
+
+-- where a token stands, with the number of the first fault
+pub record Place : Type 0 where
+  pub line : ℕ
+  pub row : ℕ
+  pub field : ℕ
+  pub size : ℕ
+  pub fault : ℕ
+
+-- of a place of the code
+abbrev pub numbered : Read → Place
+numbered p = record { line = p.line; row = p.row; field = p.field; size = p.size; fault = option_number p.fault }
 
 -- ---- where a token stands: its line, counted from 1, the rows before its line, the fields before its field, the bytes of the field before it
 

@@ -8,51 +8,48 @@ ghost use Rattle.std.specs.Prelude.{◌≡◌, ◌≤◌, ◌<◌, length};
 ghost use Rattle.buffers.specs.Placed.{placed};
 ghost use Rattle.csv_bytes.specs.Tokens.{token_number};
 ghost use Rattle.csv_fields.specs.Fields.{bytes_of, byte_where};
-ghost use Rattle.csv_cells.specs.Cells.{start, faulty, with_text, next_field, row_after, next_line, ended, consumed, moved, last_place, is_in, is_past, cell_text, line_at, line_of, width_at, width};
+ghost use Rattle.csv_fleet_tokens.specs.Faults.{fault_number, option_number};
+ghost use Rattle.csv_cells.specs.Cells.{numbered, start, faulty, with_text, next_field, row_after, next_line, ended, consumed, moved, last_place, is_in, is_past, cell_text, line_at, line_of, width_at, width};
 
 use csv_bytes::{Mode, Token};
-
-// What is wrong, besides the tokens csv_bytes::STRAY and csv_bytes::OPEN: a field of more than 200 bytes, more than 65 fields in a line.
-pub const LONG: u32 = 1;
-
-pub const MANY: u32 = 4;
+use csv_fleet_tokens::Fault;
 
 // Where a token stands: its line, counted from 1, the rows before its line, the fields before its field, the bytes of the field before it, and
-// the first fault or 0.
+// the first fault.
 #[derive(Clone, Copy)]
 pub struct Place {
     pub line: usize,
     pub row: usize,
     pub field: usize,
     pub size: usize,
-    pub fault: u32,
+    pub fault: Option<Fault>,
 }
 
 impl Place {
     // The place of the first token.
     pub fn start() -> Place
-        ensures { result ≡ start }
+        ensures { numbered result ≡ start }
     {
         Place {
             line: 1,
             row: 0,
             field: 0,
             size: 0,
-            fault: 0,
+            fault: None,
         }
     }
 
-    fn faulty(mut self, fault: u32) -> Place
-        ensures { result ≡ faulty self fault }
+    fn faulty(mut self, fault: Fault) -> Place
+        ensures { numbered result ≡ faulty (numbered self) (fault_number fault) }
     {
-        self.fault = fault;
+        self.fault = Some(fault);
         self
     }
 
     // After a byte of a field.
     #[tactic(auto, unfolding(crate::specs::Cells::with_text))]
     fn with_text(self) -> Place
-        ensures { result ≡ with_text self }
+        ensures { numbered result ≡ with_text (numbered self) }
     {
         if self.size < 200 {
             return Place {
@@ -60,15 +57,15 @@ impl Place {
                 row: self.row,
                 field: self.field,
                 size: self.size + 1,
-                fault: 0,
+                fault: None,
             };
         }
-        self.faulty(LONG)
+        self.faulty(Fault::Long)
     }
 
     #[tactic(auto, unfolding(crate::specs::Cells::next_field))]
     fn next_field(self) -> Place
-        ensures { result ≡ next_field self }
+        ensures { numbered result ≡ next_field (numbered self) }
     {
         if self.field < 64 {
             return Place {
@@ -76,17 +73,17 @@ impl Place {
                 row: self.row,
                 field: self.field + 1,
                 size: 0,
-                fault: 0,
+                fault: None,
             };
         }
-        self.faulty(MANY)
+        self.faulty(Fault::Many)
     }
 
     // The rows before the next line. A line without bytes is no row.
     #[tactic(auto, unfolding(crate::specs::Cells::row_after))]
     fn row_after(self) -> usize
         requires { self.row < 4294967296 }
-        ensures { result ≡ row_after self }
+        ensures { result ≡ row_after (numbered self) }
     {
         if self.field != 0 {
             return self.row + 1;
@@ -101,14 +98,14 @@ impl Place {
     fn next_line(self) -> Place
         requires line_bound { self.line < 4294967296 }
         requires row_bound { self.row < 4294967296 }
-        ensures { result ≡ next_line self }
+        ensures { numbered result ≡ next_line (numbered self) }
     {
         Place {
             line: self.line + 1,
             row: self.row_after(),
             field: 0,
             size: 0,
-            fault: 0,
+            fault: None,
         }
     }
 
@@ -116,14 +113,14 @@ impl Place {
     #[tactic(auto, unfolding(crate::specs::Cells::ended))]
     fn ended(self) -> Place
         requires { self.row < 4294967296 }
-        ensures { result ≡ ended self }
+        ensures { numbered result ≡ ended (numbered self) }
     {
         Place {
             line: self.line,
             row: self.row_after(),
             field: 0,
             size: 0,
-            fault: 0,
+            fault: None,
         }
     }
 
@@ -131,7 +128,7 @@ impl Place {
     fn consumed(self, token: Token) -> Place
         requires line_bound { self.line < 4294967296 }
         requires row_bound { self.row < 4294967296 }
-        ensures { result ≡ consumed self (token_number token) }
+        ensures { numbered result ≡ consumed (numbered self) (token_number token) }
     {
         match token {
             Token::Byte(_) => self.with_text(),
@@ -139,8 +136,8 @@ impl Place {
             Token::Line => self.next_line(),
             Token::End => self.ended(),
             Token::Nothing => self,
-            Token::Stray => self.faulty(csv_fleet_tokens::STRAY),
-            Token::Open => self.faulty(csv_fleet_tokens::OPEN),
+            Token::Stray => self.faulty(Fault::Stray),
+            Token::Open => self.faulty(Fault::Open),
         }
     }
 
@@ -149,25 +146,25 @@ impl Place {
     pub fn moved(self, token: Token) -> Place
         requires line_bound { self.line < 4294967296 }
         requires row_bound { self.row < 4294967296 }
-        ensures { result ≡ moved self (token_number token) }
+        ensures { numbered result ≡ moved (numbered self) (token_number token) }
     {
-        if self.fault != 0 {
-            return self;
+        match self.fault {
+            Some(_) => self,
+            None => self.consumed(token),
         }
-        self.consumed(token)
     }
 }
 
 // The byte that a token is, where it is one of a field: `row` and `field` say which, `place` is the token's, and `fault` that of the place after it.
 #[tactic(auto, unfolding(crate::specs::Cells::is_in))]
-fn byte_in(row: usize, field: usize, place: Place, token: Token, fault: u32) -> Option<u8>
-    requires { fault ≡ (moved place (token_number token)).fault }
-    ensures { bytes_of result ≡ byte_where (is_in row field place (token_number token)) (token_number token) }
+fn byte_in(row: usize, field: usize, place: Place, token: Token, fault: Option<Fault>) -> Option<u8>
+    requires { option_number fault ≡ (moved (numbered place) (token_number token)).fault }
+    ensures { bytes_of result ≡ byte_where (is_in row field (numbered place) (token_number token)) (token_number token) }
 {
     let Token::Byte(b) = token else {
         return None;
     };
-    if fault != 0 {
+    if fault.is_some() {
         return None;
     }
     if place.row != row {
@@ -179,9 +176,9 @@ fn byte_in(row: usize, field: usize, place: Place, token: Token, fault: u32) -> 
 // Whether no byte of a field is at a place or after it: the field is before the place, or there is a fault.
 #[tactic(auto, unfolding(crate::specs::Cells::is_past))]
 fn is_past(row: usize, field: usize, place: Place) -> bool
-    ensures { result ≡ is_past row field place }
+    ensures { result ≡ is_past row field (numbered place) }
 {
-    if place.fault != 0 {
+    if place.fault.is_some() {
         return true;
     }
     if place.row == row {
@@ -219,7 +216,7 @@ pub fn put_cell(csv: &[u8], row: usize, field: usize, output: &mut [u8]) -> usiz
 
 // The line of a row as far as it is known: that of a token of the row, else what it was.
 fn line_at(row: usize, line: usize, place: Place) -> usize
-    ensures { result ≡ line_at row line place }
+    ensures { result ≡ line_at row line (numbered place) }
 {
     if place.row == row {
         return place.line;
@@ -229,10 +226,10 @@ fn line_at(row: usize, line: usize, place: Place) -> usize
 
 // How many fields a row has as far as it is known: up to the field of a token that is a byte of the row, else what it was. `fault` is that of the
 // place after the token.
-fn width_at(row: usize, n: usize, place: Place, token: Token, fault: u32) -> usize
-    requires fault_value { fault ≡ (moved place (token_number token)).fault }
+fn width_at(row: usize, n: usize, place: Place, token: Token, fault: Option<Fault>) -> usize
+    requires fault_value { option_number fault ≡ (moved (numbered place) (token_number token)).fault }
     requires field_bound { place.field ≤ 64 }
-    ensures { result ≡ width_at row n place (token_number token) }
+    ensures { result ≡ width_at row n (numbered place) (token_number token) }
 {
     match byte_in(row, place.field, place, token, fault) {
         Some(_) => place.field + 1,
@@ -251,7 +248,7 @@ pub struct Scanned {
 // One pass over a CSV.
 pub fn scan(csv: &[u8], row: usize) -> Scanned
     requires { length csv.now ≤ 200000 }
-    ensures place_value { result.place ≡ last_place csv.now }
+    ensures place_value { numbered result.place ≡ last_place csv.now }
     ensures line_value { result.line ≡ line_of row csv.now }
     ensures width_value { result.width ≡ width row csv.now }
     ensures width_bound { result.width ≤ 65 }
@@ -280,7 +277,7 @@ pub fn scan(csv: &[u8], row: usize) -> Scanned
 // How many rows a CSV has, or its first fault with the line and field.
 pub fn last_place(csv: &[u8]) -> Place
     requires { length csv.now ≤ 200000 }
-    ensures { result ≡ last_place csv.now }
+    ensures { numbered result ≡ last_place csv.now }
 {
     let found = scan(csv, 0);
     found.place

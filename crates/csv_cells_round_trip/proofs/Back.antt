@@ -13,8 +13,7 @@ use Rattle.csv_bytes.specs.Tokens.{tokens, separator_from, separator, mark_size,
 use Rattle.csv_fleet_round_trip.specs.Writing.{quoted, line}
 use Rattle.csv_fleet_round_trip.specs.Back.{All, UnitFits, none, more}
 use Rattle.csv_fleet_round_trip.proofs.Marks.{first_comma, no_comma, no_mark}
-use Rattle.csv_cells.specs.declared.Place.{Place}
-use Rattle.csv_cells.specs.Cells.{place_from, last_place, cell_from, cell_text, line_from, line_of}
+use Rattle.csv_cells.specs.Cells.{Place, place_from, last_place, cell_from, cell_text, line_from, line_of}
 use Rattle.csv_cells.proofs.Steps.{row_none, text_ended, moved_good, token_end}
 use Rattle.csv_cells_round_trip.specs.Writing.{row_line, rows_csv}
 use Rattle.csv_cells_round_trip.specs.Back.{RowFits, RowsReadBack}

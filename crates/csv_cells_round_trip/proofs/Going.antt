@@ -14,8 +14,7 @@ use Rattle.csv_bytes.specs.Tokens.{says, step, tokens}
 use Rattle.csv_fields.specs.Fields.{byte_if}
 use Rattle.csv_fleet_round_trip.specs.Writing.{doubled, quoted}
 use Rattle.csv_fleet_round_trip.proofs.Going.{both_true, split}
-use Rattle.csv_cells.specs.declared.Place.{Place}
-use Rattle.csv_cells.specs.Cells.{moved, place_from, is_in, cell_byte, cell_from, line_at, line_from}
+use Rattle.csv_cells.specs.Cells.{Place, moved, place_from, is_in, cell_byte, cell_from, line_at, line_from}
 use Rattle.csv_cells.proofs.Steps.{text_added, moved_good, token_text, token_nothing}
 use Rattle.csv_cells.proofs.Celling.{in_no_byte}
 

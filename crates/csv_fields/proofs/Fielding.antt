@@ -13,8 +13,7 @@ use Rattle.buffers.proofs.Writing.{Writing, writing_start, writing_more, writing
 use Rattle.csv_bytes.specs.declared.Mode.{Mode}
 use Rattle.csv_bytes.specs.declared.Mode.TheVariants.{Start, Plain, Quoted, Closing, Return}
 use Rattle.csv_bytes.specs.Tokens.{NumberedStep, step, ending, tokens, separator, mark_size, csv_tokens}
-use Rattle.csv_fleet_tokens.specs.declared.Table.{Table}
-use Rattle.csv_fleet_tokens.specs.Table.{start, after}
+use Rattle.csv_fleet_tokens.specs.Table.{Table, start, after}
 use Rattle.csv_fleet_reader.specs.Fleet.{next_number}
 use Rattle.csv_fleet_reader.proofs.Reading.{after_slow, mark_inside, next_tokens, last_token}
 use Rattle.csv_fields.specs.Fields.{bytes_of, byte_where, within_200, is_at, byte_if, field_byte, field_from, field_text}

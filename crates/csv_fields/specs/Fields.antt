@@ -1,8 +1,7 @@
 -- One field of a fleet's CSV, as bytes: a boat's or a column's name, or what stands in place of a value. Definitions only.
 use Rattle.std.specs.Prelude.{Bool, false, cond, List, [], ◌∷◌, ◌++◌, ℕ, ◌+◌, ltb, eqb, Option, Some, None, length}
 use Rattle.csv_bytes.specs.Tokens.{csv_tokens}
-use Rattle.csv_fleet_tokens.specs.declared.Table.{Table}
-use Rattle.csv_fleet_tokens.specs.Table.{start, after}
+use Rattle.csv_fleet_tokens.specs.Table.{Table, start, after}
 use Rattle.csv_fleet_reader.specs.Fleet.{next_number}
 
 -- whether a token is a byte of field f of line l, where it stands in line n and the table is t. Line 0 is the line of the column names

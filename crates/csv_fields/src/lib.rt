@@ -5,12 +5,13 @@
 
 ghost use Rattle.std.specs.Prelude.{◌≡◌, ◌+◌, ◌≤◌, ◌<◌, length};
 ghost use Rattle.csv_bytes.specs.Tokens.{token_number};
-ghost use Rattle.csv_fleet_tokens.specs.Table.{after};
+ghost use Rattle.csv_fleet_tokens.specs.Faults.{option_number};
+ghost use Rattle.csv_fleet_tokens.specs.Table.{numbered, after};
 ghost use Rattle.buffers.specs.Placed.{placed};
 ghost use Rattle.csv_fields.specs.Fields.{bytes_of, byte_where, within_200, is_at, field_text};
 
 use csv_bytes::{Mode, Token};
-use csv_fleet_tokens::Table;
+use csv_fleet_tokens::{Fault, Table};
 
 // The byte that a token is, where it is one of a field: `line` and `field` say which, `at` is the token's line, and `fault` what the table has after it.
 #[tactic(auto, unfolding(crate::specs::Fields::is_at))]
@@ -20,15 +21,15 @@ fn byte_at(
     at: usize,
     table: Table,
     token: Token,
-    fault: u32,
+    fault: Option<Fault>,
 ) -> Option<u8>
-    requires { fault ≡ (after table (token_number token)).fault }
-    ensures { bytes_of result ≡ byte_where (is_at line field at table (token_number token)) (token_number token) }
+    requires { option_number fault ≡ (after (numbered table) (token_number token)).fault }
+    ensures { bytes_of result ≡ byte_where (is_at line field at (numbered table) (token_number token)) (token_number token) }
 {
     let Token::Byte(b) = token else {
         return None;
     };
-    if fault != 0 {
+    if fault.is_some() {
         return None;
     }
     if table.field != field {

@@ -18,8 +18,7 @@ use Rattle.csv_bytes.specs.declared.Cell.{Cell}
 use Rattle.csv_bytes.specs.declared.Mode.{Mode}
 use Rattle.csv_bytes.specs.declared.Mode.TheVariants.{Start, Plain, Quoted, Closing, Return}
 use Rattle.csv_bytes.specs.Tokens.{NumberedStep, step, ending, tokens, separator, mark_size, csv_tokens}
-use Rattle.csv_fleet_tokens.specs.declared.Table.{Table}
-use Rattle.csv_fleet_tokens.specs.Table.{start, faulty, UNIT, with_text, field_fault, limit, next_field, field_ended, end_fault, boats_after, next_line, whole_line_ended, line_ended, finished, consumed, after}
+use Rattle.csv_fleet_tokens.specs.Table.{Table, start, faulty, UNIT, with_text, field_fault, limit, next_field, field_ended, end_fault, boats_after, next_line, whole_line_ended, line_ended, finished, consumed, after}
 use Rattle.csv_fleet_reader.specs.Fleet.{ended_value, values_from, table_from, next_number, line_from, fleet_values, last_table, last_line}
 use Rattle.csv_fleet_reader.proofs.Values.{few_values}
 

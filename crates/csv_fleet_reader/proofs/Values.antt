@@ -14,8 +14,7 @@ use Rattle.buffers.specs.Placed.{placed}
 use Rattle.buffers.proofs.Placing.{placed_nil}
 use Rattle.sheet_output.specs.Output.{bits, values_bytes}
 use Rattle.csv_bytes.specs.Cells.{signed, is_number}
-use Rattle.csv_fleet_tokens.specs.declared.Table.{Table}
-use Rattle.csv_fleet_tokens.specs.Table.{number_fault, after}
+use Rattle.csv_fleet_tokens.specs.Table.{Table, number_fault, after}
 use Rattle.csv_fleet_reader.specs.Fleet.{ends_value, ended_value, values_from}
 
 -- ---- the 16 bits

@@ -2,8 +2,7 @@
 use Rattle.std.specs.Prelude.{Bool, false, cond, List, [], ◌∷◌, ◌++◌, ℕ, ◌+◌, ltb, eqb, ℤ, length}
 use Rattle.csv_bytes.specs.Tokens.{csv_tokens}
 use Rattle.csv_bytes.specs.Cells.{signed}
-use Rattle.csv_fleet_tokens.specs.declared.Table.{Table}
-use Rattle.csv_fleet_tokens.specs.Table.{start, number_fault, after}
+use Rattle.csv_fleet_tokens.specs.Table.{Table, start, number_fault, after}
 
 -- whether a token ends a value in range: it ends a field, a line or the text, and the field is none of the column names, of the units,
 -- and no boat's name

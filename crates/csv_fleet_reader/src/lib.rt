@@ -8,11 +8,13 @@ ghost use Rattle.buffers.specs.Placed.{placed};
 ghost use Rattle.sheet_output.specs.Output.{bits, values_bytes};
 ghost use Rattle.csv_bytes.specs.Tokens.{token_number};
 ghost use Rattle.csv_bytes.specs.Cells.{signed};
+ghost use Rattle.csv_fleet_tokens.specs.Faults.{option_number};
+ghost use Rattle.csv_fleet_tokens.specs.Table.{numbered};
 ghost use Rattle.csv_fleet_reader.specs.Fleet.{ends_value, ended_value, next_number, fleet_values, last_table, last_line};
 
 use buffers::put;
 use csv_bytes::{Mode, Token};
-use csv_fleet_tokens::Table;
+use csv_fleet_tokens::{Fault, Table};
 
 // What was read of a whole CSV: the table after it, the line of the first fault, and how many values were put.
 #[derive(Clone, Copy)]
@@ -34,10 +36,11 @@ pub fn value_bits(negative: bool, magnitude: u32) -> u64
 }
 
 // Whether a token ends a value in range.
+#[tactic(auto, unfolding(crate::specs::Fleet::ends_value))]
 fn ends_value(table: Table, token: Token) -> bool
-    ensures { result ≡ ends_value table (token_number token) }
+    ensures { result ≡ ends_value (numbered table) (token_number token) }
 {
-    if table.fault != 0 {
+    if table.fault.is_some() {
         return false;
     }
     match token {
@@ -54,14 +57,14 @@ fn ends_value(table: Table, token: Token) -> bool
         return false;
     }
     let cell = table.cell;
-    csv_fleet_tokens::number_fault(cell) == 0
+    csv_fleet_tokens::number_fault(cell).is_none()
 }
 
 // Puts the value that a token ends after `n` others, if it ends one; gives back how many there are then.
 fn put_value(rows: &mut [u8], n: usize, table: Table, token: Token) -> usize
     requires { 32768 ≤ length rows.old }
-    ensures value { result ≡ n + length (ended_value table n (token_number token)) }
-    ensures rows_after { rows.new ≡ placed rows.old (2 * n) (values_bytes (ended_value table n (token_number token))) }
+    ensures value { result ≡ n + length (ended_value (numbered table) n (token_number token)) }
+    ensures rows_after { rows.new ≡ placed rows.old (2 * n) (values_bytes (ended_value (numbered table) n (token_number token))) }
 {
     if 16384 <= n {
         return n;
@@ -75,12 +78,12 @@ fn put_value(rows: &mut [u8], n: usize, table: Table, token: Token) -> usize
 }
 
 // The number of the line after a token; a fault keeps its line.
-pub fn next_number(line: usize, fault: u32, token: Token) -> usize
+pub fn next_number(line: usize, fault: Option<Fault>, token: Token) -> usize
     requires { line < 9223372036854775808 }
-    ensures value { result ≡ next_number line fault (token_number token) }
+    ensures value { result ≡ next_number line (option_number fault) (token_number token) }
     ensures upper_bound { result ≤ line + 1 }
 {
-    if fault != 0 {
+    if fault.is_some() {
         return line;
     }
     match token {
@@ -93,7 +96,7 @@ pub fn next_number(line: usize, fault: u32, token: Token) -> usize
 pub fn read_fleet(csv: &[u8], rows: &mut [u8]) -> Fleet
     requires csv_len_bound { length csv.now ≤ 200000 }
     requires in_bounds { 32768 ≤ length rows.old }
-    ensures table_value { result.table ≡ last_table csv.now }
+    ensures table_value { numbered result.table ≡ last_table csv.now }
     ensures line_value { result.line ≡ last_line csv.now }
     ensures values_value { result.values ≡ length (fleet_values csv.now) }
     ensures rows_after { rows.new ≡ placed rows.old 0 (values_bytes (fleet_values csv.now)) }

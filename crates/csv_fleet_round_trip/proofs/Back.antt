@@ -10,8 +10,7 @@ use lib.Seq.{take_at, drop_at}
 use Rattle.csv_bytes.specs.declared.Mode.TheVariants.{Start}
 use Rattle.csv_bytes.specs.Cells.{no_bytes, read_from}
 use Rattle.csv_bytes.specs.Tokens.{tokens, separator, mark_size, csv_tokens}
-use Rattle.csv_fleet_tokens.specs.declared.Table.{Table}
-use Rattle.csv_fleet_tokens.specs.Table.{UNIT, start}
+use Rattle.csv_fleet_tokens.specs.Table.{Table, UNIT, start}
 use Rattle.csv_fleet_tokens.proofs.Steps.{after_good, token_end, line_blank, finished_boats}
 use Rattle.csv_fleet_reader.specs.Fleet.{values_from, table_from, fleet_values, last_table}
 use Rattle.csv_fleet_reader.proofs.Values.{test_name}

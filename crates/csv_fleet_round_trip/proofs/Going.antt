@@ -14,8 +14,7 @@ use Rattle.csv_bytes.specs.declared.Mode.{Mode}
 use Rattle.csv_bytes.specs.declared.Mode.TheVariants.{Start, Plain, Quoted, Closing}
 use Rattle.csv_bytes.specs.Cells.{no_bytes, with_byte, read_from, progress}
 use Rattle.csv_bytes.specs.Tokens.{says, step, tokens}
-use Rattle.csv_fleet_tokens.specs.declared.Table.{Table}
-use Rattle.csv_fleet_tokens.specs.Table.{UNIT, with_text, consumed, after}
+use Rattle.csv_fleet_tokens.specs.Table.{Table, UNIT, with_text, consumed, after}
 use Rattle.csv_fleet_reader.specs.Fleet.{ends_value, ended_value, values_from, table_from}
 use Rattle.csv_fleet_reader.proofs.Values.{test_byte, test_other}
 use Rattle.csv_fleet_round_trip.specs.Writing.{doubled, quoted}

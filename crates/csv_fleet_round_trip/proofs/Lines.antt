@@ -13,8 +13,7 @@ use Rattle.csv_bytes.specs.declared.Cell.{Cell}
 use Rattle.csv_bytes.specs.declared.Mode.TheVariants.{Start, Plain, Closing}
 use Rattle.csv_bytes.specs.Cells.{no_bytes, signed, read_from}
 use Rattle.csv_numbers.proofs.Reading.{read_size}
-use Rattle.csv_fleet_tokens.specs.declared.Table.{Table}
-use Rattle.csv_fleet_tokens.specs.Table.{UNIT, number_fault, field_fault, limit, units_after, end_fault, columns_after, boats_after, word_after, after}
+use Rattle.csv_fleet_tokens.specs.Table.{Table, UNIT, number_fault, field_fault, limit, units_after, end_fault, columns_after, boats_after, word_after, after}
 use Rattle.csv_fleet_tokens.proofs.Steps.{name_some, limit_first, limit_later, word_first, word_later, fault_header, units_word, units_kept, columns_first, columns_kept, boats_first, end_names, fault_units, fault_name, fault_value, boats_units, boats_more, end_whole, field_next, line_next, line_later, after_good, token_field, token_line}
 use Rattle.csv_fleet_reader.specs.Fleet.{ends_value, ended_value}
 use Rattle.csv_fleet_reader.proofs.Values.{test_names, test_units, test_name, test_value}

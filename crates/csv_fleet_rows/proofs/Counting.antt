@@ -13,8 +13,7 @@ use Rattle.csv_bytes.specs.Cells.{signed}
 use Rattle.csv_bytes.specs.declared.Mode.{Mode}
 use Rattle.csv_bytes.specs.declared.Mode.TheVariants.{Start, Plain, Quoted, Closing, Return}
 use Rattle.csv_bytes.specs.Tokens.{step, ending, tokens, csv_tokens, separator, mark_size}
-use Rattle.csv_fleet_tokens.specs.declared.Table.{Table}
-use Rattle.csv_fleet_tokens.specs.Table.{start, after}
+use Rattle.csv_fleet_tokens.specs.Table.{Table, start, after}
 use Rattle.csv_fleet_reader.specs.Fleet.{ends_value, ended_value, values_from, table_from, fleet_values, last_table}
 use Rattle.csv_fleet_reader.proofs.Values.{value_small}
 use Rattle.csv_fleet_rows.specs.Rows.{FaultlessWhole}

@@ -9,8 +9,7 @@ use borrow.Author.Tests.{ltb-true, ltb-false, eqb-true, eqb-false, lt-ltb, eq-eq
 use lib.Dec.{ltb, eqb}
 use lib.IntN.{ℤ}
 use lib.ListN.{length}
-use Rattle.csv_fleet_tokens.specs.declared.Table.{Table}
-use Rattle.csv_fleet_tokens.specs.Table.{faulty, with_text, number_fault, field_fault, limit, units_after, next_field, field_ended, end_fault, columns_after, boats_after, next_line, whole_line_ended, line_ended, finished, consumed, after}
+use Rattle.csv_fleet_tokens.specs.Table.{Table, faulty, with_text, number_fault, field_fault, limit, units_after, next_field, field_ended, end_fault, columns_after, boats_after, next_line, whole_line_ended, line_ended, finished, consumed, after}
 use Rattle.csv_fleet_tokens.proofs.Steps.{limit_first, limit_later, fault_boats, fault_value, units_kept, columns_first, columns_kept, boats_first, boats_units, boats_more, end_none, end_short}
 use Rattle.csv_fleet_reader.specs.Fleet.{ends_value, ended_value}
 use Rattle.csv_fleet_reader.proofs.Values.{test_byte, test_other, test_names, test_units, test_name, test_value}

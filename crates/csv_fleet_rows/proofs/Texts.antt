@@ -13,8 +13,7 @@ use Rattle.csv_bytes.specs.Cells.{no_bytes, with_byte, is_number, read_from, rea
 use Rattle.csv_bytes.specs.Tokens.{csv_tokens}
 use Rattle.csv_numbers.proofs.Reading.{read_more, read_size}
 use Rattle.csv_numbers.proofs.Saying.{says_value}
-use Rattle.csv_fleet_tokens.specs.declared.Table.{Table}
-use Rattle.csv_fleet_tokens.specs.Table.{start, faulty, with_text, number_fault, field_fault, limit, next_field, field_ended, end_fault, next_line, whole_line_ended, line_ended, finished, consumed, after}
+use Rattle.csv_fleet_tokens.specs.Table.{Table, start, faulty, with_text, number_fault, field_fault, limit, next_field, field_ended, end_fault, next_line, whole_line_ended, line_ended, finished, consumed, after}
 use Rattle.csv_fleet_reader.specs.Fleet.{ends_value, ended_value, values_from, fleet_values}
 use Rattle.csv_fleet_reader.proofs.Values.{value_small, value_whole}
 use Rattle.csv_fleet_rows.specs.Texts.{text_after, ended_text, texts_from, fleet_texts, EachSays, none, one_more, ValuesSaid}

@@ -2,8 +2,7 @@
 use Rattle.std.specs.Prelude.{cond, List, [], ◌∷◌, ◌++◌, ℕ, ◌+◌, ltb, eqb, ℤ, length}
 use Rattle.csv_bytes.specs.Tokens.{csv_tokens}
 use Rattle.csv_numbers.specs.Numbers.{SaysValue}
-use Rattle.csv_fleet_tokens.specs.declared.Table.{Table}
-use Rattle.csv_fleet_tokens.specs.Table.{start, after}
+use Rattle.csv_fleet_tokens.specs.Table.{Table, start, after}
 use Rattle.csv_fleet_reader.specs.Fleet.{ends_value, ended_value, fleet_values}
 
 -- the bytes of a field after one token more: a byte is added, a token that says nothing (259) leaves them, and the end of the field empties them

@@ -6,8 +6,7 @@ use lib.Dec.{eqb}
 use borrow.Author.Tests.{eq-eqb, ne_eqb, lt-ltb, le-ltb}
 use Rattle.csv_bytes.specs.Cells.{no_bytes, with_byte, is_number, progress}
 use Rattle.csv_bytes.specs.declared.Cell.{Cell}
-use Rattle.csv_fleet_tokens.specs.declared.Table.{Table}
-use Rattle.csv_fleet_tokens.specs.Table.{start, faulty, UNIT, with_text, number_fault, name_fault, field_fault, limit, units_after, next_field, field_ended, end_fault, columns_after, boats_after, word_after, next_line, whole_line_ended, line_ended, finished, consumed, after}
+use Rattle.csv_fleet_tokens.specs.Table.{Table, start, faulty, UNIT, with_text, number_fault, name_fault, field_fault, limit, units_after, next_field, field_ended, end_fault, columns_after, boats_after, word_after, next_line, whole_line_ended, line_ended, finished, consumed, after}
 
 pub start_made : {x : Cell} → x ≡ no_bytes → record { field = 0; columns = 0; boats = 0; units = false; cell = x; word = 5; fault = 0 } ≡ start
 start_made e = rw e

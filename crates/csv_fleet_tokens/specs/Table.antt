@@ -4,7 +4,23 @@
 use Rattle.std.specs.Prelude.{Bool, false, cond, List, [], ◌∷◌, ℕ, ◌+◌, ltb, eqb}
 use Rattle.csv_bytes.specs.Cells.{no_bytes, with_byte, is_number, progress}
 use Rattle.csv_bytes.specs.declared.Cell.{Cell}
-use Rattle.csv_fleet_tokens.specs.declared.Table.{Table}
+use Rattle.csv_fleet_tokens.specs.declared.Table.{Table as Read}
+use Rattle.csv_fleet_tokens.specs.Faults.{option_number}
+
+-- what was read, with the number of its first fault
+pub record Table : Type 0 where
+  pub field : ℕ
+  pub columns : ℕ
+  pub boats : ℕ
+  pub units : Bool
+  pub cell : Cell
+  pub word : ℕ
+  pub fault : ℕ
+
+-- of a table of the code
+abbrev pub numbered : Read → Table
+numbered t =
+    record { field = t.field; columns = t.columns; boats = t.boats; units = t.units; cell = t.cell; word = t.word; fault = option_number t.fault }
 
 -- what is wrong, besides a token that is
 abbrev pub LONG : ℕ

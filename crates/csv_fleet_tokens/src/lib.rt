@@ -4,35 +4,11 @@
 #![tactic(auto)]
 
 ghost use Rattle.std.specs.Prelude.{◌≡◌, ◌+◌, ◌<◌};
-ghost use Rattle.csv_fleet_tokens.specs.Faults.{fault_number};
+ghost use Rattle.csv_fleet_tokens.specs.Faults.{fault_number, option_number};
 ghost use Rattle.csv_bytes.specs.Tokens.{token_number};
-ghost use Rattle.csv_fleet_tokens.specs.Table.{start, faulty, with_text, number_fault, name_fault, field_fault, limit, units_after, field_ended, end_fault, columns_after, boats_after, word_after, whole_line_ended, line_ended, finished, consumed, after};
+ghost use Rattle.csv_fleet_tokens.specs.Table.{numbered, start, faulty, with_text, number_fault, name_fault, field_fault, limit, units_after, field_ended, end_fault, columns_after, boats_after, word_after, whole_line_ended, line_ended, finished, consumed, after};
 
 use csv_bytes::{Cell, Token};
-
-// What is wrong, besides the tokens csv_bytes::STRAY and csv_bytes::OPEN: a field of more than 200 bytes, no name, no column, more than 64 columns or
-// more fields than columns, fewer fields than columns, no whole number, a value out of range, more than 256 boats, no boat.
-pub const LONG: u32 = 1;
-
-pub const NAMELESS: u32 = 2;
-
-pub const COLUMNLESS: u32 = 3;
-
-pub const MANY: u32 = 4;
-
-pub const FEW: u32 = 5;
-
-pub const NOT_WHOLE: u32 = 6;
-
-pub const OUT_OF_RANGE: u32 = 7;
-
-pub const BOATS: u32 = 8;
-
-pub const BOATLESS: u32 = 9;
-
-pub const STRAY: u32 = 260;
-
-pub const OPEN: u32 = 261;
 
 // What is wrong with a CSV, each with the number that the definitions give it.
 #[derive(Clone, Copy, Debug, PartialEq, Eq)]
@@ -95,7 +71,7 @@ impl Fault {
 }
 
 // What was read so far: how many fields this line has before this one, the columns and boats, whether this line has units, this field's
-// bytes, how many of them begin the word `unit` where it may stand, and the first fault or 0.
+// bytes, how many of them begin the word `unit` where it may stand, and the first fault.
 #[derive(Clone, Copy)]
 pub struct Table {
     pub field: usize,
@@ -104,32 +80,35 @@ pub struct Table {
     pub units: bool,
     pub cell: Cell,
     pub word: usize,
-    pub fault: u32,
+    pub fault: Option<Fault>,
 }
 
-// What is wrong with a field as a value, or 0.
-pub fn number_fault(cell: Cell) -> u32
-    ensures { result ≡ number_fault cell }
+// What is wrong with a field as a value.
+#[tactic(auto, unfolding(crate::specs::Table::number_fault))]
+pub fn number_fault(cell: Cell) -> Option<Fault>
+    ensures { option_number result ≡ number_fault cell }
 {
     if cell.is_number() {
         if 2000 < cell.magnitude {
-            return OUT_OF_RANGE;
+            return Some(Fault::OutOfRange);
         }
-        return 0;
+        return None;
     }
-    NOT_WHOLE
+    Some(Fault::NotWhole)
 }
 
-fn name_fault(cell: Cell) -> u32
-    ensures { result ≡ name_fault cell }
+#[tactic(auto, unfolding(crate::specs::Table::name_fault))]
+fn name_fault(cell: Cell) -> Option<Fault>
+    ensures { option_number result ≡ name_fault cell }
 {
     if cell.size == 0 {
-        return NAMELESS;
+        return Some(Fault::Nameless);
     }
-    0
+    None
 }
 
 // How many fields a line may have after its first.
+#[tactic(auto, unfolding(crate::specs::Table::limit))]
 fn limit(columns: usize) -> usize
     ensures { result ≡ limit columns }
 {
@@ -140,6 +119,7 @@ fn limit(columns: usize) -> usize
 }
 
 // How many bytes of the next line's first field begin `unit`: none yet, or 5 where it may have no units.
+#[tactic(auto, unfolding(crate::specs::Table::word_after))]
 fn word_after(columns: usize) -> usize
     ensures { result ≡ word_after columns }
 {
@@ -152,7 +132,7 @@ fn word_after(columns: usize) -> usize
 impl Table {
     // Nothing was read.
     pub fn start() -> Table
-        ensures { result ≡ start }
+        ensures { numbered result ≡ start }
     {
         Table {
             field: 0,
@@ -161,20 +141,21 @@ impl Table {
             units: false,
             cell: Cell::empty(),
             word: 5,
-            fault: 0,
+            fault: None,
         }
     }
 
-    fn faulty(mut self, fault: u32) -> Table
-        ensures { result ≡ faulty self fault }
+    fn faulty(mut self, fault: Fault) -> Table
+        ensures { numbered result ≡ faulty (numbered self) (fault_number fault) }
     {
-        self.fault = fault;
+        self.fault = Some(fault);
         self
     }
 
     // One byte more of a field.
+    #[tactic(auto, unfolding(crate::specs::Table::with_text))]
     fn with_text(self, b: u8) -> Table
-        ensures { result ≡ with_text self b }
+        ensures { numbered result ≡ with_text (numbered self) b }
     {
         let cell = self.cell;
         if cell.size < 200 {
@@ -188,32 +169,34 @@ impl Table {
                 fault: self.fault,
             };
         }
-        self.faulty(LONG)
+        self.faulty(Fault::Long)
     }
 
-    // What is wrong with a field at its end, or 0.
-    fn field_fault(self) -> u32
-        ensures { result ≡ field_fault self }
+    // What is wrong with a field at its end.
+    #[tactic(auto, unfolding(crate::specs::Table::field_fault))]
+    fn field_fault(self) -> Option<Fault>
+        ensures { option_number result ≡ field_fault (numbered self) }
     {
         let cell = self.cell;
         if self.columns == 0 {
             return name_fault(cell);
         }
         if self.units {
-            return 0;
+            return None;
         }
         if self.field == 0 {
             if self.boats < 256 {
                 return name_fault(cell);
             }
-            return BOATS;
+            return Some(Fault::Boats);
         }
         number_fault(cell)
     }
 
     // Whether a line has units, once its first field has ended.
+    #[tactic(auto, unfolding(crate::specs::Table::units_after))]
     fn units_after(self) -> bool
-        ensures { result ≡ units_after self }
+        ensures { result ≡ units_after (numbered self) }
     {
         if self.field == 0 {
             return self.word == 4;
@@ -221,45 +204,47 @@ impl Table {
         self.units
     }
 
+    #[tactic(auto, unfolding(crate::specs::Table::field_ended, crate::specs::Table::next_field))]
     fn field_ended(self) -> Table
-        ensures { result ≡ field_ended self }
+        ensures { numbered result ≡ field_ended (numbered self) }
     {
         if self.field < limit(self.columns) {
-            let fault = self.field_fault();
-            if fault == 0 {
-                return Table {
+            return match self.field_fault() {
+                None => Table {
                     field: self.field + 1,
                     columns: self.columns,
                     boats: self.boats,
                     units: self.units_after(),
                     cell: Cell::empty(),
                     word: 0,
-                    fault: 0,
-                };
-            }
-            return self.faulty(fault);
+                    fault: None,
+                },
+                Some(fault) => self.faulty(fault),
+            };
         }
-        self.faulty(MANY)
+        self.faulty(Fault::Many)
     }
 
-    // What is wrong with a line at its end, or 0.
-    fn end_fault(self) -> u32
-        ensures { result ≡ end_fault self }
+    // What is wrong with a line at its end.
+    #[tactic(auto, unfolding(crate::specs::Table::end_fault))]
+    fn end_fault(self) -> Option<Fault>
+        ensures { option_number result ≡ end_fault (numbered self) }
     {
         if self.columns == 0 {
             if self.field == 0 {
-                return COLUMNLESS;
+                return Some(Fault::Columnless);
             }
-            return 0;
+            return None;
         }
         if self.field == self.columns {
-            return 0;
+            return None;
         }
-        FEW
+        Some(Fault::NoValue)
     }
 
+    #[tactic(auto, unfolding(crate::specs::Table::columns_after))]
     fn columns_after(self) -> usize
-        ensures { result ≡ columns_after self }
+        ensures { result ≡ columns_after (numbered self) }
     {
         if self.columns == 0 {
             return self.field;
@@ -267,9 +252,10 @@ impl Table {
         self.columns
     }
 
+    #[tactic(auto, unfolding(crate::specs::Table::boats_after))]
     fn boats_after(self) -> usize
         requires { self.boats < 4294967296 }
-        ensures { result ≡ boats_after self }
+        ensures { result ≡ boats_after (numbered self) }
     {
         if self.columns == 0 {
             return self.boats;
@@ -280,33 +266,33 @@ impl Table {
         self.boats + 1
     }
 
+    #[tactic(auto, unfolding(crate::specs::Table::whole_line_ended, crate::specs::Table::next_line))]
     fn whole_line_ended(self) -> Table
         requires { self.boats < 4294967296 }
-        ensures { result ≡ whole_line_ended self }
+        ensures { numbered result ≡ whole_line_ended (numbered self) }
     {
-        let fault = self.field_fault();
-        if fault == 0 {
-            let short = self.end_fault();
-            if short == 0 {
-                return Table {
+        match self.field_fault() {
+            Some(fault) => self.faulty(fault),
+            None => match self.end_fault() {
+                Some(fault) => self.faulty(fault),
+                None => Table {
                     field: 0,
                     columns: self.columns_after(),
                     boats: self.boats_after(),
                     units: false,
                     cell: Cell::empty(),
                     word: word_after(self.columns),
-                    fault: 0,
-                };
-            }
-            return self.faulty(short);
+                    fault: None,
+                },
+            },
         }
-        self.faulty(fault)
     }
 
     // A line without bytes is passed over.
+    #[tactic(auto, unfolding(crate::specs::Table::line_ended))]
     fn line_ended(self) -> Table
         requires { self.boats < 4294967296 }
-        ensures { result ≡ line_ended self }
+        ensures { numbered result ≡ line_ended (numbered self) }
     {
         let cell = self.cell;
         if self.field != 0 {
@@ -318,21 +304,23 @@ impl Table {
         self
     }
 
+    #[tactic(auto, unfolding(crate::specs::Table::finished))]
     fn finished(self) -> Table
-        ensures { result ≡ finished self }
+        ensures { numbered result ≡ finished (numbered self) }
     {
-        if self.fault != 0 {
+        if self.fault.is_some() {
             return self;
         }
         if self.boats != 0 {
             return self;
         }
-        self.faulty(BOATLESS)
+        self.faulty(Fault::Boatless)
     }
 
+    #[tactic(auto, unfolding(crate::specs::Table::consumed))]
     fn consumed(self, token: Token) -> Table
         requires { self.boats < 4294967296 }
-        ensures { result ≡ consumed self (token_number token) }
+        ensures { numbered result ≡ consumed (numbered self) (token_number token) }
     {
         match token {
             Token::Byte(b) => self.with_text(b),
@@ -340,19 +328,20 @@ impl Table {
             Token::Line => self.line_ended(),
             Token::End => self.line_ended().finished(),
             Token::Nothing => self,
-            Token::Stray => self.faulty(STRAY),
-            Token::Open => self.faulty(OPEN),
+            Token::Stray => self.faulty(Fault::Stray),
+            Token::Open => self.faulty(Fault::Open),
         }
     }
 
     // What was read with one token more.
+    #[tactic(auto, unfolding(crate::specs::Table::after))]
     pub fn after(self, token: Token) -> Table
         requires { self.boats < 4294967296 }
-        ensures { result ≡ after self (token_number token) }
+        ensures { numbered result ≡ after (numbered self) (token_number token) }
     {
-        if self.fault != 0 {
-            return self;
+        match self.fault {
+            Some(_) => self,
+            None => self.consumed(token),
         }
-        self.consumed(token)
     }
 }

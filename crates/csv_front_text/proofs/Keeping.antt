@@ -15,8 +15,7 @@ use Rattle.buffers.proofs.Placing.{placed_nil, placed_length, placed_then, place
 use Rattle.csv_bytes.specs.declared.Mode.{Mode}
 use Rattle.csv_bytes.specs.declared.Mode.TheVariants.{Start}
 use Rattle.csv_bytes.specs.Tokens.{NumberedStep, step, separator, mark_size}
-use Rattle.csv_fleet_tokens.specs.declared.Table.{Table}
-use Rattle.csv_fleet_tokens.specs.Table.{start, after}
+use Rattle.csv_fleet_tokens.specs.Table.{Table, start, after}
 use Rattle.csv_fleet_reader.proofs.Reading.{after_slow, mark_inside}
 use Rattle.csv_front_text.specs.Front.{is_kept, kept_byte, names_from, names_text}
 

@@ -3,8 +3,7 @@ use Rattle.std.specs.Prelude.{Bool, true, cond, List, [], ◌∷◌, ◌++◌, �
 use Rattle.csv_bytes.specs.declared.Mode.{Mode}
 use Rattle.csv_bytes.specs.declared.Mode.TheVariants.{Start}
 use Rattle.csv_bytes.specs.Tokens.{step, separator, mark_size}
-use Rattle.csv_fleet_tokens.specs.declared.Table.{Table}
-use Rattle.csv_fleet_tokens.specs.Table.{start, after}
+use Rattle.csv_fleet_tokens.specs.Table.{Table, start, after}
 use Rattle.csv_front_text.specs.declared.Front.{Front}
 use Rattle.csv_front_text.specs.declared.Front.TheVariants.{Whole, Names, Nothing}
 use Rattle.csv_front_text.specs.declared.Written.{Written}

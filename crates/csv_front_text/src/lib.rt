@@ -6,6 +6,7 @@
 ghost use Rattle.std.specs.Prelude.{◌≡◌, ◌+◌, ◌-◌, ◌≤◌, length, take};
 ghost use Rattle.buffers.specs.Placed.{placed};
 ghost use Rattle.csv_bytes.specs.Tokens.{token_number};
+ghost use Rattle.csv_fleet_tokens.specs.Table.{numbered};
 ghost use Rattle.csv_front_text.specs.Front.{is_kept, kept_byte, names_text, front_of, front_text, with_front, written_of};
 ghost use Rattle.files.specs.Limits.{file_limit};
 
@@ -31,7 +32,7 @@ pub struct Written {
 // Whether a byte is no part of a value, nor a separator before one.
 #[tactic(auto, unfolding(crate::specs::Front::is_kept))]
 fn is_kept(table: Table, token: Token) -> bool
-    ensures { result ≡ is_kept table (token_number token) }
+    ensures { result ≡ is_kept (numbered table) (token_number token) }
 {
     if table.columns == 0 {
         return true;
@@ -48,8 +49,8 @@ fn is_kept(table: Table, token: Token) -> bool
 // Puts a byte after `n` others where it is kept and there is room for it; gives back how many are kept then.
 fn put_kept(output: &mut [u8], n: usize, table: Table, token: Token, b: u8) -> usize
     requires { n ≤ 200000 }
-    ensures value { result ≡ n + length (kept_byte table (token_number token) b) }
-    ensures output_after { output.new ≡ placed output.old n (take (length output.old - n) (kept_byte table (token_number token) b)) }
+    ensures value { result ≡ n + length (kept_byte (numbered table) (token_number token) b) }
+    ensures output_after { output.new ≡ placed output.old n (take (length output.old - n) (kept_byte (numbered table) (token_number token) b)) }
 {
     if is_kept(table, token) {
         if n < output.len() {

@@ -22,7 +22,7 @@ use Rattle.sheet_output.specs.Front.{SameWithFront, SheetTakesFront}
 use Rattle.sheet_output.proofs.Back.{edition_reads_back}
 use Rattle.sheet_output.proofs.Front.{sheet_takes_front}
 use Rattle.buffers.proofs.Writing.{front_taken}
-use Rattle.csv_fleet_tokens.specs.declared.Table.{Table}
+use Rattle.csv_fleet_tokens.specs.Table.{Table}
 use Rattle.csv_fleet_reader.specs.Fleet.{last_table}
 use Rattle.csv_front_text.specs.declared.Front.TheVariants.{Nothing}
 use Rattle.csv_book.specs.declared.Made as book

@@ -10,8 +10,7 @@ use lib.Dec.{ltb, eqb}
 use lib.ListN.{length}
 use Rattle.csv_bytes.specs.Cells.{is_number, read}
 use Rattle.csv_bytes.specs.declared.Cell.{Cell}
-use Rattle.csv_cells.specs.Cells.{last_place, cell_text, line_of, width}
-use Rattle.csv_cells.specs.declared.Place.{Place}
+use Rattle.csv_cells.specs.Cells.{Place, last_place, cell_text, line_of, width}
 use Rattle.csv_sheet_rows.specs.declared.Finding.{Finding}
 use Rattle.csv_sheet_rows.specs.Kinds.{kind_at, place, row_of}
 use Rattle.csv_sheet_rows.specs.Rows.{count_of, is_out, number_fault, is_left_out, is_open, value_fault, field_fault, faulty_field, none, found_in, many_finding, numbers_finding, kind_finding, row_finding, rows_finding, sheet_names, nameless, names_finding, last_row, factor_row, without, missing_finding, content_finding, rows_fault}

@@ -12,8 +12,7 @@ use Rattle.csv_bytes.specs.declared.Mode.{Mode}
 use Rattle.csv_bytes.specs.declared.Mode.TheVariants.{Start}
 use Rattle.csv_bytes.specs.Tokens.{NumberedStep, step, tokens, separator, mark_size, csv_tokens}
 use Rattle.csv_fleet_reader.proofs.Reading.{next_tokens}
-use Rattle.csv_cells.specs.declared.Place.{Place}
-use Rattle.csv_cells.specs.Cells.{start, moved, cell_byte, cell_from, cell_text, width_to, width}
+use Rattle.csv_cells.specs.Cells.{Place, start, moved, cell_byte, cell_from, cell_text, width_to, width}
 use Rattle.csv_cells.proofs.Steps.{few_fields}
 use Rattle.csv_cells.proofs.Places.{Within, within_start, within_more}
 use Rattle.csv_cells.proofs.Celling.{no_bytes_left}

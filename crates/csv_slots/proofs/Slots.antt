@@ -13,8 +13,7 @@ use Rattle.csv_bytes.specs.declared.Token.{Token}
 use Rattle.csv_bytes.specs.declared.Token.TheVariants.{Byte, Field, Line, End, Nothing, Stray, Open}
 use Rattle.csv_bytes.specs.Tokens.{token_number}
 use Rattle.csv_fields.specs.Fields.{byte_if}
-use Rattle.csv_cells.specs.declared.Place.{Place}
-use Rattle.csv_cells.specs.Cells.{moved, is_in, cell_byte}
+use Rattle.csv_cells.specs.Cells.{Place, moved, is_in, cell_byte}
 use Rattle.csv_cells.proofs.Celling.{in_no_byte, in_fault, in_other_row, in_row}
 use Rattle.csv_slots.specs.Slots.{slot, Room, Kept}
 

@@ -1,7 +1,6 @@
 -- Slots for the fields of some rows of a CSV: 200 bytes each, of which a list of sizes says how many are used. Definitions only.
 use Rattle.std.specs.Prelude.{◌≡◌, List, ◌++◌, ℕ, ◌+◌, ◌*◌, ◌≤◌, ◌<◌, length, get_or, take, drop}
-use Rattle.csv_cells.specs.declared.Place.{Place}
-use Rattle.csv_cells.specs.Cells.{cell_byte, cell_text}
+use Rattle.csv_cells.specs.Cells.{Place, cell_byte, cell_text}
 
 -- what is in slot s
 abbrev pub slot : (s : ℕ) → (sizes cells : List ℕ) → List ℕ

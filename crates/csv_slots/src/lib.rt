@@ -5,11 +5,13 @@
 
 ghost use Rattle.std.specs.Prelude.{List, ◌≡◌, ℕ, ◌+◌, ◌*◌, ◌≤◌, ◌<◌, length, get_or};
 ghost use Rattle.csv_bytes.specs.Tokens.{token_number};
-ghost use Rattle.csv_cells.specs.Cells.{moved, width};
+ghost use Rattle.csv_fleet_tokens.specs.Faults.{option_number};
+ghost use Rattle.csv_cells.specs.Cells.{numbered, moved, width};
 ghost use Rattle.csv_slots.specs.Slots.{slot, Room, Empty, Kept, Held};
 
 use csv_bytes::{Mode, Token};
 use csv_cells::Place;
+use csv_fleet_tokens::Fault;
 
 // Puts a token behind the bytes of its slot, where it is a byte of one of the rows; `fault` is that of the place after it.
 fn keep(
@@ -17,19 +19,19 @@ fn keep(
     rows: usize,
     place: Place,
     token: Token,
-    fault: u32,
+    fault: Option<Fault>,
     sizes: &mut [u8],
     cells: &mut [u8],
 )
-    requires fault_value { fault ≡ (moved place (token_number token)).fault }
+    requires fault_value { option_number fault ≡ (moved (numbered place) (token_number token)).fault }
     requires field_bound { place.field ≤ 64 }
     requires room { Room rows sizes.old cells.old }
-    ensures { Kept first rows place (token_number token) sizes.old cells.old sizes.new cells.new }
+    ensures { Kept first rows (numbered place) (token_number token) sizes.old cells.old sizes.new cells.new }
 {
     let Token::Byte(b) = token else {
         return;
     };
-    if fault != 0 {
+    if fault.is_some() {
         return;
     }
     if place.row < first {

@@ -18,8 +18,7 @@ use Rattle.text.specs.declared.Text.{Text}
 use Rattle.text.proofs.Texts.{adds_both, adds_to_empty}
 use Rattle.message_parts.specs.Parts.{THEN, COLON, COLUMN, RANGE_WORDS, part}
 use Rattle.csv_fleet_round_trip.specs.Writing.{figures}
-use Rattle.csv_cells.specs.Cells.{last_place, cell_text, width}
-use Rattle.csv_cells.specs.declared.Place.{Place}
+use Rattle.csv_cells.specs.Cells.{Place, last_place, cell_text, width}
 use Rattle.refusal_details.specs.Details.{BOOK, SHEET, BOAT, SHEET_HAS, COLUMNS_BOOK, book_front, first_boat, names_all, names_csv, boat_name, column_name, called, first_out, out_words, book_values, value_line, target_line, columns_line, line_of, detail}
 use Rattle.refusal_details.proofs.Scan.{OutAt}
 

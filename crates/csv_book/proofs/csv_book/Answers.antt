@@ -6,7 +6,7 @@ use Prim.Native.Nat.{ℕ, ◌≤◌}
 use native.Mathlib.Omega.{arith}
 use lib.ListN.{length}
 use lib.Seq.{length-take-le}
-use Rattle.csv_fleet_tokens.specs.declared.Table.{Table}
+use Rattle.csv_fleet_tokens.specs.Table.{Table}
 use Rattle.csv_fleet_reader.specs.Fleet.{last_table, fleet_values}
 use Rattle.csv_book.proofs.Making.{few_values, bare_put, no_room, too_big, with_fault, with_book}
 use Rattle.csv_book.proofs.csv_book.Goals as goal

@@ -4,7 +4,7 @@
 use native.Mathlib.Omega.{arith}
 use mathlib.Core.Path.{ap, refl}
 use Rattle.csv_fields.proofs.Fielding.{put_counted, put_placed}
-use Rattle.csv_cells.specs.declared.Place.{Place}
+use Rattle.csv_cells.specs.Cells.{Place}
 use Rattle.csv_cells.proofs.Places.{within_fits}
 use Rattle.csv_cells.proofs.Celling.{celling_start, celling_more, celling_past, celling_end}
 use Rattle.csv_cells.proofs.put_cell.Goals as goal

@@ -3,7 +3,7 @@
 -- It ends: the bytes that are left fall by one.
 use borrow.Author.Rules.{rules}
 use mathlib.Core.Path.{ap}
-use Rattle.csv_cells.specs.declared.Place.{Place}
+use Rattle.csv_cells.specs.Cells.{Place}
 use Rattle.csv_cells.proofs.Places.{within_fits}
 use Rattle.csv_cells.proofs.Scans.{scanning_start, scanning_more, scanning_end}
 use Rattle.csv_cells.proofs.scan.Goals as goal

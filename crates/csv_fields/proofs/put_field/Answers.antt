@@ -3,7 +3,7 @@
 -- It ends: the bytes that are left fall by one.
 use native.Mathlib.Omega.{arith}
 use mathlib.Core.Path.{ap, refl}
-use Rattle.csv_fleet_tokens.specs.declared.Table.{Table}
+use Rattle.csv_fleet_tokens.specs.Table.{Table}
 use Rattle.csv_fields.proofs.Fielding.{fielding_start, fielding_more, fielding_end, put_counted, put_placed}
 use Rattle.csv_fields.proofs.put_field.Goals as goal
 

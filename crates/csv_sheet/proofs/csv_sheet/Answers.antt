@@ -1,7 +1,7 @@
 -- `csv_sheet::csv_sheet` meets its contract: a law of `Accepting` for each return.
 use borrow.Author.Rules.{rules}
 use mathlib.Core.Path.{sym, ap, ◌∙◌}
-use Rattle.csv_fleet_tokens.specs.declared.Table.{Table}
+use Rattle.csv_fleet_tokens.specs.Table.{Table}
 use Rattle.csv_sheet_rows.specs.declared.Finding.{Finding}
 use Rattle.csv_sheet.proofs.Accepting.{no_room, too_big, fleet_big, fleet_faulty, rows_faulty, made}
 use Rattle.csv_sheet.proofs.csv_sheet.Goals as goal

@@ -2,7 +2,7 @@
 -- A turn puts one token into the slot of its field.
 -- It ends: the bytes that are left fall by one.
 use mathlib.Core.Path.{ap, sym, ◌∙◌}
-use Rattle.csv_cells.specs.declared.Place.{Place}
+use Rattle.csv_cells.specs.Cells.{Place}
 use Rattle.csv_cells.proofs.Places.{within_fits}
 use Rattle.csv_slots.proofs.Holding.{holding_start, holding_more, holding_end}
 use Rattle.csv_slots.proofs.put_rows.Goals as goal
