@@ -4,12 +4,14 @@
 #![tactic(auto)]
 // Files the book of a CSV in a folder as fleet.wbk, and prints its boats, columns and front text. The book is made in this buffer.
 fn file_made(rt: &HostRuntime, folder: &[u8], csv: &[u8], output: &mut [u8]) {
-    let made = csv_book::csv_book(csv, output);
-    if made.fault != 0 {
-        file_io::tell_text(rt, csv_book_text::fleet_fault(csv, made));
-        file_io::tell_kept(rt, folder, b"fleet.wbk");
-        return;
-    }
+    let made = match csv_book::csv_book(csv, output) {
+        Ok(made) => made,
+        Err(finding) => {
+            file_io::tell_text(rt, csv_book_text::fleet_fault(csv, finding));
+            file_io::tell_kept(rt, folder, b"fleet.wbk");
+            return;
+        }
+    };
     if file_io::replace_in(
         rt,
         folder,

@@ -31,8 +31,7 @@ use Rattle.csv_fleet_rows.proofs.Rows as fleet
 use Rattle.csv_front_text.specs.declared.Written.{Written}
 use Rattle.csv_front_text.specs.Front.{front_text, file_front, with_front, written_of}
 use Rattle.csv_front_text.proofs.Fronts.{file_front_short}
-use Rattle.csv_book.specs.declared.Made.{Made}
-use Rattle.csv_book.specs.Books.{bare_book, csv_book, nothing_made, made_by, book_made, output_by}
+use Rattle.csv_book.specs.Books.{Made, bare_book, csv_book, nothing_made, made_by, book_made, output_by}
 use Rattle.csv_book.specs.Promise.{BookAccepted, BookRightBy, BookRight}
 
 -- ---- a CSV without fault

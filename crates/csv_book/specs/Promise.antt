@@ -7,7 +7,7 @@ use Rattle.csv_fleet_rows.specs.Rows.{fleet_rows}
 use Rattle.csv_fleet_rows.specs.Texts.{fleet_texts, EachSays}
 use Rattle.csv_fleet_round_trip.specs.Writing.{Fleet, fleet_csv}
 use Rattle.csv_fleet_round_trip.specs.Back.{FleetFits}
-use Rattle.csv_book.specs.declared.Made.{Made}
+use Rattle.csv_book.specs.Books.{Made}
 
 -- b is a fleet book that is not refused, its rows are exactly those of the CSV, and each of their values is the number that the figures of its field say
 pub record BookAccepted (csv : List ℕ) (r : Made) (b : List ℕ) : Type 0 where

@@ -15,7 +15,7 @@ use Rattle.text.specs.declared.Text.{Text}
 use Rattle.text.proofs.Texts.{adds_both, adds_to_empty}
 use Rattle.csv_fields.specs.Fields.{field_text}
 use Rattle.csv_fields.proofs.Fielding.{few_bytes}
-use Rattle.csv_book.specs.declared.Made.{Made}
+use Rattle.csv_book.specs.Books.{Made}
 use Rattle.csv_book_words.specs.Words.{wants_boat, wants_column, wants_value, fault_line, front_line}
 use Rattle.csv_book_text.specs.Faults.{looked, fleet_fault, FLEET, book_lines}
 

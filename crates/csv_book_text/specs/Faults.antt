@@ -2,7 +2,7 @@
 use Rattle.std.specs.Prelude.{Bool, cond, List, [], ◌∷◌, ◌++◌, ℕ, ltb, length}
 use Rattle.text.specs.Lines.{pair_line}
 use Rattle.csv_fields.specs.Fields.{field_text}
-use Rattle.csv_book.specs.declared.Made.{Made}
+use Rattle.csv_book.specs.Books.{Made}
 use Rattle.csv_book_words.specs.Words.{wants_boat, wants_column, wants_value, fault_line, front_line}
 
 -- ---- the line

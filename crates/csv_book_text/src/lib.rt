@@ -6,9 +6,10 @@
 ghost use Rattle.std.specs.Prelude.{◌≡◌, ◌≤◌, length};
 ghost use Rattle.buffers.specs.Placed.{placed};
 ghost use Rattle.text.specs.Texts.{Holds};
+ghost use Rattle.csv_book.specs.Books.{unmade, made_of};
 ghost use Rattle.csv_book_text.specs.Faults.{looked, fleet_fault, book_lines};
 
-use csv_book::Made;
+use csv_book::{Finding, Made};
 use text::Text;
 
 // Puts what stands in a field, where it is wanted and the CSV is not too long; gives back how many bytes that is.
@@ -27,13 +28,13 @@ fn put_looked(csv: &[u8], wanted: bool, line: usize, field: usize, output: &mut 
 }
 
 // ENTRY. The line that names the fault of a CSV, as csv_book gave it back.
-pub fn fleet_fault(csv: &[u8], made: Made) -> Text
-    ensures { Holds (fleet_fault csv.now made) result }
+pub fn fleet_fault(csv: &[u8], finding: Finding) -> Text
+    ensures { Holds (fleet_fault csv.now (unmade finding)) result }
 {
-    let fault = made.fault;
-    let line = made.line;
-    let field = made.field;
-    let columns = made.columns;
+    let fault = finding.fault;
+    let line = finding.line;
+    let field = finding.field;
+    let columns = finding.columns;
     let mut boat = [0u8; 200];
     let mut column = [0u8; 200];
     let mut value = [0u8; 200];
@@ -43,12 +44,12 @@ pub fn fleet_fault(csv: &[u8], made: Made) -> Text
     let m = put_looked(csv, column_wanted, 0, field, &mut column);
     let value_wanted = csv_book_words::wants_value(fault);
     let k = put_looked(csv, value_wanted, line, field, &mut value);
-    csv_book_words::line_of(made, &boat[..n], &column[..m], &value[..k])
+    csv_book_words::line_of(finding, &boat[..n], &column[..m], &value[..k])
 }
 
 // ENTRY. The lines of a book that was made of a CSV.
 pub fn book_lines(made: Made) -> Text
-    ensures { Holds (book_lines made) result }
+    ensures { Holds (book_lines (made_of made)) result }
 {
     let front = made.front;
     let empty = Text::empty();

@@ -13,7 +13,7 @@ use Rattle.message_parts.specs.Parts.{COLON, COLUMN, RANGE_WORDS, shown, part}
 use Rattle.message_parts.proofs.Parts.{nothing_added}
 use Rattle.csv_front_text.specs.declared.Front.{Front}
 use Rattle.csv_front_text.specs.declared.Front.TheVariants.{Whole, Names, Nothing}
-use Rattle.csv_book.specs.declared.Made.{Made}
+use Rattle.csv_book.specs.Books.{Made}
 use Rattle.csv_book_words.specs.Words.{FILE, UNNAMED, MORE_THAN, VALUES, OF, NOT_WHOLE_WORDS, LONG_WORDS, NO_COLUMN, NO_BOAT, BOAT_UNNAMED, COLUMNS_WORDS, BOATS_WORDS, BIG_WORDS, ROOM_WORDS, STRAY_WORDS, OPEN_WORDS, NONE_WORDS, place, other_words, plain_words, few_words, unnamed_words, many_words, words, fault_line, front_line}
 
 -- ---- the place

@@ -5,7 +5,7 @@ use Rattle.text.specs.Decimal.{decimal}
 use Rattle.message_parts.specs.Parts.{COLON, COLUMN, RANGE_WORDS, shown, part}
 use Rattle.csv_front_text.specs.declared.Front.{Front}
 use Rattle.csv_front_text.specs.declared.Front.TheVariants.{Whole, Names, Nothing}
-use Rattle.csv_book.specs.declared.Made.{Made}
+use Rattle.csv_book.specs.Books.{Made}
 
 -- ---- the words
 

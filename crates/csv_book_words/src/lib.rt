@@ -6,9 +6,12 @@
 
 ghost use Rattle.std.specs.Prelude.{◌≡◌, ◌+◌, ◌≤◌, length};
 ghost use Rattle.text.specs.Texts.{text_limit, Holds, Adds};
+ghost use Rattle.csv_fleet_tokens.specs.Faults.{fault_number};
+ghost use Rattle.csv_book.specs.Books.{unmade};
 ghost use Rattle.csv_book_words.specs.Words.{place, other_words, plain_words, few_words, unnamed_words, many_words, words, wants_boat, wants_column, wants_value, fault_line, front_line};
 
-use csv_book::Made;
+use csv_book::Finding;
+use csv_fleet_tokens::Fault;
 use csv_front_text::Front;
 use text::Text;
 
@@ -26,51 +29,37 @@ pub fn with_place(text: Text, line: usize) -> Text
 }
 
 // The same for faults of the whole CSV and of quotes.
-fn with_other(text: Text, fault: u32) -> Text
+#[tactic(auto, unfolding(crate::specs::Words::other_words))]
+fn with_other(text: Text, fault: Fault) -> Text
     requires { text.len + 40 ≤ text_limit }
-    ensures adds { Adds text (other_words fault) result }
+    ensures adds { Adds text (other_words (fault_number fault)) result }
     ensures len_bound { result.len ≤ text.len + 40 }
 {
-    if fault == csv_fleet_tokens::BOATLESS {
-        return text.with_bytes(b"no boat");
+    match fault {
+        Fault::Boatless => text.with_bytes(b"no boat"),
+        Fault::Big => text.with_bytes(b"more than 200000 bytes"),
+        Fault::Room => text.with_bytes(b"a buffer of fewer than 40000 bytes"),
+        Fault::Stray => text.with_bytes(b"text after a closing quote"),
+        Fault::Open => text.with_bytes(b"a quote that is not closed"),
+        _ => text.with_bytes(b"no fault"),
     }
-    if fault == csv_book::BIG {
-        return text.with_bytes(b"more than 200000 bytes");
-    }
-    if fault == csv_book::ROOM {
-        return text.with_bytes(b"a buffer of fewer than 40000 bytes");
-    }
-    if fault == csv_fleet_tokens::STRAY {
-        return text.with_bytes(b"text after a closing quote");
-    }
-    if fault == csv_fleet_tokens::OPEN {
-        return text.with_bytes(b"a quote that is not closed");
-    }
-    text.with_bytes(b"no fault")
 }
 
 // The text followed by the words of a fault that has no numbers.
-pub fn with_plain(text: Text, fault: u32) -> Text
+#[tactic(auto, unfolding(crate::specs::Words::plain_words))]
+pub fn with_plain(text: Text, fault: Fault) -> Text
     requires { text.len + 40 ≤ text_limit }
-    ensures adds { Adds text (plain_words fault) result }
+    ensures adds { Adds text (plain_words (fault_number fault)) result }
     ensures len_bound { result.len ≤ text.len + 40 }
 {
-    if fault == csv_fleet_tokens::LONG {
-        return text.with_bytes(b"a field of more than 200 bytes");
+    match fault {
+        Fault::Long => text.with_bytes(b"a field of more than 200 bytes"),
+        Fault::Nameless => text.with_bytes(b"the boat has no name"),
+        Fault::Columnless => text.with_bytes(b"no column"),
+        Fault::Many => text.with_bytes(b"more than 64 columns"),
+        Fault::Boats => text.with_bytes(b"more than 256 boats"),
+        _ => with_other(text, fault),
     }
-    if fault == csv_fleet_tokens::NAMELESS {
-        return text.with_bytes(b"the boat has no name");
-    }
-    if fault == csv_fleet_tokens::COLUMNLESS {
-        return text.with_bytes(b"no column");
-    }
-    if fault == csv_fleet_tokens::MANY {
-        return text.with_bytes(b"more than 64 columns");
-    }
-    if fault == csv_fleet_tokens::BOATS {
-        return text.with_bytes(b"more than 256 boats");
-    }
-    with_other(text, fault)
 }
 
 // The text followed by how many values there are, of how many.
@@ -108,49 +97,42 @@ pub fn with_many(text: Text, columns: usize) -> Text
 }
 
 // The text followed by what is wrong.
-fn with_words(text: Text, fault: u32, field: usize, columns: usize, value: &[u8]) -> Text
+#[tactic(auto, unfolding(crate::specs::Words::words))]
+fn with_words(text: Text, fault: Fault, field: usize, columns: usize, value: &[u8]) -> Text
     requires { text.len + length value.now + 60 ≤ text_limit }
-    ensures adds { Adds text (words fault field columns value.now) result }
+    ensures adds { Adds text (words (fault_number fault) field columns value.now) result }
     ensures len_bound { result.len ≤ text.len + length value.now + 60 }
 {
-    if fault == csv_fleet_tokens::NOT_WHOLE {
-        return message_parts::with_shown(text, value).with_bytes(b" is not a whole number");
-    }
-    if fault == csv_fleet_tokens::OUT_OF_RANGE {
-        return message_parts::with_shown(text, value).with_bytes(b" is not from -2000 to 2000");
-    }
-    if fault == csv_fleet_tokens::FEW {
-        return with_few(text, field, columns);
-    }
-    if fault == csv_fleet_tokens::NAMELESS {
-        if columns == 0 {
-            return with_unnamed(text, field);
+    match fault {
+        Fault::NotWhole => {
+            message_parts::with_shown(text, value).with_bytes(b" is not a whole number")
         }
-        return with_plain(text, fault);
-    }
-    if fault == csv_fleet_tokens::MANY {
-        if columns == 0 {
-            return with_plain(text, fault);
+        Fault::OutOfRange => {
+            message_parts::with_shown(text, value).with_bytes(b" is not from -2000 to 2000")
         }
-        return with_many(text, columns);
+        Fault::NoValue => with_few(text, field, columns),
+        Fault::Nameless if columns == 0 => with_unnamed(text, field),
+        Fault::Many if columns != 0 => with_many(text, columns),
+        _ => with_plain(text, fault),
     }
-    with_plain(text, fault)
 }
 
-pub fn wants_boat(fault: u32, field: usize, columns: usize) -> bool
-    ensures { result ≡ wants_boat fault field columns }
+#[tactic(auto, unfolding(crate::specs::Words::wants_boat))]
+pub fn wants_boat(fault: Fault, field: usize, columns: usize) -> bool
+    ensures { result ≡ wants_boat (fault_number fault) field columns }
 {
     if columns == 0 {
         return false;
     }
     if field == 0 {
-        return fault == csv_fleet_tokens::FEW;
+        return fault == Fault::NoValue;
     }
     true
 }
 
-pub fn wants_column(fault: u32, field: usize, columns: usize) -> bool
-    ensures { result ≡ wants_column fault field columns }
+#[tactic(auto, unfolding(crate::specs::Words::wants_column))]
+pub fn wants_column(fault: Fault, field: usize, columns: usize) -> bool
+    ensures { result ≡ wants_column (fault_number fault) field columns }
 {
     if columns == 0 {
         return false;
@@ -158,35 +140,36 @@ pub fn wants_column(fault: u32, field: usize, columns: usize) -> bool
     if field == 0 {
         return false;
     }
-    if fault == csv_fleet_tokens::MANY {
-        return false;
+    match fault {
+        Fault::Many | Fault::NoValue => false,
+        _ => true,
     }
-    fault != csv_fleet_tokens::FEW
 }
 
-pub fn wants_value(fault: u32) -> bool
-    ensures { result ≡ wants_value fault }
+#[tactic(auto, unfolding(crate::specs::Words::wants_value))]
+pub fn wants_value(fault: Fault) -> bool
+    ensures { result ≡ wants_value (fault_number fault) }
 {
-    if fault == csv_fleet_tokens::NOT_WHOLE {
-        return true;
+    match fault {
+        Fault::NotWhole | Fault::OutOfRange => true,
+        _ => false,
     }
-    fault == csv_fleet_tokens::OUT_OF_RANGE
 }
 
 // The line, once the names are found.
-pub fn line_of(made: Made, boat: &[u8], column: &[u8], value: &[u8]) -> Text
+pub fn line_of(finding: Finding, boat: &[u8], column: &[u8], value: &[u8]) -> Text
     requires boat_len_bound { length boat.now ≤ 200 }
     requires column_len_bound { length column.now ≤ 200 }
     requires value_len_bound { length value.now ≤ 200 }
-    ensures { Holds (fault_line made boat.now column.now value.now) result }
+    ensures { Holds (fault_line (unmade finding) boat.now column.now value.now) result }
 {
     let empty = Text::empty();
     let begun = empty.with_bytes(b"fleet.csv");
-    let placed = with_place(begun, made.line);
+    let placed = with_place(begun, finding.line);
     let named = message_parts::with_part(placed, boat);
     let whole = message_parts::with_part(named, column);
     let told = whole.with_bytes(b": ");
-    let said = with_words(told, made.fault, made.field, made.columns, value);
+    let said = with_words(told, finding.fault, finding.field, finding.columns, value);
     said.with_bytes(b"\n")
 }
 

@@ -11,8 +11,7 @@ use Rattle.files.specs.Bytes.{same}
 use Rattle.files.specs.Limits.{file_limit}
 use Rattle.buffers.proofs.Writing.{front_taken}
 use Rattle.csv_fleet_reader.specs.Fleet.{last_table}
-use Rattle.csv_book.specs.declared.Made.{Made}
-use Rattle.csv_book.specs.Books.{csv_book, nothing_made, made_by, book_made, output_by}
+use Rattle.csv_book.specs.Books.{Made, csv_book, nothing_made, made_by, book_made, output_by}
 use Rattle.csv_book.specs.Promise.{BookAccepted, BookRightBy, BookRight}
 use Rattle.csv_origin.specs.Origin.{book_of}
 

@@ -13,12 +13,13 @@ pub fn is_book_of(csv: &[u8], book: &[u8]) -> bool
     ensures { result ≡ book_of csv.now book.now }
 {
     let mut output = [0u8; 40000];
-    let made = csv_book::csv_book(csv, &mut output);
-    if made.fault != 0 {
-        return false;
+    match csv_book::csv_book(csv, &mut output) {
+        Ok(made) => {
+            let len = made.len;
+            is_same(&output[..len], book)
+        }
+        Err(_) => false,
     }
-    let len = made.len;
-    is_same(&output[..len], book)
 }
 
 // Whether a sheet is the one that was made, or that one in its other edition.

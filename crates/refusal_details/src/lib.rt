@@ -101,7 +101,7 @@ fn names_all(csv: &[u8], boats: usize, columns: usize) -> bool
     ensures { result ≡ names_all csv.now boats columns }
 {
     let place = csv_cells::last_place(csv);
-    if place.fault != 0 {
+    if place.fault.is_some() {
         return false;
     }
     if place.row != first_boat(csv) + boats {

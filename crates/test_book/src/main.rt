@@ -8,16 +8,21 @@ use test_buffers::{between, u16_at};
 // are still zero behind it.
 fn made_of(rt: &HostRuntime, csv: &[u8]) {
     let mut output = [0u8; 40000];
-    let made = csv_book::csv_book(csv, &mut output);
-    test_printing::line(rt, b"fault", made.fault as u64);
-    if made.fault != 0 {
-        test_printing::line(rt, b"line", made.line as u64);
-        test_printing::line(rt, b"field", made.field as u64);
-        file_io::print(rt, csv_book_text::fleet_fault(csv, made));
-    } else {
-        file_io::print(rt, csv_book_text::book_lines(made));
-    }
-    test_printing::line(rt, b"bytes", made.len as u64);
+    let len = match csv_book::csv_book(csv, &mut output) {
+        Ok(made) => {
+            test_printing::line(rt, b"fault", 0);
+            file_io::print(rt, csv_book_text::book_lines(made));
+            made.len
+        }
+        Err(finding) => {
+            test_printing::line(rt, b"fault", finding.fault.number() as u64);
+            test_printing::line(rt, b"line", finding.line as u64);
+            test_printing::line(rt, b"field", finding.field as u64);
+            file_io::print(rt, csv_book_text::fleet_fault(csv, finding));
+            0
+        }
+    };
+    test_printing::line(rt, b"bytes", len as u64);
     test_printing::line(rt, b"sum", test_buffers::checksum(&output));
 }
 
@@ -56,8 +61,9 @@ fn limits(rt: &HostRuntime) {
 // A buffer that is too short.
 fn short_buffer(rt: &HostRuntime) {
     let mut output = [1u8; 39999];
-    let made = csv_book::csv_book(b"a,b\nc,1\n", &mut output);
-    file_io::print(rt, csv_book_text::fleet_fault(b"", made));
+    if let Err(finding) = csv_book::csv_book(b"a,b\nc,1\n", &mut output) {
+        file_io::print(rt, csv_book_text::fleet_fault(b"", finding));
+    }
     test_printing::line(rt, b"sum", test_buffers::checksum(&output));
 }
 

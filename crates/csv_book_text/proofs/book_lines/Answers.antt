@@ -1,6 +1,5 @@
 -- `csv_book_text::book_lines` meets its contract.
 use Rattle.csv_book_text.proofs.Lines.{book_told}
-use borrow.Author.Rules.{rules}
 use Rattle.csv_book_text.proofs.book_lines.Goals as goal
 
 pub returns : goal.returns

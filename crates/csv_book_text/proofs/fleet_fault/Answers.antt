@@ -70,14 +70,14 @@ line_of-requires c =
 
 pub returns : goal.returns
 returns c =
-    let boat_is : (let x = c.args in take c.put_looked-n.result c.put_looked-n.new.output ≡ looked c.wants_boat-boat_wanted.result x.made.line 0 x.csv.now) = let x = c.args in
-    front_taken (replicate 200 0) (looked c.wants_boat-boat_wanted.result x.made.line 0 x.csv.now) c.put_looked-n.ensures.output_after c.put_looked-n.ensures.value
-    (few_looked c.wants_boat-boat_wanted.result x.made.line 0 x.csv.now) in
-    let column-is : (let x = c.args in take c.put_looked-m.result c.put_looked-m.new.output ≡ looked c.wants_column-column_wanted.result 0 x.made.field x.csv.now) = let x = c.args in
-    front_taken (replicate 200 0) (looked c.wants_column-column_wanted.result 0 x.made.field x.csv.now) c.put_looked-m.ensures.output_after c.put_looked-m.ensures.value
-    (few_looked c.wants_column-column_wanted.result 0 x.made.field x.csv.now) in
-    let value_is : (let x = c.args in take c.put_looked-k.result c.put_looked-k.new.output ≡ looked c.wants_value-value_wanted.result x.made.line x.made.field x.csv.now) = let x = c.args in
-    front_taken (replicate 200 0) (looked c.wants_value-value_wanted.result x.made.line x.made.field x.csv.now) c.put_looked-k.ensures.output_after c.put_looked-k.ensures.value
-    (few_looked c.wants_value-value_wanted.result x.made.line x.made.field x.csv.now) in
+    let boat_is : (let x = c.args in take c.put_looked-n.result c.put_looked-n.new.output ≡ looked c.wants_boat-boat_wanted.result x.finding.line 0 x.csv.now) = let x = c.args in
+    front_taken (replicate 200 0) (looked c.wants_boat-boat_wanted.result x.finding.line 0 x.csv.now) c.put_looked-n.ensures.output_after c.put_looked-n.ensures.value
+    (few_looked c.wants_boat-boat_wanted.result x.finding.line 0 x.csv.now) in
+    let column-is : (let x = c.args in take c.put_looked-m.result c.put_looked-m.new.output ≡ looked c.wants_column-column_wanted.result 0 x.finding.field x.csv.now) = let x = c.args in
+    front_taken (replicate 200 0) (looked c.wants_column-column_wanted.result 0 x.finding.field x.csv.now) c.put_looked-m.ensures.output_after c.put_looked-m.ensures.value
+    (few_looked c.wants_column-column_wanted.result 0 x.finding.field x.csv.now) in
+    let value_is : (let x = c.args in take c.put_looked-k.result c.put_looked-k.new.output ≡ looked c.wants_value-value_wanted.result x.finding.line x.finding.field x.csv.now) = let x = c.args in
+    front_taken (replicate 200 0) (looked c.wants_value-value_wanted.result x.finding.line x.finding.field x.csv.now) c.put_looked-k.ensures.output_after c.put_looked-k.ensures.value
+    (few_looked c.wants_value-value_wanted.result x.finding.line x.finding.field x.csv.now) in
     fault_told _ _ c.wants_boat-boat_wanted.ensures c.wants_column-column_wanted.ensures c.wants_value-value_wanted.ensures boat_is column-is
     value_is c.line_of.ensures

@@ -1,7 +1,5 @@
 -- `csv_book_text::put_looked` meets its contract.
 use Rattle.csv_book_text.proofs.Lines.{not_looked, too_long, field_looked}
-use borrow.Author.Rules.{rules}
-use borrow.Author.Tests.{not-true, not-false}
 use Rattle.csv_book_text.proofs.put_looked.Goals as goal
 
 pub returns-then-not-wanted : goal.returns-then-not-wanted

@@ -1,7 +1,4 @@
 -- `csv_book_words::line_of` meets its contract.
-use borrow.Author.Rules.{rules}
-use native.Mathlib.Omega.{arith}
-use Prim.Native.Nat.{◌≤◌}
 use Rattle.csv_book_words.proofs.Wording.{line_told}
 use Rattle.csv_book_words.proofs.line_of.Goals as goal
 

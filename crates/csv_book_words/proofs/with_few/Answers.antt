@@ -1,6 +1,5 @@
 -- `csv_book_words::with_few` meets its contract.
 use Rattle.csv_book_words.proofs.Wording.{few_added}
-use borrow.Author.Rules.{rules}
 use Rattle.csv_book_words.proofs.with_few.Goals as goal
 
 pub returns : goal.returns

@@ -1,7 +1,6 @@
 -- `csv_book_words::with_front` meets its contract.
 use Rattle.csv_book_words.specs.Words.{front_line}
 use Rattle.csv_book_words.proofs.Wording.{front_whole, front_names, front_nothing}
-use borrow.Author.Rules.{rules}
 use Rattle.csv_book_words.proofs.with_front.Goals as goal
 
 pub returns-in-Whole : goal.returns-in-Whole

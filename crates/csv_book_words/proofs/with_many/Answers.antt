@@ -1,6 +1,5 @@
 -- `csv_book_words::with_many` meets its contract.
 use Rattle.csv_book_words.proofs.Wording.{many_added}
-use borrow.Author.Rules.{rules}
 use Rattle.csv_book_words.proofs.with_many.Goals as goal
 
 pub returns : goal.returns

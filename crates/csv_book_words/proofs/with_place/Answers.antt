@@ -1,6 +1,5 @@
 -- `csv_book_words::with_place` meets its contract.
 use Rattle.csv_book_words.proofs.Wording.{place_none, place_some}
-use borrow.Author.Rules.{rules}
 use Rattle.csv_book_words.proofs.with_place.Goals as goal
 
 pub returns-then-line-eq0 : goal.returns-then-line-eq0

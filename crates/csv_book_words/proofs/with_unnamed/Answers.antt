@@ -1,6 +1,5 @@
 -- `csv_book_words::with_unnamed` meets its contract.
 use Rattle.csv_book_words.proofs.Wording.{unnamed_added}
-use borrow.Author.Rules.{rules}
 use Rattle.csv_book_words.proofs.with_unnamed.Goals as goal
 
 pub returns : goal.returns
