@@ -132,10 +132,8 @@ narrowing_start r csv = record { later = refl }
 
 module _ {r : ℕ} {csv : List ℕ} {n : ℕ} (d : Narrowing r csv n) where
   module _ (h : n ≡ 0 → ⊥) {x : ℕ} (e : x ≡ length (cell_text r (n - 1) csv)) where
-    pub narrowing_here : (x ≡ 0 → ⊥) → n - 1 + 1 ≡ width r csv
-    narrowing_here z =
-        let q : n - 1 + 1 ≡ n = omega arith in
-        q ∙ sym (width_step r csv n h ∙ rw (← e, ne_eqb x 0 z)) ∙ d.later
+    pub narrowing_here : (x ≡ 0 → ⊥) → n ≡ width r csv
+    narrowing_here z = sym (width_step r csv n h ∙ rw (← e, ne_eqb x 0 z)) ∙ d.later
 
     pub narrowing_more : x ≡ 0 → Narrowing r csv (n - 1)
     narrowing_more z = record { later = sym (width_step r csv n h ∙ rw (← e, eq-eqb x 0 z)) ∙ d.later }

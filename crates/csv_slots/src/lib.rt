@@ -88,11 +88,9 @@ pub fn width_in(sizes: &[u8], row: usize) -> usize
     ensures { (first rows : ℕ) (csv cells : List ℕ) → Held first rows csv sizes.now cells → row < rows → result ≡ width (first + row) csv }
 {
     let start = 65 * row;
-    let mut n = 65;
-    while n != 0 {
-        n -= 1;
-        if sizes[start + n] != 0 {
-            return n + 1;
+    for n in (1..=65).rev() {
+        if sizes[start + (n - 1)] != 0 {
+            return n;
         }
     }
     0
