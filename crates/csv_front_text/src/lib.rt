@@ -93,6 +93,7 @@ fn names_size(csv: &[u8]) -> usize
 }
 
 // Which front text there is room for.
+#[tactic(auto, unfolding(crate::specs::Front::front_of))]
 fn front_of(csv: &[u8], room: usize) -> Front
     requires { length csv.now ≤ 200000 }
     ensures { result ≡ front_of room csv.now }
