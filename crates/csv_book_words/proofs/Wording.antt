@@ -14,7 +14,7 @@ use Rattle.message_parts.proofs.Parts.{nothing_added}
 use Rattle.csv_front_text.specs.declared.Front.{Front}
 use Rattle.csv_front_text.specs.declared.Front.TheVariants.{Whole, Names, Nothing}
 use Rattle.csv_book.specs.Books.{Made}
-use Rattle.csv_book_words.specs.Words.{FILE, UNNAMED, MORE_THAN, VALUES, OF, NOT_WHOLE_WORDS, LONG_WORDS, NO_COLUMN, NO_BOAT, BOAT_UNNAMED, COLUMNS_WORDS, BOATS_WORDS, BIG_WORDS, ROOM_WORDS, STRAY_WORDS, OPEN_WORDS, NONE_WORDS, place, other_words, plain_words, few_words, unnamed_words, many_words, words, fault_line, front_line}
+use Rattle.csv_book_words.specs.Words.{FILE, UNNAMED, MORE_THAN, VALUES, OF, NOT_WHOLE_WORDS, place, plain_words, few_words, unnamed_words, many_words, words, fault_line, front_line}
 
 -- ---- the place
 module _ {t : Text} (l : ℕ) where
@@ -30,55 +30,6 @@ module _ {t : Text} (l : ℕ) where
 module _ {t r : Text} {w : List ℕ} (a : Adds t w r) (h : length w ≤ 40) where
   pub said : {l : List ℕ} → l ≡ w → (Adds t l r) × (r.len ≤ t.len + 40)
   said e = rw e (a, omega (arith, a.length_is))
-
-module _ (f : ℕ) where
-  pub other_9 : f ≡ 9 → other_words f ≡ NO_BOAT
-  unfolding other_words
-  other_9 e = rw e
-
-  pub other_10 : f ≡ 10 → other_words f ≡ BIG_WORDS
-  unfolding other_words
-  other_10 e = rw e
-
-  pub other_11 : f ≡ 11 → other_words f ≡ ROOM_WORDS
-  unfolding other_words
-  other_11 e = rw e
-
-  pub other_260 : f ≡ 260 → other_words f ≡ STRAY_WORDS
-  unfolding other_words
-  other_260 e = rw e
-
-  pub other_261 : f ≡ 261 → other_words f ≡ OPEN_WORDS
-  unfolding other_words
-  other_261 e = rw e
-
-  pub other_none : (f ≡ 9 → ⊥) → (f ≡ 10 → ⊥) → (f ≡ 11 → ⊥) → (f ≡ 260 → ⊥) → (f ≡ 261 → ⊥) → other_words f ≡ NONE_WORDS
-  unfolding other_words
-  other_none a b c d e = rw (ne_eqb f 9 a, ne_eqb f 10 b, ne_eqb f 11 c, ne_eqb f 260 d, ne_eqb f 261 e)
-
-  pub plain_1 : f ≡ 1 → plain_words f ≡ LONG_WORDS
-  unfolding plain_words
-  plain_1 e = rw e
-
-  pub plain_2 : f ≡ 2 → plain_words f ≡ BOAT_UNNAMED
-  unfolding plain_words
-  plain_2 e = rw e
-
-  pub plain_3 : f ≡ 3 → plain_words f ≡ NO_COLUMN
-  unfolding plain_words
-  plain_3 e = rw e
-
-  pub plain_4 : f ≡ 4 → plain_words f ≡ COLUMNS_WORDS
-  unfolding plain_words
-  plain_4 e = rw e
-
-  pub plain_8 : f ≡ 8 → plain_words f ≡ BOATS_WORDS
-  unfolding plain_words
-  plain_8 e = rw e
-
-  pub plain_other : {t r : Text} → (f ≡ 1 → ⊥) → (f ≡ 2 → ⊥) → (f ≡ 3 → ⊥) → (f ≡ 4 → ⊥) → (f ≡ 8 → ⊥) → (Adds t (other_words f) r) × (r.len ≤ t.len + 40) → (Adds t (plain_words f) r) × (r.len ≤ t.len + 40)
-  unfolding plain_words
-  plain_other a b c d e p = rw (ne_eqb f 1 a, ne_eqb f 2 b, ne_eqb f 3 c, ne_eqb f 4 d, ne_eqb f 8 e) p
 
 -- with numbers
 module _ {t a b d r : Text} where
@@ -112,21 +63,9 @@ module _ (f p c : ℕ) (v : List ℕ) {t r : Text} where
   unfolding words
   words_5 e x = rw e (x.0, omega (arith, x.1))
 
-  pub words_2_names : f ≡ 2 → c ≡ 0 → (Adds t (unnamed_words p) r) × (r.len ≤ t.len + 60) → Told f p c v t r
-  unfolding words
-  words_2_names e z x = rw (e, z) (x.0, omega (arith, x.1))
-
   pub words_2 : f ≡ 2 → (c ≡ 0 → ⊥) → (Adds t (plain_words f) r) × (r.len ≤ t.len + 40) → Told f p c v t r
   unfolding words
   words_2 e z x = let y : Adds t (plain_words 2) r = rw e at x.0 in rw (e, ne_eqb c 0 z) (y, omega (arith, x.1))
-
-  pub words_4_names : f ≡ 4 → c ≡ 0 → (Adds t (plain_words f) r) × (r.len ≤ t.len + 40) → Told f p c v t r
-  unfolding words
-  words_4_names e z x = let y : Adds t (plain_words 4) r = rw e at x.0 in rw (e, z) (y, omega (arith, x.1))
-
-  pub words_4 : f ≡ 4 → (c ≡ 0 → ⊥) → (Adds t (many_words c) r) × (r.len ≤ t.len + 60) → Told f p c v t r
-  unfolding words
-  words_4 e z x = rw (e, ne_eqb c 0 z) (x.0, omega (arith, x.1))
 
   pub words_other : (f ≡ 6 → ⊥) → (f ≡ 7 → ⊥) → (f ≡ 5 → ⊥) → (f ≡ 2 → ⊥) → (f ≡ 4 → ⊥) → (Adds t (plain_words f) r) × (r.len ≤ t.len + 40) → Told f p c v t r
   unfolding words

@@ -4,26 +4,13 @@ use mathlib.Core.Bool.{Bool, true, false, cond}
 use mathlib.Core.List.{List, [], ◌∷◌}
 use Prim.Native.Nat.{ℕ, ◌+◌, ◌≤◌, ◌<◌}
 use native.Mathlib.Omega.{arith}
-use borrow.Author.Tests.{ltb-true, eqb-true, eqb-false, eq-eqb, ne_eqb}
+use borrow.Author.Tests.{ltb-true, eqb-true, eqb-false, ne_eqb}
 use lib.Dec.{ltb, eqb}
 use Rattle.csv_fields.specs.Fields.{byte_if}
 use Rattle.csv_cells.specs.Cells.{Place, moved, is_in, is_past, cell_from}
 use Rattle.csv_cells.proofs.Steps.{moved_faulty, moved_near}
 
 -- ---- the test
-module _ (r f : ℕ) (p : Place) where
-  pub past_fault : (p.fault ≡ 0 → ⊥) → true ≡ is_past r f p
-  unfolding is_past
-  past_fault h = rw (ne_eqb p.fault 0 h)
-
-  pub past_field : p.fault ≡ 0 → p.row ≡ r → ltb f p.field ≡ is_past r f p
-  unfolding is_past
-  past_field z h = rw (eq-eqb p.fault 0 z, eq-eqb p.row r h)
-
-  pub past_row : p.fault ≡ 0 → (p.row ≡ r → ⊥) → ltb r p.row ≡ is_past r f p
-  unfolding is_past
-  past_row z h = rw (eq-eqb p.fault 0 z, ne_eqb p.row r h)
-
 -- ---- what it says
 data Past (r f : ℕ) (p : Place) : Type 0 where
   wrong : (p.fault ≡ 0 → ⊥) → Past r f p

@@ -55,13 +55,6 @@ module _ (r f : ℕ) (p : Place) (k : ℕ) where
     cell_now h = rw h (λ z. omega arith)
 
 -- ---- the width after a token
-module _ (r n : ℕ) (p : Place) (k : ℕ) {b : Bool} (e : b ≡ is_in r p.field p k) where
-  pub wide_there : b ≡ true → p.field + 1 ≡ width_at r n p k
-  wide_there h = rw (← e, h)
-
-  pub wide_kept : b ≡ false → n ≡ width_at r n p k
-  wide_kept h = rw (← e, h)
-
 -- ---- what is known after some tokens
 pub record Widening (r : ℕ) (csv : List ℕ) (sep : ℕ) (p : Place) (m : Mode) (n i : ℕ) : Type 0 where
   pub near : Within csv p i

@@ -60,10 +60,6 @@ module _ (t : Table) (k : ℕ) (e : ends_value t k ≡ true) where
 
 -- ---- what the test for it says, and what is put then
 module _ (t : Table) (k : ℕ) where
-  pub test_faulty : (t.fault ≡ 0 → ⊥) → false ≡ ends_value t k
-  unfolding ends_value
-  test_faulty h = rw (ne_eqb t.fault 0 h)
-
   module _ (h : t.fault ≡ 0) where
     pub test_byte : k < 256 → false ≡ ends_value t k
     unfolding ends_value

@@ -6,24 +6,13 @@ use lib.Dec.{eqb}
 use borrow.Author.Tests.{eq-eqb, ne_eqb, lt-ltb, le-ltb}
 use Rattle.csv_bytes.specs.Cells.{no_bytes, with_byte, is_number, progress}
 use Rattle.csv_bytes.specs.declared.Cell.{Cell}
-use Rattle.csv_fleet_tokens.specs.Table.{Table, start, faulty, UNIT, with_text, number_fault, name_fault, field_fault, limit, units_after, next_field, field_ended, end_fault, columns_after, boats_after, word_after, next_line, whole_line_ended, line_ended, finished, consumed, after}
-
-pub start_made : {x : Cell} → x ≡ no_bytes → record { field = 0; columns = 0; boats = 0; units = false; cell = x; word = 5; fault = 0 } ≡ start
-start_made e = rw e
+use Rattle.csv_fleet_tokens.specs.Table.{Table, faulty, UNIT, with_text, number_fault, name_fault, field_fault, limit, units_after, next_field, field_ended, end_fault, columns_after, boats_after, word_after, next_line, whole_line_ended, line_ended, finished, consumed, after}
 
 -- ---- a field
 module _ (c : Cell) {b : Bool} (eb : b ≡ is_number c) where
-  pub number_large : b ≡ true → 2000 < c.magnitude → 7 ≡ number_fault c
-  unfolding number_fault
-  number_large h k = rw (← eb, h, lt-ltb 2000 c.magnitude k)
-
   pub number_good : b ≡ true → c.magnitude ≤ 2000 → 0 ≡ number_fault c
   unfolding number_fault
   number_good h k = rw (← eb, h, le-ltb 2000 c.magnitude k)
-
-  pub number_none : b ≡ false → 6 ≡ number_fault c
-  unfolding number_fault
-  number_none h = rw (← eb, h)
 
 module _ (c : Cell) where
   pub name_none : c.size ≡ 0 → 2 ≡ name_fault c
@@ -134,10 +123,6 @@ module _ (t : Table) {m : ℕ} (em : m ≡ limit t.columns) where
   field_many h e = e ∙ rw (← em, le-ltb t.field m h)
 
   module _ (h : t.field < m) {f : ℕ} (ef : f ≡ field_fault t) where
-    pub field_wrong : (f ≡ 0 → ⊥) → {x : Table} → x ≡ faulty t f → x ≡ field_ended t
-    unfolding field_ended
-    field_wrong n e = e ∙ rw (← em, lt-ltb t.field m h, ← ef, ne_eqb f 0 n)
-
     pub field_next : f ≡ 0 → {u : Bool} → u ≡ units_after t → {x : Cell} → x ≡ no_bytes →
         record { field = t.field + 1; columns = t.columns; boats = t.boats; units = u; cell = x; word = 0; fault = 0 } ≡ field_ended t
     unfolding field_ended next_field
@@ -145,15 +130,7 @@ module _ (t : Table) {m : ℕ} (em : m ≡ limit t.columns) where
 
 -- ---- the end of a line
 module _ (t : Table) {f : ℕ} (ef : f ≡ field_fault t) where
-  pub line_field_wrong : (f ≡ 0 → ⊥) → {x : Table} → x ≡ faulty t f → x ≡ whole_line_ended t
-  unfolding whole_line_ended
-  line_field_wrong n e = e ∙ rw (← ef, ne_eqb f 0 n)
-
   module _ (z : f ≡ 0) {g : ℕ} (eg : g ≡ end_fault t) where
-    pub line_wrong : (g ≡ 0 → ⊥) → {x : Table} → x ≡ faulty t g → x ≡ whole_line_ended t
-    unfolding whole_line_ended
-    line_wrong n e = e ∙ rw (← ef, eq-eqb f 0 z, ← eg, ne_eqb g 0 n)
-
     pub line_next : g ≡ 0 → {c : ℕ} → c ≡ columns_after t → {b : ℕ} → b ≡ boats_after t → {x : Cell} → x ≡ no_bytes → {w : ℕ} → w ≡ word_after t.columns →
         record { field = 0; columns = c; boats = b; units = false; cell = x; word = w; fault = 0 } ≡ whole_line_ended t
     unfolding whole_line_ended next_line
@@ -164,32 +141,16 @@ module _ (t : Table) where
   unfolding line_ended
   line_later h e = e ∙ rw (ne_eqb t.field 0 h)
 
-  pub line_named : t.field ≡ 0 → (t.cell.size ≡ 0 → ⊥) → {x : Table} → x ≡ whole_line_ended t → x ≡ line_ended t
-  unfolding line_ended
-  line_named h k e = e ∙ rw (eq-eqb t.field 0 h, ne_eqb t.cell.size 0 k)
-
   pub line_blank : t.field ≡ 0 → t.cell.size ≡ 0 → t ≡ line_ended t
   unfolding line_ended
   line_blank h k = rw (eq-eqb t.field 0 h, eq-eqb t.cell.size 0 k)
-
-  pub finished_faulty : (t.fault ≡ 0 → ⊥) → t ≡ finished t
-  unfolding finished
-  finished_faulty h = rw (ne_eqb t.fault 0 h)
 
   pub finished_boats : t.fault ≡ 0 → (t.boats ≡ 0 → ⊥) → t ≡ finished t
   unfolding finished
   finished_boats h k = rw (eq-eqb t.fault 0 h, ne_eqb t.boats 0 k)
 
-  pub finished_none : t.fault ≡ 0 → t.boats ≡ 0 → {x : Table} → x ≡ faulty t 9 → x ≡ finished t
-  unfolding finished
-  finished_none h k e = e ∙ rw (eq-eqb t.fault 0 h, eq-eqb t.boats 0 k)
-
 -- ---- a token
 module _ (t : Table) (k : ℕ) where
-  pub after_faulty : (t.fault ≡ 0 → ⊥) → t ≡ after t k
-  unfolding after
-  after_faulty h = rw (ne_eqb t.fault 0 h)
-
   pub after_good : t.fault ≡ 0 → {x : Table} → x ≡ consumed t k → x ≡ after t k
   unfolding after
   after_good h e = e ∙ rw (eq-eqb t.fault 0 h)

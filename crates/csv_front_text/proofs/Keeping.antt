@@ -6,8 +6,8 @@ use Prim.Native.Nat.{ℕ, ◌+◌, ◌-◌, ◌≤◌, ◌<◌}
 use native.Mathlib.Numerals.{add-one}
 use native.Mathlib.Nat.{min-le_left, sub-zero}
 use native.Mathlib.Omega.{arith}
-use borrow.Author.Tests.{eq-eqb, ne_eqb, leb-true, leb-false}
-use lib.Dec.{eqb, leb}
+use borrow.Author.Tests.{leb-true, leb-false}
+use lib.Dec.{leb}
 use lib.ListN.{length, get_or, take, drop, set, length-append, length-take, drop_of_length-le}
 use lib.Seq.{drop-cons, take_all, take-nil, take-append-le, take-append-add}
 use Rattle.buffers.specs.Placed.{placed}
@@ -20,25 +20,6 @@ use Rattle.csv_fleet_reader.proofs.Reading.{after_slow, mark_inside}
 use Rattle.csv_front_text.specs.Front.{is_kept, kept_byte, names_from, names_text}
 
 -- ---- which bytes are kept
-module _ (t : Table) (k : ℕ) where
-  pub kept_names : t.columns ≡ 0 → true ≡ is_kept t k
-  unfolding is_kept
-  kept_names c = rw (eq-eqb t.columns 0 c)
-
-  module _ (c : t.columns ≡ 0 → ⊥) where
-    pub kept_units : t.units ≡ true → true ≡ is_kept t k
-    unfolding is_kept
-    kept_units u = rw (ne_eqb t.columns 0 c, u)
-
-    module _ (u : t.units ≡ false) where
-      pub kept_first : t.field ≡ 0 → true ≡ is_kept t k
-      unfolding is_kept
-      kept_first f = rw (ne_eqb t.columns 0 c, u, eq-eqb t.field 0 f)
-
-      pub kept_end : (t.field ≡ 0 → ⊥) → eqb k 257 ≡ is_kept t k
-      unfolding is_kept
-      kept_end f = rw (ne_eqb t.columns 0 c, u, ne_eqb t.field 0 f)
-
 module _ (t : Table) (k b : ℕ) {r : Bool} (er : r ≡ is_kept t k) where
   pub byte_kept : r ≡ true → kept_byte t k b ≡ b ∷ []
   unfolding kept_byte
