@@ -1,5 +1,5 @@
 -- The first mismatch: a law for each of its cases, and for the loops that look for it.
-use mathlib.Core.Path.{◌≡◌, refl, sym, ◌∙◌}
+use mathlib.Core.Path.{◌≡◌, refl, sym, ap, ◌∙◌}
 use mathlib.Core.Bool.{Bool, true, false, cond}
 use mathlib.Core.List.{List}
 use Prim.Native.Nat.{ℕ, zero, suc, ◌+◌, ◌-◌, ◌≤◌, ◌<◌}
@@ -8,30 +8,39 @@ use native.Mathlib.Omega.{arith}
 use borrow.Author.Tests.{eq-eqb, ne_eqb, eqb-true, eqb-false}
 use lib.Dec.{eqb}
 use Rattle.csv_cells.specs.Cells.{cell_text}
+use Rattle.std.specs.Prelude.{Result, Ok, Err}
+use Rattle.std.specs.Result.{IsErr, IsErrAnd}
 use Rattle.csv_column_match.specs.declared.Mismatch.{Mismatch}
+use Rattle.csv_column_match.specs.Misfits.{Misfit, numbered, misfit_number}
 use Rattle.csv_column_match.specs.Match.{column_of, position, none, column_mismatch, fleet_mismatch, unknown, mismatch}
 use Rattle.csv_column_match.proofs.Looking.{differ}
+
+-- what a `?` gives back has the numbers of what it was given
+pub passed_on : {value : Type 0} (r : Result value Mismatch) (e : Mismatch) {x : Misfit} → IsErr r × IsErrAnd r (λ y. y ≡ e) → numbered e ≡ x →
+    misfit_number r ≡ x
+passed_on (Ok a) e h q = elim h.1 [ ]
+passed_on (Err a) e h q = ap numbered h.1 ∙ q
 
 below : {a b : ℕ} → (a ≡ suc b → ⊥) → a ≤ suc b → a ≤ b
 below {a} {b} n h = omega (arith, differ a (suc b) h n)
 
 -- ---- one column
 module _ (n j : ℕ) (fleet csv : List ℕ) {at : ℕ} (ea : at ≡ position n j fleet csv) where
-  pub is_missing : at ≡ 0 → ◌≡◌ {A = Mismatch} (record { fault = 18; column = j }) (column_mismatch n j fleet csv)
+  pub is_missing : at ≡ 0 → ◌≡◌ {A = Misfit} (record { fault = 18; column = j }) (column_mismatch n j fleet csv)
   unfolding column_mismatch
   is_missing z = rw (← ea, eq-eqb at 0 z)
 
   module _ (z : at ≡ 0 → ⊥) {before : ℕ} (eb : before ≡ position (at - 1) j fleet csv) where
-    pub is_twice : (before ≡ 0 → ⊥) → ◌≡◌ {A = Mismatch} (record { fault = 19; column = j }) (column_mismatch n j fleet csv)
+    pub is_twice : (before ≡ 0 → ⊥) → ◌≡◌ {A = Misfit} (record { fault = 19; column = j }) (column_mismatch n j fleet csv)
     unfolding column_mismatch
     is_twice h = rw (← ea, ne_eqb at 0 z, ← eb, ne_eqb before 0 h)
 
     module _ (h : before ≡ 0) {earlier : ℕ} (ee : earlier ≡ column_of (cell_text 0 j fleet) (j - 1) fleet) where
-      pub is_fleet_twice : (earlier ≡ 0 → ⊥) → ◌≡◌ {A = Mismatch} (record { fault = 21; column = j }) (column_mismatch n j fleet csv)
+      pub is_fleet_twice : (earlier ≡ 0 → ⊥) → ◌≡◌ {A = Misfit} (record { fault = 21; column = j }) (column_mismatch n j fleet csv)
       unfolding column_mismatch
       is_fleet_twice k = rw (← ea, ne_eqb at 0 z, ← eb, eq-eqb before 0 h, ← ee, ne_eqb earlier 0 k)
 
-      pub is_none : earlier ≡ 0 → {r : Mismatch} → r ≡ none → r ≡ column_mismatch n j fleet csv
+      pub is_none : earlier ≡ 0 → {r : Misfit} → r ≡ none → r ≡ column_mismatch n j fleet csv
       unfolding column_mismatch
       is_none k e = e ∙ rw (← ea, ne_eqb at 0 z, ← eb, eq-eqb before 0 h, ← ee, eq-eqb earlier 0 k)
 
@@ -87,7 +96,7 @@ module _ (n : ℕ) (fleet csv : List ℕ) where
       by true e more = rw (eqb-true j (suc m) e)
       by false e more = rw (more (below (eqb-false j (suc m) e) h), ne_eqb _ 0 z)
 
-  module _ (j : ℕ) (d : fleet_mismatch n j fleet csv ≡ none) {r : Mismatch} (er : r ≡ column_mismatch n (j + 1) fleet csv) where
+  module _ (j : ℕ) (d : fleet_mismatch n j fleet csv ≡ none) {r : Misfit} (er : r ≡ column_mismatch n (j + 1) fleet csv) where
     next_is : fleet_mismatch n (j + 1) fleet csv ≡ r
     next_is = rw add-one (fleet_next j d ∙ (rw add-one at (sym er)))
 
@@ -97,7 +106,7 @@ module _ (n : ℕ) (fleet csv : List ℕ) where
     pub fleet_passed : r.fault ≡ 0 → fleet_mismatch n (j + 1) fleet csv ≡ none
     fleet_passed z = next_is ∙ er ∙ (column_placed n (j + 1) fleet csv (rw er at z)).is_faultless
 
-  pub fleet_end : (m j : ℕ) → j ≤ m → m ≤ j → fleet_mismatch n j fleet csv ≡ none → {r : Mismatch} → r ≡ none → r ≡ fleet_mismatch n m fleet csv
+  pub fleet_end : (m j : ℕ) → j ≤ m → m ≤ j → fleet_mismatch n j fleet csv ≡ none → {r : Misfit} → r ≡ none → r ≡ fleet_mismatch n m fleet csv
   fleet_end m j h k d e = let q : m ≡ j = omega arith in e ∙ sym d ∙ rw q
 
   -- of each column, where there is no mismatch
@@ -160,17 +169,17 @@ module _ (m : ℕ) (fleet csv : List ℕ) where
       by false b t p q s z more = absurd (eqb-false _ 0 p z)
 
 -- ---- all of them
-module _ (m n : ℕ) (fleet csv : List ℕ) {r : Mismatch} (er : r ≡ fleet_mismatch n m fleet csv) where
+module _ (m n : ℕ) (fleet csv : List ℕ) {r : Misfit} (er : r ≡ fleet_mismatch n m fleet csv) where
   pub in_fleet : (r.fault ≡ 0 → ⊥) → r ≡ mismatch m n fleet csv
   unfolding mismatch
   in_fleet z = rw (← er, ne_eqb r.fault 0 z)
 
   module _ (z : r.fault ≡ 0) {k : ℕ} (ek : k ≡ unknown m n fleet csv) where
-    pub in_sheet : (k ≡ 0 → ⊥) → ◌≡◌ {A = Mismatch} (record { fault = 20; column = k }) (mismatch m n fleet csv)
+    pub in_sheet : (k ≡ 0 → ⊥) → ◌≡◌ {A = Misfit} (record { fault = 20; column = k }) (mismatch m n fleet csv)
     unfolding mismatch
     in_sheet h = rw (← er, eq-eqb r.fault 0 z, ← ek, ne_eqb k 0 h)
 
-    pub in_none : k ≡ 0 → {x : Mismatch} → x ≡ none → x ≡ mismatch m n fleet csv
+    pub in_none : k ≡ 0 → {x : Misfit} → x ≡ none → x ≡ mismatch m n fleet csv
     unfolding mismatch
     in_none h e = e ∙ rw (← er, eq-eqb r.fault 0 z, ← ek, eq-eqb k 0 h)
 

@@ -1,3 +1,4 @@
 -- The definitions of this crate.
+pub mod Misfits
 pub mod Match
 pub mod Matched

@@ -2,7 +2,7 @@
 use Rattle.std.specs.Prelude.{cond, List, [], ◌∷◌, ℕ, zero, suc, ◌-◌, eqb}
 use Rattle.files.specs.Bytes.{same}
 use Rattle.csv_cells.specs.Cells.{cell_text}
-use Rattle.csv_column_match.specs.declared.Mismatch.{Mismatch}
+use Rattle.csv_column_match.specs.Misfits.{Misfit}
 
 -- the last column from 1 to n of this name, 0 if there is none
 unfoldable pub column_of : (name : List ℕ) → (n : ℕ) → List ℕ → ℕ
@@ -13,18 +13,18 @@ column_of name (suc n) csv = cond (same (cell_text 0 (suc n) csv) name) (suc n) 
 unfoldable pub position : (n j : ℕ) → (fleet csv : List ℕ) → ℕ
 position n j fleet csv = column_of (cell_text 0 j fleet) n csv
 
-abbrev pub none : Mismatch
+abbrev pub none : Misfit
 none = record { fault = 0; column = 0 }
 
 -- column j of the fleet: 18 the sheet has it not, 19 the sheet has it twice, 21 the fleet has it twice
-unfoldable pub column_mismatch : (n j : ℕ) → (fleet csv : List ℕ) → Mismatch
+unfoldable pub column_mismatch : (n j : ℕ) → (fleet csv : List ℕ) → Misfit
 column_mismatch n j fleet csv =
     cond (eqb (position n j fleet csv) 0) (record { fault = 18; column = j })
     (cond (eqb (position (position n j fleet csv - 1) j fleet csv) 0)
     (cond (eqb (column_of (cell_text 0 j fleet) (j - 1) fleet) 0) none (record { fault = 21; column = j })) (record { fault = 19; column = j }))
 
 -- the first of columns 1 to m of the fleet
-unfoldable pub fleet_mismatch : (n m : ℕ) → (fleet csv : List ℕ) → Mismatch
+unfoldable pub fleet_mismatch : (n m : ℕ) → (fleet csv : List ℕ) → Misfit
 fleet_mismatch n zero fleet csv = none
 fleet_mismatch n (suc m) fleet csv = cond (eqb (fleet_mismatch n m fleet csv).fault 0) (column_mismatch n (suc m) fleet csv) (fleet_mismatch n m fleet csv)
 
@@ -35,7 +35,7 @@ unknown m (suc n) fleet csv =
     cond (eqb (unknown m n fleet csv) 0) (cond (eqb (column_of (cell_text 0 (suc n) csv) m fleet) 0) (suc n) 0) (unknown m n fleet csv)
 
 -- the first mismatch of m columns of the fleet and n of the sheet: 20 a column of the sheet that the fleet has not
-unfoldable pub mismatch : (m n : ℕ) → (fleet csv : List ℕ) → Mismatch
+unfoldable pub mismatch : (m n : ℕ) → (fleet csv : List ℕ) → Misfit
 mismatch m n fleet csv =
     cond (eqb (fleet_mismatch n m fleet csv).fault 0)
     (cond (eqb (unknown m n fleet csv) 0) none (record { fault = 20; column = unknown m n fleet csv })) (fleet_mismatch n m fleet csv)

@@ -8,32 +8,16 @@ ghost use Rattle.std.specs.Prelude.{List, ◌≡◌, ℕ, ◌≤◌, ◌<◌, le
 ghost use Rattle.buffers.specs.Placed.{placed};
 ghost use Rattle.csv_cells.specs.Cells.{cell_text};
 ghost use Rattle.csv_slots.specs.Slots.{Room, Held};
-ghost use Rattle.csv_column_match.specs.Match.{column_of, none, column_mismatch, fleet_mismatch, unknown, mismatch, positions};
+ghost use Rattle.csv_column_match.specs.Misfits.{misfit_number};
+ghost use Rattle.csv_column_match.specs.Match.{column_of, column_mismatch, fleet_mismatch, unknown, mismatch, positions};
 
-// What is wrong: a column of the fleet that the sheet has not, that the sheet has twice, a column of the sheet that the fleet has not, a
-// column that the fleet has twice.
-pub const MISSING: u32 = 18;
+use csv_fleet_tokens::Fault;
 
-pub const TWICE: u32 = 19;
-
-pub const UNKNOWN: u32 = 20;
-
-pub const FLEET_TWICE: u32 = 21;
-
-// What is wrong, or 0, and the column of the fleet, or with UNKNOWN of the sheet, that is meant.
-#[derive(Clone, Copy)]
+// What is wrong, and the column of the fleet, or with Fault::Unknown of the sheet, that is meant.
+#[derive(Clone, Copy, Debug, PartialEq, Eq)]
 pub struct Mismatch {
-    pub fault: u32,
+    pub fault: Fault,
     pub column: usize,
-}
-
-fn none() -> Mismatch
-    ensures { result ≡ none }
-{
-    Mismatch {
-        fault: 0,
-        column: 0,
-    }
 }
 
 // The last column from 1 to n of this name, 0 if there is none.
@@ -43,13 +27,11 @@ fn column_of(name: &[u8], n: usize, sizes: &[u8], cells: &[u8]) -> usize
     ensures by_index { (csv : List ℕ) → Held 0 1 csv sizes.now cells.now → result ≡ column_of name.now n csv }
     ensures upper_bound { result ≤ n }
 {
-    let mut j = n;
-    while 0 < j {
+    for j in (1..=n).rev() {
         let other = csv_slots::cell(cells, sizes, j);
         if equal_bytes::is_same(other, name) {
             return j;
         }
-        j -= 1;
     }
     0
 }
@@ -82,34 +64,34 @@ fn column_mismatch(
     sizes: &[u8],
     cells: &[u8],
     n: usize,
-) -> Mismatch
+) -> Result<(), Mismatch>
     requires room { Room 1 fleet_sizes.now fleet_cells.now }
     requires room_2 { Room 1 sizes.now cells.now }
     requires j_nonzero { 0 < j }
     requires j_bound { j ≤ 64 }
     requires n_bound { n ≤ 64 }
-    ensures { (fleet csv : List ℕ) → Held 0 1 fleet fleet_sizes.now fleet_cells.now → Held 0 1 csv sizes.now cells.now → result ≡ column_mismatch n j fleet csv }
+    ensures { (fleet csv : List ℕ) → Held 0 1 fleet fleet_sizes.now fleet_cells.now → Held 0 1 csv sizes.now cells.now → misfit_number result ≡ column_mismatch n j fleet csv }
 {
     let at = same_column(fleet_sizes, fleet_cells, j, sizes, cells, n);
     if at == 0 {
-        return Mismatch {
-            fault: MISSING,
+        return Err(Mismatch {
+            fault: Fault::Missing,
             column: j,
-        };
+        });
     }
     if same_column(fleet_sizes, fleet_cells, j, sizes, cells, at - 1) != 0 {
-        return Mismatch {
-            fault: TWICE,
+        return Err(Mismatch {
+            fault: Fault::Twice,
             column: j,
-        };
+        });
     }
     if same_column(fleet_sizes, fleet_cells, j, fleet_sizes, fleet_cells, j - 1) != 0 {
-        return Mismatch {
-            fault: FLEET_TWICE,
+        return Err(Mismatch {
+            fault: Fault::FleetTwice,
             column: j,
-        };
+        });
     }
-    none()
+    Ok(())
 }
 
 // The first mismatch of columns 1 to m of the fleet.
@@ -120,20 +102,17 @@ fn fleet_mismatch(
     sizes: &[u8],
     cells: &[u8],
     n: usize,
-) -> Mismatch
+) -> Result<(), Mismatch>
     requires room { Room 1 fleet_sizes.now fleet_cells.now }
     requires room_2 { Room 1 sizes.now cells.now }
     requires m_bound { m ≤ 64 }
     requires n_bound { n ≤ 64 }
-    ensures { (fleet csv : List ℕ) → Held 0 1 fleet fleet_sizes.now fleet_cells.now → Held 0 1 csv sizes.now cells.now → result ≡ fleet_mismatch n m fleet csv }
+    ensures { (fleet csv : List ℕ) → Held 0 1 fleet fleet_sizes.now fleet_cells.now → Held 0 1 csv sizes.now cells.now → misfit_number result ≡ fleet_mismatch n m fleet csv }
 {
     for j in 0..m {
-        let found = column_mismatch(fleet_sizes, fleet_cells, j + 1, sizes, cells, n);
-        if found.fault != 0 {
-            return found;
-        }
+        column_mismatch(fleet_sizes, fleet_cells, j + 1, sizes, cells, n)?;
     }
-    none()
+    Ok(())
 }
 
 // The first of columns 1 to n of the sheet that is none of the m of the fleet, 0 if each is.
@@ -167,34 +146,31 @@ fn mismatch_in(
     sizes: &[u8],
     cells: &[u8],
     n: usize,
-) -> Mismatch
+) -> Result<(), Mismatch>
     requires room { Room 1 fleet_sizes.now fleet_cells.now }
     requires room_2 { Room 1 sizes.now cells.now }
     requires m_bound { m ≤ 64 }
     requires n_bound { n ≤ 64 }
-    ensures { (fleet csv : List ℕ) → Held 0 1 fleet fleet_sizes.now fleet_cells.now → Held 0 1 csv sizes.now cells.now → result ≡ mismatch m n fleet csv }
+    ensures { (fleet csv : List ℕ) → Held 0 1 fleet fleet_sizes.now fleet_cells.now → Held 0 1 csv sizes.now cells.now → misfit_number result ≡ mismatch m n fleet csv }
 {
-    let found = fleet_mismatch(fleet_sizes, fleet_cells, m, sizes, cells, n);
-    if found.fault != 0 {
-        return found;
-    }
+    fleet_mismatch(fleet_sizes, fleet_cells, m, sizes, cells, n)?;
     let column = unknown(fleet_sizes, fleet_cells, m, sizes, cells, n);
     if column != 0 {
-        return Mismatch {
-            fault: UNKNOWN,
+        return Err(Mismatch {
+            fault: Fault::Unknown,
             column,
-        };
+        });
     }
-    none()
+    Ok(())
 }
 
 // The first mismatch of m columns of the fleet and n of the sheet.
-pub fn find_mismatch(fleet: &[u8], m: usize, csv: &[u8], n: usize) -> Mismatch
+pub fn find_mismatch(fleet: &[u8], m: usize, csv: &[u8], n: usize) -> Result<(), Mismatch>
     requires fleet_len_bound { length fleet.now ≤ 200000 }
     requires csv_len_bound { length csv.now ≤ 200000 }
     requires m_bound { m ≤ 64 }
     requires n_bound { n ≤ 64 }
-    ensures { result ≡ mismatch m n fleet.now csv.now }
+    ensures { misfit_number result ≡ mismatch m n fleet.now csv.now }
 {
     let mut fleet_sizes = [0u8; 65];
     let mut fleet_cells = [0u8; 13000];

@@ -3,5 +3,5 @@ pub mod First
 pub mod KindNumbers
 pub mod RowKinds
 pub mod Reading
-pub mod Findings
 pub mod Soundness
+pub mod Findings

@@ -16,13 +16,13 @@ use Rattle.csv_numbers.proofs.Reading.{read_size}
 use Rattle.csv_numbers.proofs.Saying.{says_value}
 use Rattle.csv_cells.specs.Cells.{last_place, cell_text}
 use Rattle.csv_cells.proofs.Widths.{width_few}
-use Rattle.csv_sheet_rows.specs.declared.Finding.{Finding}
+use Rattle.csv_sheet_rows.specs.Findings.{Found}
 use Rattle.csv_sheet_rows.specs.Kinds.{kind_at, place, row_of}
 use Rattle.csv_sheet_rows.specs.Rows.{count_of, least, most, is_out, number_fault, is_left_out, is_open, value_fault, field_fault, faulty_field, none, found_in, many_finding, numbers_finding, kind_finding, row_finding, rows_finding, sheet_names, names_finding, last_row, factor_row, without, missing_finding, content_finding, rows_fault}
 use Rattle.csv_sheet_rows.specs.Sound.{LeftOpen, SaidOrOpen, Sound, magnitude_at, value_in}
 use Rattle.csv_sheet_rows.proofs.First.{nothing_both, nothing_each}
 
-abbrev fault_of : Finding → ℕ
+abbrev fault_of : Found → ℕ
 fault_of x = x.fault
 
 -- ---- a number
@@ -130,7 +130,7 @@ closed n (inr g) = g
 -- ---- the numbers of a row
 module _ (k w r : ℕ) (csv : List ℕ) where
   -- the field that is found is faulty
-  faulty_is : (n : ℕ) → (faulty_field k w r n csv ≡ 0 → ⊥) → field_fault k w r (faulty_field k w r n csv) csv ≡ 0 → ⊥
+  pub faulty_is : (n : ℕ) → (faulty_field k w r n csv ≡ 0 → ⊥) → field_fault k w r (faulty_field k w r n csv) csv ≡ 0 → ⊥
   unfolding faulty_field
   faulty_is zero h z = h refl
   faulty_is (suc n) h z =
@@ -159,7 +159,7 @@ module _ (k w r : ℕ) (csv : List ℕ) where
       (nothing_each (λ x. x) (λ m. faulty_field k w r m csv) (λ m. cond (eqb (field_fault k w r m csv) 0) 0 m) (λ m. refl) n
       (numbers_by n (eqb n 0) (eqb (faulty_field k w r n csv) 0) refl refl p h) f l u)
 
-  kind_by : (b d : Bool) (x : Finding) → (cond b (cond d (found_in r 0 2 csv) x) (found_in r 0 14 csv)).fault ≡ 0 → x.fault ≡ 0
+  kind_by : (b d : Bool) (x : Found) → (cond b (cond d (found_in r 0 2 csv) x) (found_in r 0 14 csv)).fault ≡ 0 → x.fault ≡ 0
   kind_by true true x h = absurd (omega arith)
   kind_by true false x h = h
   kind_by false d x h = absurd (omega arith)
@@ -218,12 +218,12 @@ module _ (csv : List ℕ) (h : (rows_fault csv).fault ≡ 0) where
   content_good =
       (nothing_both fault_of (record { fault = (last_place csv).fault; line = (last_place csv).line; row = (last_place csv).row; field = (last_place csv).field }) (content_finding csv) h).1
 
-  parts_by : (b : Bool) (x y : Finding) → ltb 16 (last_place csv).row ≡ b → (cond b (found_in 16 0 13 csv) (cond (eqb x.fault 0) y x)).fault ≡ 0 →
+  parts_by : (b : Bool) (x y : Found) → ltb 16 (last_place csv).row ≡ b → (cond b (found_in 16 0 13 csv) (cond (eqb x.fault 0) y x)).fault ≡ 0 →
       (last_row csv ≤ 15) × (x.fault ≡ 0) × (y.fault ≡ 0)
   parts_by true x y e g = absurd (omega arith)
   parts_by false x y e g = (omega (arith, ltb-false 16 (last_place csv).row e), (nothing_both fault_of x y g).0, (nothing_both fault_of x y g).1)
 
-  rows_and_missing : Finding
+  rows_and_missing : Found
   rows_and_missing = cond (eqb (rows_finding (factor_row csv) (sheet_names csv) (last_row csv) csv).fault 0) (missing_finding (last_row csv) csv) (rows_finding (factor_row csv) (sheet_names csv) (last_row csv) csv)
 
   parts : (last_row csv ≤ 15) × ((names_finding csv).fault ≡ 0) × (rows_and_missing.fault ≡ 0)
@@ -234,7 +234,7 @@ module _ (csv : List ℕ) (h : (rows_fault csv).fault ≡ 0) where
   unfolding rows_and_missing
   rows_good = nothing_both fault_of (rows_finding (factor_row csv) (sheet_names csv) (last_row csv) csv) (missing_finding (last_row csv) csv) parts.2
 
-  names_by : (b : Bool) (x : Finding) → eqb (sheet_names csv) 0 ≡ b → (cond b (found_in 0 0 3 csv) x).fault ≡ 0 → sheet_names csv ≡ 0 → ⊥
+  names_by : (b : Bool) (x : Found) → eqb (sheet_names csv) 0 ≡ b → (cond b (found_in 0 0 3 csv) x).fault ≡ 0 → sheet_names csv ≡ 0 → ⊥
   names_by true x e g = absurd (omega arith)
   names_by false x e g = eqb-false (sheet_names csv) 0 e
 

@@ -5,7 +5,7 @@ use Rattle.csv_bytes.specs.Cells.{is_number, read}
 use Rattle.csv_bytes.specs.declared.Cell.{Cell}
 use Rattle.csv_cells.specs.Cells.{last_place, cell_text, line_of, width}
 use Rattle.csv_sheet_rows.specs.Kinds.{kind_at, place, row_of}
-use Rattle.csv_sheet_rows.specs.declared.Finding.{Finding}
+use Rattle.csv_sheet_rows.specs.Findings.{Found}
 
 -- ---- the number in a field
 
@@ -53,33 +53,38 @@ faulty_field k w r (suc n) csv =
 
 -- ---- a row after that of the column names, c columns, factors in row w
 
-abbrev pub none : Finding
+abbrev pub none : Found
 none = record { fault = 0; line = 0; row = 0; field = 0 }
 
-abbrev pub found_in : (r f fault : ℕ) → List ℕ → Finding
+abbrev pub found_in : (r f fault : ℕ) → List ℕ → Found
 found_in r f x csv = record { fault = x; line = line_of r csv; row = r; field = f }
 
+-- the first of fields 1 to n that is faulty
+unfoldable pub field_finding : (kind w r n : ℕ) → List ℕ → Found
+field_finding k w r n csv =
+    cond (eqb (faulty_field k w r n csv) 0) none (found_in r (faulty_field k w r n csv) (field_fault k w r (faulty_field k w r n csv) csv) csv)
+
 -- 24 more text than the row has numbers
-unfoldable pub many_finding : (n r : ℕ) → List ℕ → Finding
+unfoldable pub many_finding : (n r : ℕ) → List ℕ → Found
 many_finding n r csv = cond (ltb (n + 1) (width r csv)) (found_in r (n + 1) 24 csv) none
 
-unfoldable pub numbers_finding : (kind w n r : ℕ) → List ℕ → Finding
+unfoldable pub numbers_finding : (kind w n r : ℕ) → List ℕ → Found
 numbers_finding k w n r csv =
     cond (eqb n 0) none
     (cond (eqb (faulty_field k w r n csv) 0) (many_finding n r csv) (found_in r (faulty_field k w r n csv) (field_fault k w r (faulty_field k w r n csv) csv) csv))
 
 -- 14 a second row of a kind, 2 a hull without a name
-unfoldable pub kind_finding : (kind w c r : ℕ) → List ℕ → Finding
+unfoldable pub kind_finding : (kind w c r : ℕ) → List ℕ → Found
 kind_finding k w c r csv =
     cond (eqb k 8) none
     (cond (eqb (row_of (place k) (r - 1) csv) 0)
     (cond (eqb (length (cell_text r 0 csv)) 0) (found_in r 0 2 csv) (numbers_finding k w (count_of k c) r csv)) (found_in r 0 14 csv))
 
-abbrev pub row_finding : (w c r : ℕ) → List ℕ → Finding
+abbrev pub row_finding : (w c r : ℕ) → List ℕ → Found
 row_finding w c r csv = kind_finding (kind_at r csv) w c r csv
 
 -- the first of rows 1 to n that is faulty
-unfoldable pub rows_finding : (w c n : ℕ) → List ℕ → Finding
+unfoldable pub rows_finding : (w c n : ℕ) → List ℕ → Found
 rows_finding w c zero csv = none
 rows_finding w c (suc n) csv = cond (eqb (rows_finding w c n csv).fault 0) (row_finding w c (suc n) csv) (rows_finding w c n csv)
 
@@ -94,7 +99,7 @@ nameless zero csv = 0
 nameless (suc n) csv = cond (eqb (nameless n csv) 0) (cond (eqb (length (cell_text 0 (suc n) csv)) 0) (suc n) 0) (nameless n csv)
 
 -- 3 no column, 2 a column without a name
-unfoldable pub names_finding : List ℕ → Finding
+unfoldable pub names_finding : List ℕ → Found
 names_finding csv =
     cond (eqb (sheet_names csv) 0) (found_in 0 0 3 csv)
     (cond (eqb (nameless (sheet_names csv) csv) 0) none (found_in 0 (nameless (sheet_names csv) csv) 2 csv))
@@ -109,18 +114,18 @@ last_row csv = (last_place csv).row - 1
 abbrev pub factor_row : List ℕ → ℕ
 factor_row csv = row_of 2 (last_row csv) csv
 
-abbrev pub without : (fault : ℕ) → Finding
+abbrev pub without : (fault : ℕ) → Found
 without x = record { fault = x; line = 0; row = 0; field = 0 }
 
 -- 15 no hull, 16 no steps, 17 no tolerance
-unfoldable pub missing_finding : (n : ℕ) → List ℕ → Finding
+unfoldable pub missing_finding : (n : ℕ) → List ℕ → Found
 missing_finding n csv =
     cond (eqb (row_of 0 n csv) 0) (without 15)
     (cond (eqb (row_of 3 n csv) 0) (without 16)
     (cond (eqb (row_of 4 n csv) 0) (without 17) none))
 
 -- 13 more than 16 rows
-unfoldable pub content_finding : List ℕ → Finding
+unfoldable pub content_finding : List ℕ → Found
 content_finding csv =
     cond (ltb 16 (last_place csv).row) (found_in 16 0 13 csv)
     (cond (eqb (names_finding csv).fault 0)
@@ -128,7 +133,7 @@ content_finding csv =
     (rows_finding (factor_row csv) (sheet_names csv) (last_row csv) csv)) (names_finding csv))
 
 -- the first fault, that of quotes and lengths before the others
-unfoldable pub rows_fault : List ℕ → Finding
+unfoldable pub rows_fault : List ℕ → Found
 rows_fault csv =
     cond (eqb (last_place csv).fault 0) (content_finding csv)
     (record { fault = (last_place csv).fault; line = (last_place csv).line; row = (last_place csv).row; field = (last_place csv).field })

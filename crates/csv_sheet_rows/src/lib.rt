@@ -5,13 +5,16 @@
 
 ghost use Rattle.std.specs.Prelude.{List, ◌≡◌, ℕ, ◌≤◌, length};
 ghost use Rattle.csv_bytes.specs.Cells.{read};
+ghost use Rattle.csv_fleet_tokens.specs.Faults.{fault_number, result_number};
 ghost use Rattle.csv_cells.specs.Cells.{cell_text};
 ghost use Rattle.csv_slots.specs.Slots.{Room, Held};
 ghost use Rattle.csv_sheet_rows.specs.Numbers.{kind_number};
 ghost use Rattle.csv_sheet_rows.specs.Kinds.{kind_of, kind_at, place, row_of};
-ghost use Rattle.csv_sheet_rows.specs.Rows.{count_of, least, most, is_out, number_fault, is_left_out, is_open, value_fault, field_fault, faulty_field, none, found_in, many_finding, numbers_finding, kind_finding, row_finding, rows_finding, sheet_names, nameless, names_finding, last_row, without, missing_finding, content_finding, rows_fault};
+ghost use Rattle.csv_sheet_rows.specs.Findings.{numbered, found_number};
+ghost use Rattle.csv_sheet_rows.specs.Rows.{count_of, least, most, is_out, number_fault, is_left_out, is_open, value_fault, field_finding, found_in, many_finding, numbers_finding, kind_finding, row_finding, rows_finding, sheet_names, nameless, names_finding, last_row, without, missing_finding, content_finding, rows_fault};
 
 use csv_bytes::Cell;
+use csv_fleet_tokens::Fault;
 
 // What a row is, each with the number that the definitions give it. The last three are two rows for the report and one without text.
 #[derive(Clone, Copy, Debug, PartialEq, Eq)]
@@ -28,34 +31,10 @@ pub enum Kind {
     Blank = 8,
 }
 
-// What is wrong, besides what csv_cells finds: no name, no column, no value, no whole number, a value out of range, more than 16 rows,
-// a second row of a kind, no hull, no steps, no tolerance, more values than the row has numbers.
-pub const NAMELESS: u32 = 2;
-
-pub const COLUMNLESS: u32 = 3;
-
-pub const NO_VALUE: u32 = 5;
-
-pub const NOT_WHOLE: u32 = 6;
-
-pub const OUT_OF_RANGE: u32 = 7;
-
-pub const ROWS: u32 = 13;
-
-pub const AGAIN: u32 = 14;
-
-pub const NO_HULL: u32 = 15;
-
-pub const NO_STEPS: u32 = 16;
-
-pub const NO_TOLERANCE: u32 = 17;
-
-pub const MANY_VALUES: u32 = 24;
-
-// The first fault, or 0, with its line, row and field, all 0 where it has no place.
-#[derive(Clone, Copy)]
+// The first fault with its line, row and field, all 0 where it has no place.
+#[derive(Clone, Copy, Debug, PartialEq, Eq)]
 pub struct Finding {
-    pub fault: u32,
+    pub fault: Fault,
     pub line: usize,
     pub row: usize,
     pub field: usize,
@@ -236,20 +215,21 @@ fn is_out(kind: Kind, cell: Cell) -> bool
     false
 }
 
-// What is wrong with a number of a row, or 0.
-fn number_fault(kind: Kind, cell: Cell) -> u32
-    ensures { result ≡ number_fault (kind_number kind) cell }
+// What is wrong with a number of a row.
+#[tactic(auto, unfolding(crate::specs::Rows::number_fault))]
+fn number_fault(kind: Kind, cell: Cell) -> Result<(), Fault>
+    ensures { result_number result ≡ number_fault (kind_number kind) cell }
 {
     if cell.size == 0 {
-        return NO_VALUE;
+        return Err(Fault::NoValue);
     }
-    if cell.is_number() {
-        if is_out(kind, cell) {
-            return OUT_OF_RANGE;
-        }
-        return 0;
+    if !cell.is_number() {
+        return Err(Fault::NotWhole);
     }
-    NOT_WHOLE
+    if is_out(kind, cell) {
+        return Err(Fault::OutOfRange);
+    }
+    Ok(())
 }
 
 // Whether a column is left out: it has the factor 0. `factors` is the row of factors, 0 where there is none.
@@ -279,24 +259,14 @@ fn is_open(kind: Kind, factors: usize, value: Cell, factor: Cell) -> bool
     is_left_out(factors, factor)
 }
 
-// What is wrong with a number of a row, or 0: a hull may have none in a column that is left out.
-fn value_fault(kind: Kind, factors: usize, value: Cell, factor: Cell) -> u32
-    ensures { result ≡ value_fault (kind_number kind) factors value factor }
+// What is wrong with a number of a row: a hull may have none in a column that is left out.
+fn value_fault(kind: Kind, factors: usize, value: Cell, factor: Cell) -> Result<(), Fault>
+    ensures { result_number result ≡ value_fault (kind_number kind) factors value factor }
 {
     if is_open(kind, factors, value, factor) {
-        return 0;
+        return Ok(());
     }
     number_fault(kind, value)
-}
-
-// What is wrong with a field of a row, or 0.
-fn field_fault(csv: &[u8], kind: Kind, factors: usize, row: usize, field: usize) -> u32
-    requires { length csv.now ≤ 200000 }
-    ensures { result ≡ field_fault (kind_number kind) factors row field csv.now }
-{
-    let value = cell_at(csv, row, field);
-    let factor = cell_at(csv, factors, field);
-    value_fault(kind, factors, value, factor)
 }
 
 // The number in a field of the one row whose fields are in the slots.
@@ -309,11 +279,30 @@ fn read_slot(sizes: &[u8], cells: &[u8], field: usize) -> Cell
     read(text)
 }
 
-// The first of fields 1 to `n` that is faulty, 0 if none is.
-fn faulty_field(csv: &[u8], kind: Kind, factors: usize, row: usize, n: usize) -> usize
+// A fault with its place.
+fn found_in(csv: &[u8], row: usize, field: usize, fault: Fault) -> Finding
+    requires { length csv.now ≤ 200000 }
+    ensures { numbered result ≡ found_in row field (fault_number fault) csv.now }
+{
+    Finding {
+        fault,
+        line: csv_cells::line_of(csv, row),
+        row,
+        field,
+    }
+}
+
+// What is wrong with the first of fields 1 to `n` that is faulty.
+fn field_finding(
+    csv: &[u8],
+    kind: Kind,
+    factors: usize,
+    row: usize,
+    n: usize,
+) -> Result<(), Finding>
     requires csv_len_bound { length csv.now ≤ 200000 }
     requires n_bound { n ≤ 64 }
-    ensures { result ≡ faulty_field (kind_number kind) factors row n csv.now }
+    ensures { found_number result ≡ field_finding (kind_number kind) factors row n csv.now }
 {
     let mut sizes = [0u8; 65];
     let mut cells = [0u8; 13000];
@@ -324,114 +313,80 @@ fn faulty_field(csv: &[u8], kind: Kind, factors: usize, row: usize, n: usize) ->
     for field in 1..=n {
         let value = read_slot(&sizes, &cells, field);
         let factor = read_slot(&factor_sizes, &factor_cells, field);
-        if value_fault(kind, factors, value, factor) != 0 {
-            return field;
+        if let Err(fault) = value_fault(kind, factors, value, factor) {
+            return Err(found_in(csv, row, field, fault));
         }
     }
-    0
-}
-
-// Nothing is wrong.
-fn none() -> Finding
-    ensures { result ≡ none }
-{
-    Finding {
-        fault: 0,
-        line: 0,
-        row: 0,
-        field: 0,
-    }
-}
-
-// A fault with its place.
-fn found_in(csv: &[u8], row: usize, field: usize, fault: u32) -> Finding
-    requires { length csv.now ≤ 200000 }
-    ensures { result ≡ found_in row field fault csv.now }
-{
-    Finding {
-        fault,
-        line: csv_cells::line_of(csv, row),
-        row,
-        field,
-    }
+    Ok(())
 }
 
 // Whether a row has more text than its `n` numbers.
-fn many_finding(csv: &[u8], n: usize, row: usize) -> Finding
+fn many_finding(csv: &[u8], n: usize, row: usize) -> Result<(), Finding>
     requires csv_len_bound { length csv.now ≤ 200000 }
     requires n_bound { n ≤ 64 }
-    ensures { result ≡ many_finding n row csv.now }
+    ensures { found_number result ≡ many_finding n row csv.now }
 {
     if n + 1 < csv_cells::width(csv, row) {
-        return found_in(csv, row, n + 1, MANY_VALUES);
+        return Err(found_in(csv, row, n + 1, Fault::ManyValues));
     }
-    none()
+    Ok(())
 }
 
 // What is wrong with the `n` numbers of a row.
-fn numbers_finding(csv: &[u8], kind: Kind, factors: usize, n: usize, row: usize) -> Finding
+fn numbers_finding(csv: &[u8], kind: Kind, factors: usize, n: usize, row: usize) -> Result<(), Finding>
     requires csv_len_bound { length csv.now ≤ 200000 }
     requires n_bound { n ≤ 64 }
-    ensures { result ≡ numbers_finding (kind_number kind) factors n row csv.now }
+    ensures { found_number result ≡ numbers_finding (kind_number kind) factors n row csv.now }
 {
     if n == 0 {
-        return none();
+        return Ok(());
     }
-    let field = faulty_field(csv, kind, factors, row, n);
-    if field == 0 {
-        return many_finding(csv, n, row);
-    }
-    found_in(csv, row, field, field_fault(csv, kind, factors, row, field))
+    field_finding(csv, kind, factors, row, n)?;
+    many_finding(csv, n, row)
 }
 
 // What is wrong with a row of a kind, whose kind may not stand before it.
-fn kind_finding(csv: &[u8], kind: Kind, factors: usize, columns: usize, row: usize) -> Finding
+fn kind_finding(csv: &[u8], kind: Kind, factors: usize, columns: usize, row: usize) -> Result<(), Finding>
     requires csv_len_bound { length csv.now ≤ 200000 }
     requires columns_bound { columns ≤ 64 }
     requires le_row { 1 ≤ row }
     requires row_bound { row ≤ 15 }
-    ensures { result ≡ kind_finding (kind_number kind) factors columns row csv.now }
+    ensures { found_number result ≡ kind_finding (kind_number kind) factors columns row csv.now }
 {
     if kind == Kind::Blank {
-        return none();
+        return Ok(());
     }
     if row_of(csv, place(kind), row - 1) != 0 {
-        return found_in(csv, row, 0, AGAIN);
+        return Err(found_in(csv, row, 0, Fault::Again));
     }
     if size_at(csv, row, 0) == 0 {
-        return found_in(csv, row, 0, NAMELESS);
+        return Err(found_in(csv, row, 0, Fault::Nameless));
     }
     numbers_finding(csv, kind, factors, count_of(kind, columns), row)
 }
 
 // What is wrong with a row after that of the column names.
-fn row_finding(csv: &[u8], factors: usize, columns: usize, row: usize) -> Finding
+fn row_finding(csv: &[u8], factors: usize, columns: usize, row: usize) -> Result<(), Finding>
     requires csv_len_bound { length csv.now ≤ 200000 }
     requires columns_bound { columns ≤ 64 }
     requires le_row { 1 ≤ row }
     requires row_bound { row ≤ 15 }
-    ensures { result ≡ row_finding factors columns row csv.now }
+    ensures { found_number result ≡ row_finding factors columns row csv.now }
 {
     kind_finding(csv, kind_at(csv, row), factors, columns, row)
 }
 
 // What is wrong with the first of rows 1 to `n` that is faulty; `factors` is the row of factors, 0 where there is none.
-fn rows_finding(csv: &[u8], factors: usize, columns: usize, n: usize) -> Finding
+fn rows_finding(csv: &[u8], factors: usize, columns: usize, n: usize) -> Result<(), Finding>
     requires csv_len_bound { length csv.now ≤ 200000 }
     requires columns_bound { columns ≤ 64 }
     requires n_bound { n ≤ 15 }
-    ensures { result ≡ rows_finding factors columns n csv.now }
+    ensures { found_number result ≡ rows_finding factors columns n csv.now }
 {
-    let mut found = none();
-    let mut row = 0;
-    while row < n {
-        if found.fault != 0 {
-            return found;
-        }
-        row += 1;
-        found = row_finding(csv, factors, columns, row);
+    for row in 1..=n {
+        row_finding(csv, factors, columns, row)?;
     }
-    found
+    Ok(())
 }
 
 // The columns of a sheet.
@@ -465,19 +420,19 @@ fn nameless(csv: &[u8], n: usize) -> usize
 }
 
 // What is wrong with the column names.
-fn names_finding(csv: &[u8]) -> Finding
+fn names_finding(csv: &[u8]) -> Result<(), Finding>
     requires { length csv.now ≤ 200000 }
-    ensures { result ≡ names_finding csv.now }
+    ensures { found_number result ≡ names_finding csv.now }
 {
     let n = columns(csv);
     if n == 0 {
-        return found_in(csv, 0, 0, COLUMNLESS);
+        return Err(found_in(csv, 0, 0, Fault::Columnless));
     }
     let field = nameless(csv, n);
     if field == 0 {
-        return none();
+        return Ok(());
     }
-    found_in(csv, 0, field, NAMELESS)
+    Err(found_in(csv, 0, field, Fault::Nameless))
 }
 
 // The number of the last row.
@@ -493,8 +448,8 @@ pub fn last_row(csv: &[u8]) -> usize
 }
 
 // A fault of the whole CSV.
-fn without(fault: u32) -> Finding
-    ensures { result ≡ without fault }
+fn without(fault: Fault) -> Finding
+    ensures { numbered result ≡ without (fault_number fault) }
 {
     Finding {
         fault,
@@ -505,57 +460,51 @@ fn without(fault: u32) -> Finding
 }
 
 // Which row is missing among the first `n` after that of the names.
-fn missing_finding(csv: &[u8], n: usize) -> Finding
+fn missing_finding(csv: &[u8], n: usize) -> Result<(), Finding>
     requires csv_len_bound { length csv.now ≤ 200000 }
     requires n_bound { n ≤ 15 }
-    ensures { result ≡ missing_finding n csv.now }
+    ensures { found_number result ≡ missing_finding n csv.now }
 {
     if row_of(csv, Kind::Hull, n) == 0 {
-        return without(NO_HULL);
+        return Err(without(Fault::NoHull));
     }
     if row_of(csv, Kind::Steps, n) == 0 {
-        return without(NO_STEPS);
+        return Err(without(Fault::NoSteps));
     }
     if row_of(csv, Kind::Tolerance, n) == 0 {
-        return without(NO_TOLERANCE);
+        return Err(without(Fault::NoTolerance));
     }
-    none()
+    Ok(())
 }
 
 // What is wrong with a CSV whose quotes, fields and lengths are not.
-fn content_finding(csv: &[u8]) -> Finding
+fn content_finding(csv: &[u8]) -> Result<(), Finding>
     requires { length csv.now ≤ 200000 }
-    ensures { result ≡ content_finding csv.now }
+    ensures { found_number result ≡ content_finding csv.now }
 {
     let last = last_row(csv);
     if 15 < last {
-        return found_in(csv, 16, 0, ROWS);
+        return Err(found_in(csv, 16, 0, Fault::Rows));
     }
-    let names = names_finding(csv);
-    if names.fault != 0 {
-        return names;
-    }
+    names_finding(csv)?;
     let factors = row_of(csv, Kind::Factors, last);
-    let rows = rows_finding(csv, factors, columns(csv), last);
-    if rows.fault != 0 {
-        return rows;
-    }
+    rows_finding(csv, factors, columns(csv), last)?;
     missing_finding(csv, last)
 }
 
 // The first fault of a sheet's CSV, its columns aside.
-pub fn rows_fault(csv: &[u8]) -> Finding
+pub fn rows_fault(csv: &[u8]) -> Result<(), Finding>
     requires { length csv.now ≤ 200000 }
-    ensures { result ≡ rows_fault csv.now }
+    ensures { found_number result ≡ rows_fault csv.now }
 {
     let place = csv_cells::last_place(csv);
-    if place.fault != 0 {
-        return Finding {
-            fault: place.fault,
+    if let Some(fault) = place.fault {
+        return Err(Finding {
+            fault,
             line: place.line,
             row: place.row,
             field: place.field,
-        };
+        });
     }
     content_finding(csv)
 }

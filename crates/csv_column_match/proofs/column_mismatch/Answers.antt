@@ -1,5 +1,6 @@
 -- `csv_column_match::column_mismatch` meets its contract: a law for each return.
 use borrow.Author.Rules.{rules}
+use mathlib.Core.Path.{refl}
 use Rattle.csv_column_match.specs.Match.{position}
 use Rattle.csv_column_match.proofs.Mismatches.{is_missing, is_twice, is_fleet_twice, is_none}
 use Rattle.csv_column_match.proofs.column_mismatch.Goals as goal
@@ -31,4 +32,4 @@ pub returns : goal.returns
 unfolding position
 returns c =
     λ fleet csv h k. is_none _ _ fleet csv (c.same_column-at.ensures.by_index fleet csv h k) c.if-at-eq0.false (c.same_column.ensures.by_index fleet csv h k) c.if-same_column-ne0.false
-    (c.same_column-2.ensures.by_index fleet fleet h h) c.if-same_column-ne0-2.false c.none.ensures
+    (c.same_column-2.ensures.by_index fleet fleet h h) c.if-same_column-ne0-2.false refl

@@ -1,7 +1,5 @@
 -- `csv_column_match::column_of` meets its contract. The loop keeps this: the columns above j have another name, so those up to j decide.
 -- A turn compares the name of column j.
--- It ends: j falls by one.
-use borrow.Author.Rules.{rules}
 use native.Mathlib.Omega.{arith}
 use mathlib.Core.Path.{refl, ◌∙◌}
 use Prim.Native.Nat.{◌≤◌}
@@ -28,4 +26,4 @@ loop-j-preserved c =
     )
 
 pub returns : goal.returns
-returns c = record { by_index = λ csv held. looking_end _ csv _ _ (c.loop-j.invariant.1 csv held) c.loop-j-test.false; upper_bound = omega arith }
+returns c = record { by_index = λ csv held. looking_end _ csv _ _ (c.loop-j.invariant.1 csv held) (omega (arith, c.loop-j-test.false)); upper_bound = omega arith }

@@ -1,9 +1,7 @@
 -- `csv_column_match::fleet_mismatch` meets its contract: columns 1 to j have no mismatch.
-use borrow.Author.Rules.{rules}
 use mathlib.Core.List.{List}
 use mathlib.Core.Path.{◌≡◌}
-use Prim.Native.Nat.{ℕ, ◌-◌, ◌≤◌}
-use native.Mathlib.Omega.{arith}
+use Prim.Native.Nat.{ℕ, ◌≤◌}
 use Rattle.csv_slots.specs.Slots.{Held}
 use Rattle.csv_column_match.specs.Match.{none, fleet_mismatch}
 use Rattle.csv_column_match.proofs.fleet_mismatch.Given as goal

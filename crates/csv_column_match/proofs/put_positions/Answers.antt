@@ -2,7 +2,6 @@
 -- A turn looks column j up among the sheet's and puts its position.
 -- It ends: the columns that are left fall by one.
 use borrow.Author.Rules.{rules}
-use Prim.Native.Nat.{◌-◌}
 use native.Mathlib.Omega.{arith}
 use Rattle.csv_slots.proofs.Holding.{zeros_room, zeros_empty}
 use Rattle.csv_column_match.proofs.Looking.{position_held}

@@ -1,5 +1,4 @@
 -- `csv_column_match::same_column` meets its contract: the name is that in the slot.
-use borrow.Author.Rules.{rules}
 use native.Mathlib.Omega.{arith}
 use mathlib.Core.Path.{◌∙◌}
 use Rattle.csv_slots.proofs.Holding.{slot_fits, field_held}

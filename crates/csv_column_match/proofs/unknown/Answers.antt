@@ -1,6 +1,5 @@
 -- `csv_column_match::unknown` meets its contract: columns 1 to j are columns of the fleet.
 use borrow.Author.Rules.{rules}
-use Prim.Native.Nat.{◌-◌}
 use native.Mathlib.Omega.{arith}
 use Rattle.csv_column_match.proofs.Mismatches.{unknown_start, unknown_found, unknown_passed, unknown_end}
 use Rattle.csv_column_match.proofs.unknown.Goals as goal

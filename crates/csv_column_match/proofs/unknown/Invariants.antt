@@ -1,9 +1,7 @@
 -- `csv_column_match::unknown` meets its contract: columns 1 to j are columns of the fleet.
-use borrow.Author.Rules.{rules}
 use mathlib.Core.List.{List}
 use mathlib.Core.Path.{◌≡◌}
-use Prim.Native.Nat.{ℕ, ◌-◌, ◌≤◌}
-use native.Mathlib.Omega.{arith}
+use Prim.Native.Nat.{ℕ, ◌≤◌}
 use Rattle.csv_slots.specs.Slots.{Held}
 use Rattle.csv_column_match.specs.Match.{unknown}
 use Rattle.csv_column_match.proofs.unknown.Given as goal

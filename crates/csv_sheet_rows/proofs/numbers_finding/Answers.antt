@@ -1,13 +1,14 @@
 -- `csv_sheet_rows::numbers_finding` meets its contract: a law for each return.
 use borrow.Author.Rules.{rules}
-use Rattle.csv_sheet_rows.proofs.Findings.{numbers_none, numbers_many, numbers_faulty}
+use Rattle.csv_fleet_tokens.proofs.Faults.{positive}
+use Rattle.csv_sheet_rows.proofs.Findings.{numbers_none, numbers_faulty, numbers_many, passed_on}
 use Rattle.csv_sheet_rows.proofs.numbers_finding.Goals as goal
 
 pub returns-then-n-eq0 : goal.returns-then-n-eq0
-returns-then-n-eq0 c = search (rules, numbers_none)
+returns-then-n-eq0 c = numbers_none _ _ _ _ _ c.if-n-eq0.true
 
-pub returns-then-field-eq0 : goal.returns-then-field-eq0
-returns-then-field-eq0 c = search (rules, numbers_many)
+pub returns-in_err-field_finding : goal.returns-in_err-field_finding
+returns-in_err-field_finding c = passed_on _ _ c.from_residual.ensures (numbers_faulty _ _ _ _ _ c.if-n-eq0.false c.in_err-field_finding.ensures (positive _))
 
 pub returns : goal.returns
-returns c = search (rules, numbers_faulty)
+returns c = numbers_many _ _ _ _ _ c.if-n-eq0.false c.in_ok-field_finding.ensures c.many_finding.ensures
