@@ -22,7 +22,7 @@ use Rattle.buffers.proofs.Writing.{front_taken}
 use Rattle.csv_fleet_reader.specs.Fleet.{last_table}
 use Rattle.csv_sheet_rows.specs.Rows.{sheet_names, rows_fault}
 use Rattle.csv_column_match.specs.Match.{mismatch}
-use Rattle.csv_sheet.specs.declared.Made.{Made}
+use Rattle.csv_sheet.specs.Outcomes.{Outcome}
 use Rattle.csv_sheet.specs.Sheets.{places, csv_sheet, nothing_made, total_fault, made_by, made_at, made_of_columns, made_of_rows, made_for_fleet, sheet_made, output_at, output_by}
 use Rattle.csv_sheet.specs.Promise.{SheetAccepted, SheetRightBy, SheetRight}
 use Rattle.editions.specs.Rewritten.{Rewritten, Refused, Wrote}
@@ -106,7 +106,7 @@ module _ (m s : List ℕ) where
 -- ---- the sheet of two CSVs
 
 -- of two outcomes the one without fault
-module _ (t : Bool) (a b : Made) where
+module _ (t : Bool) (a b : Outcome) where
   first : (b.fault ≡ 0 → ⊥) → (cond t a b).fault ≡ 0 → cond t a b ≡ a
   first n z = by t z
     where
@@ -122,7 +122,7 @@ module _ (t : Bool) (a b : Made) where
       by false z = refl
 
 -- a fault that is passed on is none
-passed_on : (n : ℕ) (a b : Made) → b.fault ≡ n → (cond (eqb n 0) a b).fault ≡ 0 → cond (eqb n 0) a b ≡ a
+passed_on : (n : ℕ) (a b : Outcome) → b.fault ≡ n → (cond (eqb n 0) a b).fault ≡ 0 → cond (eqb n 0) a b ≡ a
 passed_on n a b e z = by (eqb n 0) refl z
   where
     by : (t : Bool) → eqb n 0 ≡ t → (cond t a b).fault ≡ 0 → cond t a b ≡ a
@@ -168,7 +168,7 @@ module _ (fleet csv : List ℕ) where
       let e : sheet_made room fleet csv ≡ made_at (places fleet csv) csv = p ∙ q ∙ k ∙ l in
       rw e (by_total (total_fault (places fleet csv) csv) (rw e at z))
 
-module _ (fleet csv : List ℕ) (r : Made) where
+module _ (fleet csv : List ℕ) (r : Outcome) where
   pub sheet_short : r.fault ≡ 0 → (w : List ℕ) → SheetRight fleet csv r w → r.len ≤ file_limit
   unfolding SheetRightBy
   sheet_short z w d = let a : SheetAccepted fleet csv r w = subst (λ (n : ℕ). SheetRightBy n fleet csv r w) z d in a.most_bytes

@@ -6,6 +6,7 @@
 ghost use Rattle.std.specs.Prelude.{◌≡◌};
 ghost use Rattle.csv_origin.specs.Origin.{book_of, edition_of, front_of, sheet_of};
 
+use csv_fleet_tokens::Fault;
 use equal_bytes::is_same;
 
 // ENTRY. Whether a book is, byte for byte, the one that csv_book makes of a CSV. A CSV with a fault makes none.
@@ -14,10 +15,7 @@ pub fn is_book_of(csv: &[u8], book: &[u8]) -> bool
 {
     let mut output = [0u8; 40000];
     match csv_book::csv_book(csv, &mut output) {
-        Ok(made) => {
-            let len = made.len;
-            is_same(&output[..len], book)
-        }
+        Ok(made) => is_same(&output[..made.len], book),
         Err(_) => false,
     }
 }
@@ -53,13 +51,13 @@ pub fn is_sheet_of(fleet: &[u8], csv: &[u8], sheet: &[u8]) -> bool
     ensures { result ≡ sheet_of fleet.now csv.now sheet.now }
 {
     let mut output = [0u8; 40000];
-    let made = csv_sheet::csv_sheet(fleet, csv, &mut output);
-    if made.fault == csv_sheet::FLEET {
-        return is_front_of(csv, sheet);
+    match csv_sheet::csv_sheet(fleet, csv, &mut output) {
+        Ok(made) => is_edition_of(&output[..made.len], sheet),
+        Err(finding) => {
+            if finding.fault == Fault::Fleet {
+                return is_front_of(csv, sheet);
+            }
+            false
+        }
     }
-    if made.fault != 0 {
-        return false;
-    }
-    let len = made.len;
-    is_edition_of(&output[..len], sheet)
 }

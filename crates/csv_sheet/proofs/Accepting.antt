@@ -34,13 +34,13 @@ use Rattle.csv_cells.specs.Cells.{cell_text}
 use Rattle.csv_cells_round_trip.specs.Writing.{rows_csv}
 use Rattle.csv_cells_round_trip.specs.Back.{RowFits, RowsReadBack}
 use Rattle.csv_cells_round_trip.proofs.Back.{rows_read_back}
-use Rattle.csv_sheet_rows.specs.declared.Finding.{Finding}
+use Rattle.csv_sheet_rows.specs.Findings.{Found}
 use Rattle.csv_sheet_rows.specs.Rows.{sheet_names, rows_fault}
 use Rattle.csv_sheet_rows.specs.Sound.{SaidOrOpen}
 use Rattle.csv_sheet_rows.proofs.Soundness.{sound}
-use Rattle.csv_column_match.specs.declared.Mismatch.{Mismatch}
+use Rattle.csv_column_match.specs.Misfits.{Misfit}
 use Rattle.csv_column_match.specs.Match.{mismatch}
-use Rattle.csv_sheet.specs.declared.Made.{Made}
+use Rattle.csv_sheet.specs.Outcomes.{Outcome}
 use Rattle.csv_sheet_parts.specs.Parts.{cell_at, row_for, value_at, target_of, factor_at, has_factors, factors_of, steps_of, tolerance_for, tolerance_of, asked_at, sheet_at}
 use Rattle.csv_sheet.specs.Sheets.{places, asked, nothing_made, total_fault, made_by, made_of_columns, made_of_rows, made_for_fleet, sheet_made, output_at, output_by}
 use Rattle.csv_sheet_parts.specs.Ready.{Ready}
@@ -176,7 +176,7 @@ module _ (fleet csv out : List ℕ) (h : file_limit ≤ length out) (z : (last_t
   abbrev ps : List ℕ
   ps = places fleet csv
 
-  abbrev mismatched : Mismatch
+  abbrev mismatched : Misfit
   mismatched = mismatch (last_table fleet).columns (sheet_names csv) fleet csv
 
   accepted : Ready ps csv → mismatched.fault ≡ 0 → total_fault ps csv ≡ 0 → SheetAccepted fleet csv (made_by zero ps csv) (sheet_at ps csv)
@@ -193,7 +193,7 @@ module _ (fleet csv out : List ℕ) (h : file_limit ≤ length out) (z : (last_t
         matched = rw (places_long fleet csv z) (matched fleet csv z short good none);
       }
 
-  right_at : Ready ps csv → mismatched.fault ≡ 0 → (f : ℕ) → total_fault ps csv ≡ f → {r : Made} → r ≡ made_by f ps csv → {new : List ℕ} → new ≡ output_at r.fault ps csv out → SheetRight fleet csv r (take r.len new)
+  right_at : Ready ps csv → mismatched.fault ≡ 0 → (f : ℕ) → total_fault ps csv ≡ f → {r : Outcome} → r ≡ made_by f ps csv → {new : List ℕ} → new ≡ output_at r.fault ps csv out → SheetRight fleet csv r (take r.len new)
   unfolding made_by output_at SheetRightBy
   right_at d none zero e er {new} en =
       let m : new ≡ placed out 0 (sheet_at ps csv) = rw er at en in
@@ -201,7 +201,7 @@ module _ (fleet csv out : List ℕ) (h : file_limit ≤ length out) (z : (last_t
       rw (er, s) (accepted d none e)
   right_at d none (suc f) e er en = rw er refl
 
-  right : {r : Made} → r ≡ made_of_columns fleet csv → {new : List ℕ} → new ≡ output_by r.fault fleet csv out → SheetRight fleet csv r (take r.len new)
+  right : {r : Outcome} → r ≡ made_of_columns fleet csv → {new : List ℕ} → new ≡ output_by r.fault fleet csv out → SheetRight fleet csv r (take r.len new)
   unfolding made_of_columns SheetRightBy
   right {r} er {new} en = by mismatched.fault refl
     where
@@ -212,21 +212,21 @@ module _ (fleet csv out : List ℕ) (h : file_limit ≤ length out) (z : (last_t
           rw q refl
 
 -- ---- what a call gives back, the buffer after it, and what holds of them
-abbrev Done : (fleet csv out : List ℕ) → Made → (new : List ℕ) → Type 0
+abbrev Done : (fleet csv out : List ℕ) → Outcome → (new : List ℕ) → Type 0
 Done fleet csv out r new = (r ≡ sheet_made (length out) fleet csv) × ((new ≡ output_by r.fault fleet csv out) × SheetRight fleet csv r (take r.len new))
 
 module _ (fleet csv out : List ℕ) where
-  stopped : (f l w p : ℕ) → (f ≡ 0 → ⊥) → {r : Made} → r ≡ nothing_made f l w p → sheet_made (length out) fleet csv ≡ nothing_made f l w p → Done fleet csv out r out
+  stopped : (f l w p : ℕ) → (f ≡ 0 → ⊥) → {r : Outcome} → r ≡ nothing_made f l w p → sheet_made (length out) fleet csv ≡ nothing_made f l w p → Done fleet csv out r out
   unfolding output_at SheetRightBy
   stopped zero l w p n e s = absurd (n refl)
   stopped (suc f) l w p n e s = rw e (sym s, (refl, refl))
 
-  pub no_room : length out < file_limit → {r : Made} → r ≡ nothing_made 11 0 0 0 → Done fleet csv out r out
+  pub no_room : length out < file_limit → {r : Outcome} → r ≡ nothing_made 11 0 0 0 → Done fleet csv out r out
   unfolding sheet_made
   no_room h e = stopped 11 0 0 0 (λ z. omega arith) e (rw (lt-ltb (length out) file_limit h))
 
   module _ (h : file_limit ≤ length out) where
-    pub too_big : 39000 < length csv → {r : Made} → r ≡ nothing_made 10 0 0 0 → Done fleet csv out r out
+    pub too_big : 39000 < length csv → {r : Outcome} → r ≡ nothing_made 10 0 0 0 → Done fleet csv out r out
     unfolding sheet_made
     too_big k e = stopped 10 0 0 0 (λ z. omega arith) e (rw (le-ltb (length out) file_limit h, lt-ltb 39000 (length csv) k))
 
@@ -235,21 +235,21 @@ module _ (fleet csv out : List ℕ) where
       unfolding sheet_made
       past_sizes = rw (le-ltb (length out) file_limit h, le-ltb 39000 (length csv) k)
 
-      pub fleet_big : 200000 < length fleet → {r : Made} → r ≡ nothing_made 12 0 0 0 → Done fleet csv out r out
+      pub fleet_big : 200000 < length fleet → {r : Outcome} → r ≡ nothing_made 12 0 0 0 → Done fleet csv out r out
       unfolding made_for_fleet
       fleet_big l e = stopped 12 0 0 0 (λ z. omega arith) e (past_sizes ∙ rw (lt-ltb 200000 (length fleet) l))
 
       module _ (l : length fleet ≤ 200000) {t : Table} (et : t ≡ last_table fleet) where
-        pub fleet_faulty : (t.fault ≡ 0 → ⊥) → {r : Made} → r ≡ nothing_made 12 0 0 0 → Done fleet csv out r out
+        pub fleet_faulty : (t.fault ≡ 0 → ⊥) → {r : Outcome} → r ≡ nothing_made 12 0 0 0 → Done fleet csv out r out
         unfolding made_for_fleet
         fleet_faulty n e = stopped 12 0 0 0 (λ z. omega arith) e (past_sizes ∙ rw (le-ltb 200000 (length fleet) l, ← et, ne_eqb t.fault 0 n))
 
-        module _ (z : t.fault ≡ 0) {f : Finding} (ef : f ≡ rows_fault csv) where
+        module _ (z : t.fault ≡ 0) {f : Found} (ef : f ≡ rows_fault csv) where
           past_fleet : sheet_made (length out) fleet csv ≡ made_of_rows fleet csv
           unfolding made_for_fleet
           past_fleet = past_sizes ∙ rw (le-ltb 200000 (length fleet) l, ← et, eq-eqb t.fault 0 z)
 
-          pub rows_faulty : (f.fault ≡ 0 → ⊥) → {r : Made} → r ≡ nothing_made f.fault f.line f.row f.field → Done fleet csv out r out
+          pub rows_faulty : (f.fault ≡ 0 → ⊥) → {r : Outcome} → r ≡ nothing_made f.fault f.line f.row f.field → Done fleet csv out r out
           unfolding made_of_rows
           rows_faulty n e = stopped f.fault f.line f.row f.field n e (past_fleet ∙ rw (← ef, ne_eqb f.fault 0 n))
 
@@ -259,6 +259,6 @@ module _ (fleet csv out : List ℕ) where
           pub rows_faultless : f.fault ≡ 0 → (rows_fault csv).fault ≡ 0
           rows_faultless n = rw (← ef) n
 
-          pub made : f.fault ≡ 0 → {r : Made} → r ≡ made_of_columns fleet csv → {new : List ℕ} → new ≡ output_by r.fault fleet csv out → Done fleet csv out r new
+          pub made : f.fault ≡ 0 → {r : Outcome} → r ≡ made_of_columns fleet csv → {new : List ℕ} → new ≡ output_by r.fault fleet csv out → Done fleet csv out r new
           unfolding made_of_rows
           made n er en = (er ∙ sym (past_fleet ∙ rw (← ef, eq-eqb f.fault 0 n)), (en, right fleet csv out h fleet_fault k (rows_faultless n) er en))

@@ -1,5 +1,5 @@
 -- What is made: a law for each return of the functions that find a fault or write the sheet.
-use mathlib.Core.Path.{◌≡◌, refl, sym, ◌∙◌}
+use mathlib.Core.Path.{◌≡◌, refl, sym, ap, ◌∙◌}
 use mathlib.Core.Bool.{Bool, true, false}
 use mathlib.Core.List.{List}
 use Prim.Native.Nat.{ℕ, zero, suc, ◌+◌, ◌≤◌, ◌<◌}
@@ -14,29 +14,42 @@ use Rattle.csv_fleet_reader.specs.Fleet.{last_table}
 use Rattle.csv_fleet_rows.specs.Rows.{Whole, FaultlessWhole}
 use Rattle.csv_fleet_rows.proofs.Counting.{faultless_whole}
 use Rattle.csv_sheet_rows.specs.Rows.{sheet_names, rows_fault}
-use Rattle.csv_column_match.specs.declared.Mismatch.{Mismatch}
+use Rattle.csv_column_match.specs.Misfits.{Misfit}
 use Rattle.csv_column_match.specs.Match.{position, positions, mismatch}
 use Rattle.csv_column_match.specs.Matched.{Matched, WithoutMismatchMatched}
 use Rattle.csv_column_match.proofs.Positions.{positions_long, position_at}
 use Rattle.csv_column_match.proofs.Matching.{without_mismatch_matched}
+use Rattle.std.specs.Prelude.{Result, Ok, Err}
+use Rattle.std.specs.Result.{IsErr, IsErrAnd}
+use Rattle.csv_sheet_rows.specs.declared.Finding.{Finding}
+use Rattle.csv_sheet_rows.specs.Findings.{Found, numbered}
 use Rattle.csv_sheet.specs.declared.Made.{Made}
+use Rattle.csv_sheet.specs.Outcomes.{Outcome, refused, outcome}
 use Rattle.csv_sheet_parts.specs.Parts.{factors_of, steps_of, tolerance_for, sheet_at}
 use Rattle.csv_sheet.specs.Sheets.{places, nothing_made, total_fault, made_by, made_at, made_of_columns, output_at, output_by}
 use Rattle.csv_sheet_parts.specs.Ready.{Ready}
 use Rattle.csv_sheet_parts.proofs.Bounds.{factors_long}
 
+-- ---- a fault that is given back
+pub refused_is : (f : Finding) {x : Found} → numbered f ≡ x → refused f ≡ nothing_made x.fault x.line x.row x.field
+refused_is f e = ap (λ (x : Found). nothing_made x.fault x.line x.row x.field) e
+
+pub passed_on : (r : Result Made Finding) (e : Finding) → IsErr r × IsErrAnd r (λ y. y ≡ e) → outcome r ≡ refused e
+passed_on (Ok m) e h = elim h.1 [ ]
+passed_on (Err f) e h = ap refused h.1
+
 -- ---- once the columns match
 module _ (ps csv out : List ℕ) where
-  abbrev DoneAt : Made → (new : List ℕ) → Type 0
+  abbrev DoneAt : Outcome → (new : List ℕ) → Type 0
   DoneAt r new = (r ≡ made_at ps csv) × (new ≡ output_at r.fault ps csv out)
 
   module _ {t : ℕ} (et : t ≡ sum (factors_of ps csv)) {b : Bool} (eb : b ≡ between 1 64 t) where
-    pub factors_out : b ≡ false → {r : Made} → r ≡ nothing_made 22 0 0 0 → DoneAt r out
+    pub factors_out : b ≡ false → {r : Outcome} → r ≡ nothing_made 22 0 0 0 → DoneAt r out
     unfolding made_by total_fault output_at
     factors_out h e = rw (e, ← et, ← eb, h) (refl, refl)
 
     module _ (h : b ≡ true) {x : ℕ} (ex : x ≡ tolerance_for t csv) where
-      pub tolerance_out : 1024000000 < x → {r : Made} → r ≡ nothing_made 23 0 0 0 → DoneAt r out
+      pub tolerance_out : 1024000000 < x → {r : Outcome} → r ≡ nothing_made 23 0 0 0 → DoneAt r out
       unfolding made_by total_fault output_at
       tolerance_out k e = rw (e, ← et, ← eb, h, ← ex, lt-ltb 1024000000 x k) (refl, refl)
 
@@ -89,8 +102,8 @@ module _ (fleet csv : List ℕ) (z : (last_table fleet).fault ≡ 0) where
       (omega (arith, positions_long (sheet_names csv) fleet csv (last_table fleet).columns, (whole fleet z).most_columns))
 
 -- ---- once nothing is wrong but perhaps the columns
-module _ (fleet csv out : List ℕ) {m : Mismatch} (em : m ≡ mismatch (last_table fleet).columns (sheet_names csv) fleet csv) where
-  abbrev DoneOf : Made → (new : List ℕ) → Type 0
+module _ (fleet csv out : List ℕ) {m : Misfit} (em : m ≡ mismatch (last_table fleet).columns (sheet_names csv) fleet csv) where
+  abbrev DoneOf : Outcome → (new : List ℕ) → Type 0
   DoneOf r new = (r ≡ made_of_columns fleet csv) × (new ≡ output_by r.fault fleet csv out)
 
   kept : (f : ℕ) → (f ≡ 0 → ⊥) → out ≡ output_at f (places fleet csv) csv out
@@ -98,10 +111,10 @@ module _ (fleet csv out : List ℕ) {m : Mismatch} (em : m ≡ mismatch (last_ta
   kept zero h = absurd (h refl)
   kept (suc f) h = refl
 
-  pub columns_out : (m.fault ≡ 0 → ⊥) → {r : Made} → r ≡ nothing_made m.fault 0 0 m.column → DoneOf r out
+  pub columns_out : (m.fault ≡ 0 → ⊥) → {r : Outcome} → r ≡ nothing_made m.fault 0 0 m.column → DoneOf r out
   unfolding made_of_columns
   columns_out h e = rw (e, ← em, ne_eqb m.fault 0 h) (refl, kept m.fault h)
 
-  pub columns_match : m.fault ≡ 0 → {qs : List ℕ} → qs ≡ places fleet csv → {r : Made} → r ≡ made_at qs csv → {new : List ℕ} → new ≡ output_at r.fault qs csv out → DoneOf r new
+  pub columns_match : m.fault ≡ 0 → {qs : List ℕ} → qs ≡ places fleet csv → {r : Outcome} → r ≡ made_at qs csv → {new : List ℕ} → new ≡ output_at r.fault qs csv out → DoneOf r new
   unfolding made_of_columns
   columns_match h eq er en = (er ∙ rw (← em, eq-eqb m.fault 0 h, eq), rw eq at en)

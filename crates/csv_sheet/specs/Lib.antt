@@ -1,3 +1,4 @@
 -- The definitions of this crate.
+pub mod Outcomes
 pub mod Sheets
 pub mod Promise

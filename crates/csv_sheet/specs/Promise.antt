@@ -15,7 +15,7 @@ use Rattle.csv_sheet_rows.specs.Sound.{SaidOrOpen}
 use Rattle.csv_column_match.specs.Matched.{Matched}
 use Rattle.csv_sheet_parts.specs.Parts.{row_for, tolerance_by}
 use Rattle.csv_sheet.specs.Sheets.{places, asked}
-use Rattle.csv_sheet.specs.declared.Made.{Made}
+use Rattle.csv_sheet.specs.Outcomes.{Outcome}
 
 -- what a sheet asks for is what the figures in the fields say, of which `text` gives field f of row r: each value and factor those of the field of its
 -- column, the steps and the tolerance those of their rows; one tolerance for each column stands for its square times the total of the factors. A value
@@ -32,7 +32,7 @@ pub record FiguresSaid (text : (r f : ℕ) → List ℕ) (fleet csv : List ℕ) 
 -- s is a sheet that is not refused for the fleet's columns, nor with the book that the fleet's CSV gives, and asks for exactly what the CSVs ask for;
 -- each of the fleet's columns has its own column of the same name in the sheet's CSV, and no other stands there. Where the CSV is that of rows of
 -- fields, for any bytes in them, the sheet asks for what these fields say
-pub record SheetAccepted (fleet csv : List ℕ) (r : Made) (s : List ℕ) : Type 0 where
+pub record SheetAccepted (fleet csv : List ℕ) (r : Outcome) (s : List ℕ) : Type 0 where
   pub size : length s ≡ r.len
   pub most_bytes : r.len ≤ file_limit
   pub accepted : sheet_refusal r.columns s ≡ 0
@@ -42,10 +42,10 @@ pub record SheetAccepted (fleet csv : List ℕ) (r : Made) (s : List ℕ) : Type
   pub fields_back : (rows : List (List (List ℕ))) → All RowFits rows → csv ≡ rows_csv rows → FiguresSaid (λ r f. get_or (get_or rows r []) f []) fleet csv (sheet s)
   pub matched : Matched r.columns (sheet_names csv) fleet csv
 
-unfoldable pub SheetRightBy : (fault : ℕ) → (fleet csv : List ℕ) → Made → (s : List ℕ) → Type 0
+unfoldable pub SheetRightBy : (fault : ℕ) → (fleet csv : List ℕ) → Outcome → (s : List ℕ) → Type 0
 SheetRightBy zero fleet csv r s = SheetAccepted fleet csv r s
 SheetRightBy (suc f) fleet csv r s = s ≡ []
 
 -- s are the bytes that were written, none where there is a fault
-abbrev pub SheetRight : (fleet csv : List ℕ) → Made → (s : List ℕ) → Type 0
+abbrev pub SheetRight : (fleet csv : List ℕ) → Outcome → (s : List ℕ) → Type 0
 SheetRight fleet csv r s = SheetRightBy r.fault fleet csv r s

@@ -1,6 +1,6 @@
 // The rows of a sheet's CSV: what each is by its first field, and the first fault with its place.
 //
-// Helpers for other crates, whose callers prove what they require: kind_of, kind_at, row_of, read, cell_at, columns, last_row, rows_fault.
+// Helpers for other crates, whose callers prove what they require: kind_of, kind_at, row_of, read, cell_at, columns, last_row, rows_fault. without asks nothing of its caller.
 #![tactic(auto)]
 
 ghost use Rattle.std.specs.Prelude.{List, ◌≡◌, ℕ, ◌≤◌, length};
@@ -448,7 +448,7 @@ pub fn last_row(csv: &[u8]) -> usize
 }
 
 // A fault of the whole CSV.
-fn without(fault: Fault) -> Finding
+pub fn without(fault: Fault) -> Finding
     ensures { numbered result ≡ without (fault_number fault) }
 {
     Finding {

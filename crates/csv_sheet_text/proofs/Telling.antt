@@ -20,7 +20,7 @@ use Rattle.csv_book_words.specs.Words.{wants_value, front_line}
 use Rattle.csv_cells.specs.Cells.{cell_text}
 use Rattle.csv_cells.proofs.Celling.{few_bytes}
 use Rattle.csv_sheet_rows.specs.Kinds.{kind_of}
-use Rattle.csv_sheet.specs.declared.Made.{Made}
+use Rattle.csv_sheet.specs.Outcomes.{Outcome}
 use Rattle.csv_sheet_words.specs.Words.{wants_row, wants_column, row_line, column_line}
 use Rattle.csv_sheet_text.specs.Lines.{looked, row_name, row_fault, column_fault, sheet_fault, SHEET, FACTORS, STEPS, TOLERANCE, sheet_lines}
 
@@ -64,13 +64,13 @@ module _ (w : Bool) (r f : ℕ) (csv : List ℕ) {n : ℕ} {new : List ℕ} (en 
   looked_count = rw looked_is en
 
 -- ---- the lines
-pub row_fault_told : (csv : List ℕ) (m : Made) {bw cw vw : Bool} → bw ≡ wants_row m.fault → {row : List ℕ} → row ≡ looked bw m.row 0 csv → {k : ℕ} → k ≡ kind_of row →
+pub row_fault_told : (csv : List ℕ) (m : Outcome) {bw cw vw : Bool} → bw ≡ wants_row m.fault → {row : List ℕ} → row ≡ looked bw m.row 0 csv → {k : ℕ} → k ≡ kind_of row →
     cw ≡ wants_column m.fault k → vw ≡ wants_value m.fault → {column value : List ℕ} → column ≡ looked cw 0 m.field csv → value ≡ looked vw m.row m.field csv →
     {t : Text} → Holds (row_line m k row column value) t → Holds (row_fault csv m) t
 unfolding row_fault row_name
 row_fault_told csv m er fr ek ec ev fc fv h = rw (← er, ← fr, ← ek, ← ec, ← ev, ← fc, ← fv) h
 
-module _ (fleet csv : List ℕ) (m : Made) {name : List ℕ} {t : Text} where
+module _ (fleet csv : List ℕ) (m : Outcome) {name : List ℕ} {t : Text} where
   pub of_sheet : m.fault ≡ 20 → name ≡ looked true 0 m.field csv → Holds (column_line m.fault name) t → Holds (column_fault fleet csv m) t
   unfolding column_fault
   of_sheet e n h = rw (eq-eqb m.fault 20 e, ← n) h
@@ -79,7 +79,7 @@ module _ (fleet csv : List ℕ) (m : Made) {name : List ℕ} {t : Text} where
   unfolding column_fault
   of_fleet e n h = rw (ne_eqb m.fault 20 e, ← n) h
 
-module _ (fleet csv : List ℕ) (m : Made) {t : Text} where
+module _ (fleet csv : List ℕ) (m : Outcome) {t : Text} where
   pub told_none : m.fault ≡ 12 → Holds [] t → Holds (sheet_fault fleet csv m) t
   unfolding sheet_fault
   told_none e h = rw (eq-eqb m.fault 12 e) h
@@ -93,7 +93,7 @@ module _ (fleet csv : List ℕ) (m : Made) {t : Text} where
   told_row n e h = rw (ne_eqb m.fault 12 n, e) h
 
 -- ---- the lines of a sheet
-pub sheet_told : (m : Made) {t₀ t₁ t₂ t₃ t₄ t₅ : Text} → Holds [] t₀ → Adds t₀ (number_line SHEET m.columns) t₁ → Adds t₁ (number_line FACTORS m.factors) t₂ →
+pub sheet_told : (m : Outcome) {t₀ t₁ t₂ t₃ t₄ t₅ : Text} → Holds [] t₀ → Adds t₀ (number_line SHEET m.columns) t₁ → Adds t₁ (number_line FACTORS m.factors) t₂ →
     Adds t₂ (number_line STEPS m.steps) t₃ → Adds t₃ (number_line TOLERANCE m.tolerance) t₄ → Adds t₄ (front_line Whole) t₅ → Holds (sheet_lines m) t₅
 unfolding sheet_lines
 sheet_told m e a b c d f = adds_to_empty e (adds_both a (adds_both b (adds_both c (adds_both d f))))

@@ -6,7 +6,7 @@ use Rattle.csv_front_text.specs.declared.Front.TheVariants.{Whole}
 use Rattle.csv_book_words.specs.Words.{wants_value, front_line}
 use Rattle.csv_cells.specs.Cells.{cell_text}
 use Rattle.csv_sheet_rows.specs.Kinds.{kind_of}
-use Rattle.csv_sheet.specs.declared.Made.{Made}
+use Rattle.csv_sheet.specs.Outcomes.{Outcome}
 use Rattle.csv_sheet_words.specs.Words.{wants_row, wants_column, row_line, column_line}
 
 -- ---- the line of a fault in a row, or of the whole CSV
@@ -16,13 +16,13 @@ unfoldable pub looked : (wanted : Bool) → (row field : ℕ) → List ℕ → L
 looked w r f csv = cond w (cond (ltb 200000 (length csv)) [] (cell_text r f csv)) []
 
 -- the first field of the row of a fault, and what that makes of the row
-unfoldable pub row_name : (csv : List ℕ) → Made → List ℕ
+unfoldable pub row_name : (csv : List ℕ) → Outcome → List ℕ
 row_name csv m = looked (wants_row m.fault) m.row 0 csv
 
-abbrev pub row_kind : (csv : List ℕ) → Made → ℕ
+abbrev pub row_kind : (csv : List ℕ) → Outcome → ℕ
 row_kind csv m = kind_of (row_name csv m)
 
-unfoldable pub row_fault : (csv : List ℕ) → Made → List ℕ
+unfoldable pub row_fault : (csv : List ℕ) → Outcome → List ℕ
 row_fault csv m =
     row_line m (row_kind csv m) (row_name csv m) (looked (wants_column m.fault (row_kind csv m)) 0 m.field csv)
     (looked (wants_value m.fault) m.row m.field csv)
@@ -30,12 +30,12 @@ row_fault csv m =
 -- ---- the line of a column: 18 missing, 19 twice, 20 not in the fleet, 21 twice in the fleet
 
 -- a column that the fleet has not is one of the sheet; any other one of the fleet
-unfoldable pub column_fault : (fleet csv : List ℕ) → Made → List ℕ
+unfoldable pub column_fault : (fleet csv : List ℕ) → Outcome → List ℕ
 column_fault fleet csv m = column_line m.fault (looked true 0 m.field (cond (eqb m.fault 20) csv fleet))
 
 -- ---- the line of any fault. 12, a fault of the fleet, has none here: its line is that of the fleet
 
-unfoldable pub sheet_fault : (fleet csv : List ℕ) → Made → List ℕ
+unfoldable pub sheet_fault : (fleet csv : List ℕ) → Outcome → List ℕ
 sheet_fault fleet csv m = cond (eqb m.fault 12) [] (cond (between 18 21 m.fault) (column_fault fleet csv m) (row_fault csv m))
 
 -- ---- the lines of a sheet
@@ -57,7 +57,7 @@ abbrev pub TOLERANCE : List ℕ
 TOLERANCE = 116 ∷ 111 ∷ 108 ∷ 101 ∷ 114 ∷ 97 ∷ 110 ∷ 99 ∷ 101 ∷ 32 ∷ []
 
 -- columns, the total of their factors, steps and tolerance; the CSV stands in front of the sheet
-unfoldable pub sheet_lines : Made → List ℕ
+unfoldable pub sheet_lines : Outcome → List ℕ
 sheet_lines m =
     number_line SHEET m.columns
     ++ (number_line FACTORS m.factors

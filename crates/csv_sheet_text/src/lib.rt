@@ -6,10 +6,13 @@
 ghost use Rattle.std.specs.Prelude.{◌≡◌, ◌≤◌, length};
 ghost use Rattle.buffers.specs.Placed.{placed};
 ghost use Rattle.text.specs.Texts.{Holds};
+ghost use Rattle.csv_sheet.specs.Outcomes.{refused, written};
 ghost use Rattle.csv_sheet_text.specs.Lines.{looked, row_fault, column_fault, sheet_fault, sheet_lines};
 
 use csv_front_text::Front;
+use csv_fleet_tokens::Fault;
 use csv_sheet::Made;
+use csv_sheet_rows::Finding;
 use text::Text;
 
 // Puts what stands in a field, where it is wanted and the CSV is not too long; gives back how many bytes that is.
@@ -28,12 +31,12 @@ fn put_looked(csv: &[u8], wanted: bool, row: usize, field: usize, output: &mut [
 }
 
 // The line of a fault that is none of the columns'.
-fn row_fault(csv: &[u8], made: Made) -> Text
-    ensures { Holds (row_fault csv.now made) result }
+fn row_fault(csv: &[u8], finding: Finding) -> Text
+    ensures { Holds (row_fault csv.now (refused finding)) result }
 {
-    let fault = made.fault;
-    let line = made.row;
-    let field = made.field;
+    let fault = finding.fault;
+    let line = finding.row;
+    let field = finding.field;
     let mut row = [0u8; 200];
     let mut column = [0u8; 200];
     let mut value = [0u8; 200];
@@ -53,17 +56,17 @@ fn row_fault(csv: &[u8], made: Made) -> Text
         field,
         &mut value,
     );
-    csv_sheet_words::row_line(made, kind, &row[..n], &column[..m], &value[..k])
+    csv_sheet_words::row_line(finding, kind, &row[..n], &column[..m], &value[..k])
 }
 
 // The line of a column that is not matched, found in the CSV that has it.
-fn column_fault(fleet: &[u8], csv: &[u8], made: Made) -> Text
-    ensures { Holds (column_fault fleet.now csv.now made) result }
+fn column_fault(fleet: &[u8], csv: &[u8], finding: Finding) -> Text
+    ensures { Holds (column_fault fleet.now csv.now (refused finding)) result }
 {
-    let fault = made.fault;
-    let field = made.field;
+    let fault = finding.fault;
+    let field = finding.field;
     let mut name = [0u8; 200];
-    if fault == csv_column_match::UNKNOWN {
+    if fault == Fault::Unknown {
         let n = put_looked(csv, true, 0, field, &mut name);
         return csv_sheet_words::column_line(fault, &name[..n]);
     }
@@ -72,22 +75,22 @@ fn column_fault(fleet: &[u8], csv: &[u8], made: Made) -> Text
 }
 
 // ENTRY. The line that names the fault of a sheet's CSV, as csv_sheet gave it back. A fault of the fleet's CSV has none here: fleet_fault of csv_book_text has it.
-pub fn sheet_fault(fleet: &[u8], csv: &[u8], made: Made) -> Text
-    ensures { Holds (sheet_fault fleet.now csv.now made) result }
+#[tactic(auto, unfolding(crate::specs::Lines::sheet_fault))]
+pub fn sheet_fault(fleet: &[u8], csv: &[u8], finding: Finding) -> Text
+    ensures { Holds (sheet_fault fleet.now csv.now (refused finding)) result }
 {
-    let fault = made.fault;
-    if fault == csv_sheet::FLEET {
-        return Text::empty();
+    match finding.fault {
+        Fault::Fleet => Text::empty(),
+        Fault::Missing | Fault::Twice | Fault::Unknown | Fault::FleetTwice => {
+            column_fault(fleet, csv, finding)
+        }
+        _ => row_fault(csv, finding),
     }
-    if file_parts::is_between(18, 21, fault as usize) {
-        return column_fault(fleet, csv, made);
-    }
-    row_fault(csv, made)
 }
 
 // ENTRY. The lines of a sheet that was made of two CSVs.
 pub fn sheet_lines(made: Made) -> Text
-    ensures { Holds (sheet_lines made) result }
+    ensures { Holds (sheet_lines (written made)) result }
 {
     let empty = Text::empty();
     let counted = empty.with_line(b"sheet ", made.columns as u64);

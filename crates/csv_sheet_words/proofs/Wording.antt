@@ -10,7 +10,7 @@ use Rattle.text.specs.declared.Text.{Text}
 use Rattle.text.proofs.Texts.{adds_both, adds_to_empty}
 use Rattle.message_parts.specs.Parts.{COLON, shown, part}
 use Rattle.csv_book_words.specs.Words.{FILE, NO_COLUMN, NOT_WHOLE_WORDS, place, unnamed_words, many_words, plain_words}
-use Rattle.csv_sheet.specs.declared.Made.{Made}
+use Rattle.csv_sheet.specs.Outcomes.{Outcome}
 use Rattle.csv_sheet_words.specs.Words.{SHEET_FILE, NO_VALUE, MANY_FOR_ONE, HULL_UNNAMED, FIELDS_WORDS, BYTES_WORDS, LINES_WORDS, NO_HULL, NO_STEPS, NO_TOLERANCE, TOTAL_WORDS, ABOVE_WORDS, TWICE, NOT_IN_FLEET, range_words, beyond_words, again_words, nameless_words, missing_words, limit_words, words, row_line, COLUMN_OPEN, opening, closing, column_line}
 
 -- ---- words
@@ -137,7 +137,7 @@ module _ (f p k : ℕ) (v : List ℕ) {t r : Text} where
   words_other a b c d e g x = rw (ne_eqb f 5 a, ne_eqb f 6 b, ne_eqb f 7 c, ne_eqb f 24 d, ne_eqb f 14 e, ne_eqb f 2 g) (x.0, omega (arith, x.1))
 
 -- ---- the lines
-pub row_told : (m : Made) (k : ℕ) (row column value : List ℕ) {t₀ t₁ t₂ t₃ t₄ t₅ t₆ t₇ : Text} → Holds [] t₀ → Adds t₀ SHEET_FILE t₁ → Adds t₁ (place m.line) t₂ → Adds t₂ (part row) t₃ →
+pub row_told : (m : Outcome) (k : ℕ) (row column value : List ℕ) {t₀ t₁ t₂ t₃ t₄ t₅ t₆ t₇ : Text} → Holds [] t₀ → Adds t₀ SHEET_FILE t₁ → Adds t₁ (place m.line) t₂ → Adds t₂ (part row) t₃ →
     Adds t₃ (part column) t₄ → Adds t₄ COLON t₅ → Adds t₅ (words m.fault m.field k value) t₆ → Adds t₆ (10 ∷ []) t₇ → Holds (row_line m k row column value) t₇
 unfolding row_line
 row_told m k row column value e a b c d f g h = adds_to_empty e (adds_both a (adds_both b (adds_both c (adds_both d (adds_both f (adds_both g h))))))

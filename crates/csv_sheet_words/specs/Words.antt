@@ -3,7 +3,7 @@ use Rattle.std.specs.Prelude.{Bool, true, false, cond, List, [], ◌∷◌, ◌+
 use Rattle.files.specs.Bytes.{between}
 use Rattle.message_parts.specs.Parts.{COLON, COLUMN, RANGE_WORDS, shown, part}
 use Rattle.csv_book_words.specs.Words.{FILE, MORE_THAN, NO_COLUMN, NOT_WHOLE_WORDS, UNNAMED, place, unnamed_words, many_words, plain_words}
-use Rattle.csv_sheet.specs.declared.Made.{Made}
+use Rattle.csv_sheet.specs.Outcomes.{Outcome}
 
 -- ---- the words
 
@@ -151,7 +151,7 @@ wants_row f = cond (of_value f) true (cond (eqb f 14) true (eqb f 24))
 unfoldable pub wants_column : (fault kind : ℕ) → Bool
 wants_column f k = cond (of_value f) (cond (eqb k 0) true (eqb k 2)) false
 
-unfoldable pub row_line : Made → (kind : ℕ) → (row column value : List ℕ) → List ℕ
+unfoldable pub row_line : Outcome → (kind : ℕ) → (row column value : List ℕ) → List ℕ
 row_line m k row column value =
     SHEET_FILE ++ (place m.line ++ (part row ++ (part column ++ (COLON ++ (words m.fault m.field k value ++ (10 ∷ []))))))
 

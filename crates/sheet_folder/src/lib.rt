@@ -2,29 +2,31 @@
 // printed and filed to the reference.
 #![tactic(auto)]
 
-use csv_sheet::Made;
+use csv_fleet_tokens::Fault;
+use csv_sheet_rows::Finding;
 
 // Says on standard error what is wrong with the CSVs. A fault of the fleet's has the line that mixbook has for it.
-fn tell_fault(rt: &HostRuntime, fleet: &[u8], csv: &[u8], made: Made) {
-    let fault = made.fault;
-    if fault == csv_sheet::FLEET {
+fn tell_fault(rt: &HostRuntime, fleet: &[u8], csv: &[u8], finding: Finding) {
+    if finding.fault == Fault::Fleet {
         let mut output = [0u8; 40000];
         let book = csv_book::csv_book(fleet, &mut output);
         file_io::tell_text(rt, csv_book_text::fleet_fault(fleet, book));
         return;
     }
-    file_io::tell_text(rt, csv_sheet_text::sheet_fault(fleet, csv, made));
+    file_io::tell_text(rt, csv_sheet_text::sheet_fault(fleet, csv, finding));
 }
 
 // Files the sheet of two CSVs in a folder as sheet.wsh, and prints its columns, factors, steps, tolerance and front text.
 fn file_made(rt: &HostRuntime, folder: &[u8], fleet: &[u8], csv: &[u8]) {
     let mut output = [0u8; 40000];
-    let made = csv_sheet::csv_sheet(fleet, csv, &mut output);
-    if made.fault != 0 {
-        tell_fault(rt, fleet, csv, made);
-        file_io::tell_kept(rt, folder, b"sheet.wsh");
-        return;
-    }
+    let made = match csv_sheet::csv_sheet(fleet, csv, &mut output) {
+        Ok(made) => made,
+        Err(finding) => {
+            tell_fault(rt, fleet, csv, finding);
+            file_io::tell_kept(rt, folder, b"sheet.wsh");
+            return;
+        }
+    };
     if file_io::replace_in(
         rt,
         folder,

@@ -8,16 +8,21 @@ use test_buffers::{between, u16_at};
 // the whole buffer.
 fn made_of(rt: &HostRuntime, fleet: &[u8], csv: &[u8]) {
     let mut output = [0u8; 40000];
-    let made = csv_sheet::csv_sheet(fleet, csv, &mut output);
-    test_printing::line(rt, b"fault", made.fault as u64);
-    if made.fault != 0 {
-        test_printing::line(rt, b"line", made.line as u64);
-        test_printing::line(rt, b"field", made.field as u64);
-        file_io::print(rt, csv_sheet_text::sheet_fault(fleet, csv, made));
-    } else {
-        file_io::print(rt, csv_sheet_text::sheet_lines(made));
-    }
-    test_printing::line(rt, b"bytes", made.len as u64);
+    let len = match csv_sheet::csv_sheet(fleet, csv, &mut output) {
+        Ok(made) => {
+            test_printing::line(rt, b"fault", 0);
+            file_io::print(rt, csv_sheet_text::sheet_lines(made));
+            made.len
+        }
+        Err(finding) => {
+            test_printing::line(rt, b"fault", finding.fault.number() as u64);
+            test_printing::line(rt, b"line", finding.line as u64);
+            test_printing::line(rt, b"field", finding.field as u64);
+            file_io::print(rt, csv_sheet_text::sheet_fault(fleet, csv, finding));
+            0
+        }
+    };
+    test_printing::line(rt, b"bytes", len as u64);
     test_printing::line(rt, b"sum", test_buffers::checksum(&output));
 }
 
@@ -61,8 +66,9 @@ fn short_buffer(rt: &HostRuntime) {
     let fleet = b"a,b\nc,1\n";
     let mut output = [1u8; 39999];
     let csv = b",b\nd,1\nsteps,1\ntolerance,1\n";
-    let made = csv_sheet::csv_sheet(fleet, csv, &mut output);
-    file_io::print(rt, csv_sheet_text::sheet_fault(fleet, csv, made));
+    if let Err(finding) = csv_sheet::csv_sheet(fleet, csv, &mut output) {
+        file_io::print(rt, csv_sheet_text::sheet_fault(fleet, csv, finding));
+    }
     test_printing::line(rt, b"sum", test_buffers::checksum(&output));
 }
 

@@ -7,7 +7,7 @@ use lib.Seq.{length-take-le}
 use Rattle.frank_wolfe.specs.Vectors.{sum}
 use Rattle.files.proofs.Refusal.{between_true}
 use Rattle.csv_sheet_parts.specs.Parts.{factors_of}
-use Rattle.csv_sheet.proofs.Making.{factors_taken, factors_out, tolerance_out, sheet_out}
+use Rattle.csv_sheet.proofs.Making.{refused_is, factors_taken, factors_out, tolerance_out, sheet_out}
 use Rattle.csv_sheet.proofs.make_at.Goals as goal
 
 pub slice_bounds-total-end : goal.slice_bounds-total-end
@@ -22,7 +22,7 @@ pub returns-then-not-is_between : goal.returns-then-not-is_between
 returns-then-not-is_between c =
     let taken : (take (length c.args.places.now) c.put_factors.new.output ≡ factors_of c.args.places.now c.args.csv.now) = factors_taken _ _ _ c.put_factors.ensures c.requires.ready.few (search rules) in
     let total_is : (c.total-total.result ≡ sum (factors_of c.args.places.now c.args.csv.now)) = c.total-total.ensures ∙ ap sum taken in
-    let q = factors_out _ _ _ total_is c.is_between.ensures c.if-not-is_between.true c.nothing.ensures in
+    let q = factors_out _ _ _ total_is c.is_between.ensures c.if-not-is_between.true (refused_is _ c.without.ensures) in
     record { value = q.0; output_after = q.1 }
 
 pub tolerance_for-tolerance-requires : goal.tolerance_for-tolerance-requires
@@ -32,7 +32,7 @@ pub returns-then-tolerance-gt1024000000 : goal.returns-then-tolerance-gt10240000
 returns-then-tolerance-gt1024000000 c =
     let taken : (take (length c.args.places.now) c.put_factors.new.output ≡ factors_of c.args.places.now c.args.csv.now) = factors_taken _ _ _ c.put_factors.ensures c.requires.ready.few (search rules) in
     let total_is : (c.total-total.result ≡ sum (factors_of c.args.places.now c.args.csv.now)) = c.total-total.ensures ∙ ap sum taken in
-    let q = tolerance_out _ _ _ total_is c.is_between.ensures c.if-not-is_between.false c.tolerance_for-tolerance.ensures c.if-tolerance-gt1024000000.true c.nothing-then-tolerance-gt1024000000.ensures in
+    let q = tolerance_out _ _ _ total_is c.is_between.ensures c.if-not-is_between.false c.tolerance_for-tolerance.ensures c.if-tolerance-gt1024000000.true (refused_is _ c.without-then-tolerance-gt1024000000.ensures) in
     record { value = q.0; output_after = q.1 }
 
 pub slice_bounds-put_file-end : goal.slice_bounds-put_file-end
