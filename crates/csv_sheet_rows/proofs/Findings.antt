@@ -3,20 +3,23 @@ use mathlib.Core.Path.{◌≡◌, refl, sym, ap, ◌∙◌}
 use mathlib.Core.Bool.{Bool, true, false, cond}
 use mathlib.Core.List.{List}
 use Prim.Native.Nat.{ℕ, zero, suc, ◌+◌, ◌-◌, ◌≤◌, ◌<◌}
-use native.Mathlib.Numerals.{add-one}
 use native.Mathlib.Omega.{arith}
 use borrow.Author.Tests.{eqb-false, eq-eqb, ne_eqb, lt-ltb, le-ltb}
 use lib.Dec.{ltb, eqb}
 use lib.ListN.{length}
 use Rattle.csv_bytes.specs.Cells.{is_number, read}
 use Rattle.csv_bytes.specs.declared.Cell.{Cell}
-use Rattle.csv_cells.specs.Cells.{Place, last_place, cell_text, line_of, width}
-use Rattle.std.specs.Prelude.{Result, Ok, Err}
+use Rattle.csv_fleet_tokens.specs.declared.Fault.{Fault}
+use Rattle.csv_fleet_tokens.specs.Faults.{fault_number, option_number}
+use Rattle.csv_fleet_tokens.proofs.Faults.{positive}
+use Rattle.csv_cells.specs.declared.Place.{Place as Read}
+use Rattle.csv_cells.specs.Cells.{Place, numbered as place_number, last_place, cell_text, line_of, width}
+use Rattle.std.specs.Prelude.{Result, Ok, Err, Some}
 use Rattle.std.specs.Result.{IsErr, IsErrAnd}
 use Rattle.csv_sheet_rows.specs.declared.Finding.{Finding}
 use Rattle.csv_sheet_rows.specs.Findings.{Found, numbered, found_number}
 use Rattle.csv_sheet_rows.specs.Kinds.{kind_at, place, row_of}
-use Rattle.csv_sheet_rows.specs.Rows.{count_of, is_out, number_fault, is_left_out, is_open, value_fault, field_fault, faulty_field, none, found_in, field_finding, many_finding, numbers_finding, kind_finding, row_finding, rows_finding, sheet_names, nameless, names_finding, last_row, factor_row, without, missing_finding, content_finding, rows_fault}
+use Rattle.csv_sheet_rows.specs.Rows.{count_of, number_fault, is_left_out, is_open, value_fault, field_fault, faulty_field, none, found_in, field_finding, many_finding, numbers_finding, kind_finding, row_finding, rows_finding, sheet_names, nameless, names_finding, last_row, factor_row, without, missing_finding, content_finding, rows_fault}
 use Rattle.csv_sheet_rows.proofs.First.{first_stays}
 use Rattle.csv_sheet_rows.proofs.Soundness.{faulty_is}
 
@@ -279,6 +282,14 @@ module _ (csv : List ℕ) {p : Place} (e : p ≡ last_place csv) where
   pub fault_later : p.fault ≡ 0 → {x : Found} → x ≡ content_finding csv → x ≡ rows_fault csv
   unfolding rows_fault
   fault_later h ex = ex ∙ rw (← e, eq-eqb p.fault 0 h)
+
+abbrev at_place : Read → ℕ → Found
+at_place q x = record { fault = x; line = q.line; row = q.row; field = q.field }
+
+pub fault_there : (csv : List ℕ) (q : Read) {f : Fault} → q.fault ≡ Some f → place_number q ≡ last_place csv → at_place q (fault_number f) ≡ rows_fault csv
+fault_there csv q {f} s e =
+    let n : option_number q.fault ≡ fault_number f = ap option_number s in
+    ap (at_place q) (sym n) ∙ fault_first csv e (λ z. positive f (sym n ∙ z))
 
 module _ (n : ℕ) (csv : List ℕ) {a : ℕ} (ea : a ≡ row_of 0 n csv) where
   pub missing_hull : a ≡ 0 → {x : Found} → x ≡ without 15 → x ≡ missing_finding n csv

@@ -333,7 +333,13 @@ fn many_finding(csv: &[u8], n: usize, row: usize) -> Result<(), Finding>
 }
 
 // What is wrong with the `n` numbers of a row.
-fn numbers_finding(csv: &[u8], kind: Kind, factors: usize, n: usize, row: usize) -> Result<(), Finding>
+fn numbers_finding(
+    csv: &[u8],
+    kind: Kind,
+    factors: usize,
+    n: usize,
+    row: usize,
+) -> Result<(), Finding>
     requires csv_len_bound { length csv.now ≤ 200000 }
     requires n_bound { n ≤ 64 }
     ensures { found_number result ≡ numbers_finding (kind_number kind) factors n row csv.now }
@@ -346,7 +352,13 @@ fn numbers_finding(csv: &[u8], kind: Kind, factors: usize, n: usize, row: usize)
 }
 
 // What is wrong with a row of a kind, whose kind may not stand before it.
-fn kind_finding(csv: &[u8], kind: Kind, factors: usize, columns: usize, row: usize) -> Result<(), Finding>
+fn kind_finding(
+    csv: &[u8],
+    kind: Kind,
+    factors: usize,
+    columns: usize,
+    row: usize,
+) -> Result<(), Finding>
     requires csv_len_bound { length csv.now ≤ 200000 }
     requires columns_bound { columns ≤ 64 }
     requires le_row { 1 ≤ row }

@@ -1,5 +1,4 @@
 -- `csv_sheet_rows::numbers_finding` meets its contract: a law for each return.
-use borrow.Author.Rules.{rules}
 use Rattle.csv_fleet_tokens.proofs.Faults.{positive}
 use Rattle.csv_sheet_rows.proofs.Findings.{numbers_none, numbers_faulty, numbers_many, passed_on}
 use Rattle.csv_sheet_rows.proofs.numbers_finding.Goals as goal
