@@ -25,7 +25,7 @@ use Rattle.buffers.proofs.Writing.{front_taken}
 use Rattle.csv_fleet_tokens.specs.Table.{Table}
 use Rattle.csv_fleet_reader.specs.Fleet.{last_table}
 use Rattle.csv_front_text.specs.declared.Front.TheVariants.{Nothing}
-use Rattle.csv_book.specs.declared.Made as book
+use Rattle.csv_book.specs.Books as book
 use Rattle.csv_book.specs.Books.{csv_book}
 use Rattle.csv_book.proofs.Making.{book_accepted}
 use Rattle.csv_numbers.specs.Numbers.{SaysValue}

@@ -19,7 +19,11 @@ use Rattle.csv_column_match.specs.Match.{position, positions, mismatch}
 use Rattle.csv_column_match.specs.Matched.{Matched, WithoutMismatchMatched}
 use Rattle.csv_column_match.proofs.Positions.{positions_long, position_at}
 use Rattle.csv_column_match.proofs.Matching.{without_mismatch_matched}
-use Rattle.std.specs.Prelude.{Result, Ok, Err}
+use Rattle.std.specs.Prelude.{Option, None, Some, Result, Ok, Err}
+use Rattle.std.specs.Option.{is_some}
+use Rattle.csv_fleet_tokens.specs.declared.Fault.{Fault}
+use Rattle.csv_fleet_tokens.specs.Faults.{option_number}
+use Rattle.csv_fleet_tokens.proofs.Faults.{positive}
 use Rattle.std.specs.Result.{IsErr, IsErrAnd}
 use Rattle.csv_sheet_rows.specs.declared.Finding.{Finding}
 use Rattle.csv_sheet_rows.specs.Findings.{Found, numbered}
@@ -37,6 +41,15 @@ refused_is f e = ap (λ (x : Found). nothing_made x.fault x.line x.row x.field) 
 pub passed_on : (r : Result Made Finding) (e : Finding) → IsErr r × IsErrAnd r (λ y. y ≡ e) → outcome r ≡ refused e
 passed_on (Ok m) e h = elim h.1 [ ]
 passed_on (Err f) e h = ap refused h.1
+
+-- ---- a fault that there may be
+pub some_number : (o : Option Fault) {b : Bool} → b ≡ is_some o → b ≡ true → option_number o ≡ 0 → ⊥
+some_number None e h z = let q : ◌≡◌ {A = Bool} true false = sym h ∙ e in let n : ◌≡◌ {A = ℕ} 0 1 = cc in omega arith
+some_number (Some f) e h z = positive f z
+
+pub none_number : (o : Option Fault) {b : Bool} → b ≡ is_some o → b ≡ false → option_number o ≡ 0
+none_number None e h = refl
+none_number (Some f) e h = absurd (let q : ◌≡◌ {A = Bool} false true = sym h ∙ e in let n : ◌≡◌ {A = ℕ} 0 1 = cc in omega arith)
 
 -- ---- once the columns match
 module _ (ps csv out : List ℕ) where

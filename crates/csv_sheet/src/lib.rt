@@ -74,7 +74,12 @@ fn make_at(csv: &[u8], places: &[u8], output: &mut [u8]) -> Result<Made, Finding
 }
 
 // Once nothing is wrong but perhaps the columns, of which the fleet has so many.
-fn make_of_columns(fleet: &[u8], columns: usize, csv: &[u8], output: &mut [u8]) -> Result<Made, Finding>
+fn make_of_columns(
+    fleet: &[u8],
+    columns: usize,
+    csv: &[u8],
+    output: &mut [u8],
+) -> Result<Made, Finding>
     requires fleet_len_bound { length fleet.now ≤ 200000 }
     requires fleet_value { (last_table fleet.now).fault ≡ 0 }
     requires columns_value { columns ≡ (last_table fleet.now).columns }
