@@ -22,6 +22,11 @@ use Rattle.buffers.proofs.Writing.{front_taken}
 use Rattle.csv_fleet_reader.specs.Fleet.{last_table}
 use Rattle.csv_sheet_rows.specs.Rows.{sheet_names, rows_fault}
 use Rattle.csv_column_match.specs.Match.{mismatch}
+use denote.Enum.Bare.{sameb}
+use Rattle.csv_fleet_tokens.specs.contracts.Fault.{the_type}
+use Rattle.csv_fleet_tokens.specs.declared.Fault.{Fault}
+use Rattle.csv_fleet_tokens.specs.declared.Fault.TheVariants.{Fleet}
+use Rattle.csv_fleet_tokens.specs.Faults.{fault_number}
 use Rattle.csv_sheet.specs.Outcomes.{Outcome}
 use Rattle.csv_sheet.specs.Sheets.{places, csv_sheet, nothing_made, total_fault, made_by, made_at, made_of_columns, made_of_rows, made_for_fleet, sheet_made, output_at, output_by}
 use Rattle.csv_sheet.specs.Promise.{SheetAccepted, SheetRightBy, SheetRight}
@@ -167,6 +172,14 @@ module _ (fleet csv : List ℕ) where
       let l = columns_made (rw k at h) in
       let e : sheet_made room fleet csv ≡ made_at (places fleet csv) csv = p ∙ q ∙ k ∙ l in
       rw e (by_total (total_fault (places fleet csv) csv) (rw e at z))
+
+-- whether a fault is one of the fleet, by its number
+module _ (f : Fault) {b : Bool} (e : b ≡ sameb the_type f Fleet) where
+  pub is_fleet : b ≡ true → fault_number f ≡ 12
+  is_fleet h = grind (arith, e, h)
+
+  pub not_fleet : b ≡ false → fault_number f ≡ 12 → ⊥
+  not_fleet h z = grind (arith, e, h, z)
 
 module _ (fleet csv : List ℕ) (r : Outcome) where
   pub sheet_short : r.fault ≡ 0 → (w : List ℕ) → SheetRight fleet csv r w → r.len ≤ file_limit

@@ -16,7 +16,7 @@ pub fn is_book_of(csv: &[u8], book: &[u8]) -> bool
     let mut output = [0u8; 40000];
     match csv_book::csv_book(csv, &mut output) {
         Ok(made) => is_same(&output[..made.len], book),
-        Err(_) => false,
+        Err(_finding) => false,
     }
 }
 

@@ -7,7 +7,6 @@ use native.Mathlib.Omega.{arith}
 use borrow.Author.Tests.{eq-eqb, ne_eqb, lt-ltb, le-ltb}
 use lib.Dec.{ltb}
 use lib.ListN.{length, take, replicate}
-use Rattle.files.specs.Bytes.{between}
 use Rattle.buffers.specs.Placed.{placed}
 use Rattle.buffers.proofs.Placing.{placed_nil}
 use Rattle.buffers.proofs.Writing.{front_inside, front_taken}
@@ -20,9 +19,12 @@ use Rattle.csv_book_words.specs.Words.{wants_value, front_line}
 use Rattle.csv_cells.specs.Cells.{cell_text}
 use Rattle.csv_cells.proofs.Celling.{few_bytes}
 use Rattle.csv_sheet_rows.specs.Kinds.{kind_of}
+use Rattle.csv_fleet_tokens.specs.declared.Fault.{Fault}
+use Rattle.csv_fleet_tokens.specs.declared.Fault.TheVariants.{Unknown}
+use Rattle.csv_fleet_tokens.specs.Faults.{fault_number}
 use Rattle.csv_sheet.specs.Outcomes.{Outcome}
 use Rattle.csv_sheet_words.specs.Words.{wants_row, wants_column, row_line, column_line}
-use Rattle.csv_sheet_text.specs.Lines.{looked, row_name, row_fault, column_fault, sheet_fault, SHEET, FACTORS, STEPS, TOLERANCE, sheet_lines}
+use Rattle.csv_sheet_text.specs.Lines.{looked, row_name, row_fault, column_fault, SHEET, FACTORS, STEPS, TOLERANCE, sheet_lines}
 
 -- ---- what is looked for
 module _ (w : Bool) (r f : ℕ) (csv out : List ℕ) where
@@ -70,6 +72,10 @@ pub row_fault_told : (csv : List ℕ) (m : Outcome) {bw cw vw : Bool} → bw ≡
 unfolding row_fault row_name
 row_fault_told csv m er fr ek ec ev fc fv h = rw (← er, ← fr, ← ek, ← ec, ← ev, ← fc, ← fv) h
 
+-- no other fault has the number of one
+pub not_unknown : (f : Fault) → (f ≡ Unknown → ⊥) → fault_number f ≡ 20 → ⊥
+not_unknown f n e = grind (arith, n, e)
+
 module _ (fleet csv : List ℕ) (m : Outcome) {name : List ℕ} {t : Text} where
   pub of_sheet : m.fault ≡ 20 → name ≡ looked true 0 m.field csv → Holds (column_line m.fault name) t → Holds (column_fault fleet csv m) t
   unfolding column_fault
@@ -78,19 +84,6 @@ module _ (fleet csv : List ℕ) (m : Outcome) {name : List ℕ} {t : Text} where
   pub of_fleet : (m.fault ≡ 20 → ⊥) → name ≡ looked true 0 m.field fleet → Holds (column_line m.fault name) t → Holds (column_fault fleet csv m) t
   unfolding column_fault
   of_fleet e n h = rw (ne_eqb m.fault 20 e, ← n) h
-
-module _ (fleet csv : List ℕ) (m : Outcome) {t : Text} where
-  pub told_none : m.fault ≡ 12 → Holds [] t → Holds (sheet_fault fleet csv m) t
-  unfolding sheet_fault
-  told_none e h = rw (eq-eqb m.fault 12 e) h
-
-  pub told_column : (m.fault ≡ 12 → ⊥) → between 18 21 m.fault ≡ true → Holds (column_fault fleet csv m) t → Holds (sheet_fault fleet csv m) t
-  unfolding sheet_fault
-  told_column n e h = rw (ne_eqb m.fault 12 n, e) h
-
-  pub told_row : (m.fault ≡ 12 → ⊥) → between 18 21 m.fault ≡ false → Holds (row_fault csv m) t → Holds (sheet_fault fleet csv m) t
-  unfolding sheet_fault
-  told_row n e h = rw (ne_eqb m.fault 12 n, e) h
 
 -- ---- the lines of a sheet
 pub sheet_told : (m : Outcome) {t₀ t₁ t₂ t₃ t₄ t₅ : Text} → Holds [] t₀ → Adds t₀ (number_line SHEET m.columns) t₁ → Adds t₁ (number_line FACTORS m.factors) t₂ →

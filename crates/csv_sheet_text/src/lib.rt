@@ -9,8 +9,8 @@ ghost use Rattle.text.specs.Texts.{Holds};
 ghost use Rattle.csv_sheet.specs.Outcomes.{refused, written};
 ghost use Rattle.csv_sheet_text.specs.Lines.{looked, row_fault, column_fault, sheet_fault, sheet_lines};
 
-use csv_front_text::Front;
 use csv_fleet_tokens::Fault;
+use csv_front_text::Front;
 use csv_sheet::Made;
 use csv_sheet_rows::Finding;
 use text::Text;
@@ -66,7 +66,7 @@ fn column_fault(fleet: &[u8], csv: &[u8], finding: Finding) -> Text
     let fault = finding.fault;
     let field = finding.field;
     let mut name = [0u8; 200];
-    if fault == Fault::Unknown {
+    if let Fault::Unknown = fault {
         let n = put_looked(csv, true, 0, field, &mut name);
         return csv_sheet_words::column_line(fault, &name[..n]);
     }
@@ -75,7 +75,7 @@ fn column_fault(fleet: &[u8], csv: &[u8], finding: Finding) -> Text
 }
 
 // ENTRY. The line that names the fault of a sheet's CSV, as csv_sheet gave it back. A fault of the fleet's CSV has none here: fleet_fault of csv_book_text has it.
-#[tactic(auto, unfolding(crate::specs::Lines::sheet_fault))]
+#[tactic(auto, unfolding(crate::specs::Lines::sheet_fault, files::specs::Bytes::between))]
 pub fn sheet_fault(fleet: &[u8], csv: &[u8], finding: Finding) -> Text
     ensures { Holds (sheet_fault fleet.now csv.now (refused finding)) result }
 {

@@ -148,7 +148,7 @@ fn with_closing(text: Text, fault: Fault) -> Text
 }
 
 // Whether a value is wrong.
-#[tactic(auto, unfolding(crate::specs::Words::of_value))]
+#[tactic(auto, unfolding(crate::specs::Words::of_value, files::specs::Bytes::between))]
 fn of_value(fault: Fault) -> bool
     ensures { result ≡ of_value (fault_number fault) }
 {

@@ -9,8 +9,9 @@ use csv_sheet_rows::Finding;
 fn tell_fault(rt: &HostRuntime, fleet: &[u8], csv: &[u8], finding: Finding) {
     if finding.fault == Fault::Fleet {
         let mut output = [0u8; 40000];
-        let book = csv_book::csv_book(fleet, &mut output);
-        file_io::tell_text(rt, csv_book_text::fleet_fault(fleet, book));
+        if let Err(found) = csv_book::csv_book(fleet, &mut output) {
+            file_io::tell_text(rt, csv_book_text::fleet_fault(fleet, found));
+        }
         return;
     }
     file_io::tell_text(rt, csv_sheet_text::sheet_fault(fleet, csv, finding));
