@@ -28,13 +28,10 @@ fn programs(rt: &HostRuntime, folder: &[u8]) {
 }
 
 // The same in each folder of a table, whose lines are names.
-fn each(rt: &HostRuntime, table: &[u8]) {
-    let mut at = 0;
-    while at < table.len() {
-        let folder = test_tables::line(table, at);
-        test_printing::title(rt, folder);
-        programs(rt, folder);
-        at = test_tables::next_line(table, at);
+fn each(rt: &HostRuntime, table: &str) {
+    for folder in table.lines() {
+        test_printing::title(rt, folder.as_bytes());
+        programs(rt, folder.as_bytes());
     }
 }
 
@@ -61,7 +58,7 @@ fn main(rt: HostRuntime) {
     programs(&rt, b"");
     each(
         &rt,
-        b"larger
+        "larger
 beyond
 spent
 by_hand

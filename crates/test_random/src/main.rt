@@ -127,13 +127,11 @@ fn full(steps: u64) -> Plan {
 
 fn main(rt: HostRuntime) {
     let mut seed = 6;
-    let mut number = 0;
-    while number < 3000 {
+    for number in 0..3000 {
         let plan = test_samples::draw_plan(&mut seed);
         one(&rt, &mut seed, number, plan);
-        number += 1;
     }
-    one(&rt, &mut seed, number, full(40));
-    one(&rt, &mut seed, number + 1, full(State::MOST_STEPS as u64));
+    one(&rt, &mut seed, 3000, full(40));
+    one(&rt, &mut seed, 3001, full(State::MOST_STEPS as u64));
     mirrored_cases(&rt);
 }

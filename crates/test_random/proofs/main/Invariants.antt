@@ -1,9 +1,0 @@
--- `test_random::main` meets its contract.
-use Prim.Native.Nat.{◌-◌, ◌≤◌}
-use Rattle.test_random.proofs.main.Given as goal
-
-abbrev pub invariant-loop-number : goal.invariant-loop-number
-invariant-loop-number l = l.number ≤ 3000
-
-abbrev pub decreases-loop-number : goal.decreases-loop-number
-decreases-loop-number l = 3000 - l.number
