@@ -60,9 +60,7 @@ fn farthest(i: usize, book: &[u8], sheet: &[u8], layout: Layout) -> u64
     ensures { result ≡ farthest (ones (columns book.now)) (row (rows book.now) i) (drop (i + 1) (rows book.now)) }
 {
     let mut most = 0;
-    let mut j = layout.boats;
-    while i + 1 < j {
-        j -= 1;
+    for j in (i + 1..layout.boats).rev() {
         most = greater(squared_distance(i, j, book, sheet, layout), most);
     }
     most
@@ -75,9 +73,7 @@ fn diameter(book: &[u8], sheet: &[u8], layout: Layout) -> u64
     ensures { result ≡ diameter (plain_problem fixed book.now sheet.now) }
 {
     let mut most = 0;
-    let mut i = layout.boats;
-    while 0 < i {
-        i -= 1;
+    for i in (0..layout.boats).rev() {
         most = greater(farthest(i, book, sheet, layout), most);
     }
     most
@@ -158,7 +154,7 @@ fn follow(start: State, book: &[u8], sheet: &[u8], layout: Layout, diameter: u64
         some: false,
         every: true,
     };
-    while state.steps < steps {
+    for made in 0..steps {
         state = run_loop::step(
             state,
             book,
@@ -305,19 +301,17 @@ fn longest(scale: u64) -> Plan {
 
 fn main(rt: HostRuntime) {
     let mut seed = 9;
-    let mut number = 0;
     let mut totals = Totals {
         books: 0,
         some: 0,
         every: 0,
         ratio: 0,
     };
-    while number < 600 {
+    for number in 0..600 {
         let plan = draw_plan(&mut seed, number);
         totals = one(&rt, &mut seed, number, plan, totals);
-        number += 1;
     }
-    totals = one(&rt, &mut seed, number, longest(1), totals);
-    totals = one(&rt, &mut seed, number + 1, longest(10), totals);
+    totals = one(&rt, &mut seed, 600, longest(1), totals);
+    totals = one(&rt, &mut seed, 601, longest(10), totals);
     summary(&rt, totals);
 }

@@ -9,6 +9,3 @@ use Rattle.test_gap.proofs.diameter.Given as goal
 
 abbrev pub invariant-loop-i : goal.invariant-loop-i
 invariant-loop-i l = (l.i ≤ boats l.book) × (l.most ≡ row_diameter (ones (columns l.book)) (drop l.i (rows l.book)))
-
-abbrev pub decreases-loop-i : goal.decreases-loop-i
-decreases-loop-i l = l.i

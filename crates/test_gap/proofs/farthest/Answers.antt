@@ -9,14 +9,11 @@ loop-j-init c =
     let n = boats_are _ _ c.requires.layout_value in
     (omega (arith, n, c.requires.i_bound), (omega (arith, n), farthest_start _ _ c.requires.sheet_value _ n))
 
-pub overflow_add-i : goal.overflow_add-i
-overflow_add-i c = record { fits = omega (arith, c.requires.i_bound, (book_fits _ _ c.requires.sheet_value).most_boats) }
+pub overflow_add-j-start : goal.overflow_add-j-start
+overflow_add-j-start c = record { fits = omega (arith, c.requires.i_bound, (book_fits _ _ c.requires.sheet_value).most_boats) }
 
 pub squared_distance-requires : goal.squared_distance-requires
 squared_distance-requires c = record { sheet_value = c.requires.sheet_value; layout_value = c.requires.layout_value; i_bound = (c.requires.i_bound, omega (arith, c.loop-j.invariant.0, c.loop-j.invariant.1.0)) }
-
-pub loop-j-smaller : goal.loop-j-smaller
-loop-j-smaller c = omega (arith, c.loop-j.invariant.0)
 
 pub loop-j-preserved : goal.loop-j-preserved
 loop-j-preserved c =

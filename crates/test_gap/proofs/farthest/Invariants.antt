@@ -9,6 +9,3 @@ use Rattle.test_gap.proofs.farthest.Given as goal
 
 abbrev pub invariant-loop-j : goal.invariant-loop-j
 invariant-loop-j l = (l.i < l.j) × ((l.j ≤ boats l.book) × (l.most ≡ farthest (ones (columns l.book)) (row (rows l.book) l.i) (drop l.j (rows l.book))))
-
-abbrev pub decreases-loop-j : goal.decreases-loop-j
-decreases-loop-j l = l.j
