@@ -36,17 +36,11 @@ fn case(rt: &HostRuntime, cases: &[u8], start: usize) -> usize {
     end
 }
 
-// Each case of a file.
-fn each(rt: &HostRuntime, cases: &[u8], count: u64) {
-    let mut at = 0;
-    for number in 0..count {
-        test_printing::line(rt, b"case", number);
-        at = case(rt, cases, at);
-    }
+// The cases of a file.
+fn run(rt: &HostRuntime, cases: &[u8]) {
+    test_cases::each(rt, cases, 375, case);
 }
 
 fn main(rt: HostRuntime) {
-    let mut cases = [0u8; 68000];
-    let n = file_io::read_file(&rt, b"pairs.dat", &mut cases);
-    each(&rt, &cases[..n], 375);
+    test_cases::with_file::<68000, _>(&rt, b"pairs.dat", run);
 }

@@ -2,7 +2,7 @@
 // tests/make_data.py, the expected output by tests/expected/test_book.py.
 #![tactic(auto)]
 
-use test_buffers::{between, u16_at};
+use test_buffers::between;
 
 // Prints what is made of a CSV: the line of its fault, or the lines of its book with length and sum, and how many bytes of the buffer
 // are still zero behind it.
@@ -30,20 +30,9 @@ fn made_of(rt: &HostRuntime, csv: &[u8]) {
 fn case(rt: &HostRuntime, cases: &[u8], start: usize) -> usize {
     let at = start % 1000000;
     let csv = at + 3;
-    let low = u16_at(cases, at) as usize;
-    let high = test_buffers::byte_at(cases, at + 2) as usize;
-    let end = csv + low + 65536 * high;
+    let end = csv + test_cases::length_at(cases, at);
     made_of(rt, between(cases, csv, end));
     end
-}
-
-// Each case of a file.
-fn each(rt: &HostRuntime, cases: &[u8], count: u64) {
-    let mut at = 0;
-    for number in 0..count {
-        test_printing::line(rt, b"case", number);
-        at = case(rt, cases, at);
-    }
 }
 
 // The longest CSV, and all of these bytes, one more.
@@ -77,10 +66,9 @@ fn folder(rt: &HostRuntime, name: &[u8]) {
     test_printing::line(rt, b"sum", test_buffers::checksum(&book[..n]));
 }
 
-// All of it; the cases are read into this buffer.
-fn run(rt: &HostRuntime, buffer: &mut [u8]) {
-    let n = file_io::read_file(rt, b"cases.dat", buffer);
-    each(rt, file_io::first_bytes(buffer, n), 500);
+// All of it.
+fn run(rt: &HostRuntime, cases: &[u8]) {
+    test_cases::each(rt, cases, 500, case);
     limits(rt);
     short_buffer(rt);
     folder(rt, b"");
@@ -90,6 +78,5 @@ fn run(rt: &HostRuntime, buffer: &mut [u8]) {
 }
 
 fn main(rt: HostRuntime) {
-    let mut cases = [0u8; 380000];
-    run(&rt, &mut cases);
+    test_cases::with_file::<380000, _>(&rt, b"cases.dat", run);
 }

@@ -2,9 +2,8 @@
 // tests/expected/test_card_details.py.
 #![tactic(auto)]
 
-ghost use Rattle.std.specs.Prelude.{◌<◌};
-
-use test_buffers::{between, u16_at};
+use test_buffers::between;
+use test_cases::length_at;
 
 // Prints the lines of one number, with a name and with one of 106 bytes, where there is one.
 fn of(rt: &HostRuntime, book: &[u8], sheet: &[u8], card: &[u8], number: u32) {
@@ -35,14 +34,6 @@ fn told(rt: &HostRuntime, book: &[u8], sheet: &[u8], card: &[u8]) {
     }
 }
 
-// A length of three bytes.
-fn length_at(cases: &[u8], at: usize) -> usize
-    requires { at < 5000000 }
-    ensures { result < 16777216 }
-{
-    u16_at(cases, at) as usize + 65536 * (test_buffers::byte_at(cases, at + 2) as usize)
-}
-
 // The case at `start`: three bytes of length for the book, the sheet and the card, then the three. Gives back where the next case starts.
 fn case(rt: &HostRuntime, cases: &[u8], start: usize) -> usize {
     let at = start % 4000000;
@@ -59,22 +50,11 @@ fn case(rt: &HostRuntime, cases: &[u8], start: usize) -> usize {
     end
 }
 
-// Each case of a file.
-fn each(rt: &HostRuntime, cases: &[u8], count: u64) {
-    let mut at = 0;
-    for number in 0..count {
-        test_printing::line(rt, b"case", number);
-        at = case(rt, cases, at);
-    }
-}
-
-// Each case of cases.dat, which is read into this buffer.
-fn run(rt: &HostRuntime, buffer: &mut [u8]) {
-    let n = file_io::read_file(rt, b"cases.dat", buffer);
-    each(rt, file_io::first_bytes(buffer, n), 400);
+// The cases of a file.
+fn run(rt: &HostRuntime, cases: &[u8]) {
+    test_cases::each(rt, cases, 400, case);
 }
 
 fn main(rt: HostRuntime) {
-    let mut cases = [0u8; 134000];
-    run(&rt, &mut cases);
+    test_cases::with_file::<134000, _>(&rt, b"cases.dat", run);
 }

@@ -2,9 +2,8 @@
 // expected output by tests/expected/test_details.py.
 #![tactic(auto)]
 
-ghost use Rattle.std.specs.Prelude.{◌<◌};
-
-use test_buffers::{between, u16_at};
+use test_buffers::between;
+use test_cases::length_at;
 
 // Prints the line of one number, where there is one.
 fn of(rt: &HostRuntime, book: &[u8], sheet: &[u8], number: u32) {
@@ -17,22 +16,11 @@ fn of(rt: &HostRuntime, book: &[u8], sheet: &[u8], number: u32) {
 
 // Prints the number that refuses a book and a sheet, and the lines of all numbers.
 fn told(rt: &HostRuntime, book: &[u8], sheet: &[u8]) {
-    test_printing::line(
-        rt,
-        b"refusal",
-        validation::files_refusal(book, sheet) as u64,
-    );
+    let refusal = test_printing::refusal_number(validation::files_refusal(book, sheet));
+    test_printing::line(rt, b"refusal", refusal);
     for number in 0..60 {
         of(rt, book, sheet, number);
     }
-}
-
-// A length of three bytes.
-fn length_at(cases: &[u8], at: usize) -> usize
-    requires { at < 5000000 }
-    ensures { result < 16777216 }
-{
-    u16_at(cases, at) as usize + 65536 * (test_buffers::byte_at(cases, at + 2) as usize)
 }
 
 // The case at `start`: three bytes of length for the book and three for the sheet, then both. Gives back where the next case starts.
@@ -45,22 +33,11 @@ fn case(rt: &HostRuntime, cases: &[u8], start: usize) -> usize {
     end
 }
 
-// Each case of a file.
-fn each(rt: &HostRuntime, cases: &[u8], count: u64) {
-    let mut at = 0;
-    for number in 0..count {
-        test_printing::line(rt, b"case", number);
-        at = case(rt, cases, at);
-    }
-}
-
-// Each case of cases.dat, which is read into this buffer.
-fn run(rt: &HostRuntime, buffer: &mut [u8]) {
-    let n = file_io::read_file(rt, b"cases.dat", buffer);
-    each(rt, file_io::first_bytes(buffer, n), 400);
+// The cases of a file.
+fn run(rt: &HostRuntime, cases: &[u8]) {
+    test_cases::each(rt, cases, 400, case);
 }
 
 fn main(rt: HostRuntime) {
-    let mut cases = [0u8; 330000];
-    run(&rt, &mut cases);
+    test_cases::with_file::<330000, _>(&rt, b"cases.dat", run);
 }

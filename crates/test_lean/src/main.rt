@@ -81,16 +81,6 @@ fn case(rt: &HostRuntime, cases: &[u8], start: usize) -> usize {
     )
 }
 
-// Each case of a file. Gives back where the names of the folders start, behind the last case.
-fn each(rt: &HostRuntime, cases: &[u8], count: u64) -> usize {
-    let mut at = 0;
-    for number in 0..count {
-        test_printing::line(rt, b"case", number);
-        at = case(rt, cases, at);
-    }
-    at
-}
-
 // The report of one card of the first case's book, in fewer slots than it needs.
 fn too_few_slots(rt: &HostRuntime, cases: &[u8]) {
     let slots = [1u16; 255];
@@ -114,24 +104,13 @@ fn folder_at(rt: &HostRuntime, cases: &[u8], start: usize) -> usize {
     end
 }
 
-// leanlist in one folder after another.
-fn folders(rt: &HostRuntime, cases: &[u8], start: usize, count: u64) {
-    let mut at = start;
-    for number in 0..count {
-        at = folder_at(rt, cases, at);
-    }
-}
-
-// All of it; the cases and the names of the folders are read into this buffer.
-fn run(rt: &HostRuntime, buffer: &mut [u8]) {
-    let n = file_io::read_file(rt, b"cases.dat", buffer);
-    let cases = file_io::first_bytes(buffer, n);
-    let names = each(rt, cases, 160);
+// All of it: the cases, the report in fewer slots, and leanlist in one folder after another. The names of the folders start behind the last case.
+fn run(rt: &HostRuntime, cases: &[u8]) {
+    let names = test_cases::each(rt, cases, 160, case);
     too_few_slots(rt, cases);
-    folders(rt, cases, names, 20);
+    test_cases::one_after_another(rt, cases, names, 20, folder_at);
 }
 
 fn main(rt: HostRuntime) {
-    let mut cases = [0u8; 240000];
-    run(&rt, &mut cases);
+    test_cases::with_file::<240000, _>(&rt, b"cases.dat", run);
 }

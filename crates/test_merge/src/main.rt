@@ -43,16 +43,6 @@ fn case(rt: &HostRuntime, cases: &[u8], start: usize) -> usize {
     end
 }
 
-// Each case of a file. Gives back where the names of the folders start, behind the last case.
-fn each(rt: &HostRuntime, cases: &[u8], count: u64) -> usize {
-    let mut at = 0;
-    for number in 0..count {
-        test_printing::line(rt, b"case", number);
-        at = case(rt, cases, at);
-    }
-    at
-}
-
 // mixmerge in a folder, and the book that stands there afterwards.
 fn folder(rt: &HostRuntime, name: &[u8]) {
     let mut book = [0u8; 40001];
@@ -72,23 +62,12 @@ fn folder_at(rt: &HostRuntime, cases: &[u8], start: usize) -> usize {
     end
 }
 
-// mixmerge in one folder after another.
-fn folders(rt: &HostRuntime, cases: &[u8], start: usize, count: u64) {
-    let mut at = start;
-    for number in 0..count {
-        at = folder_at(rt, cases, at);
-    }
-}
-
-// All of it; the cases and the names of the folders are read into this buffer.
-fn run(rt: &HostRuntime, buffer: &mut [u8]) {
-    let n = file_io::read_file(rt, b"cases.dat", buffer);
-    let cases = file_io::first_bytes(buffer, n);
-    let names = each(rt, cases, 400);
-    folders(rt, cases, names, 11);
+// All of it: the cases, and mixmerge in one folder after another. The names of the folders start behind the last case.
+fn run(rt: &HostRuntime, cases: &[u8]) {
+    let names = test_cases::each(rt, cases, 400, case);
+    test_cases::one_after_another(rt, cases, names, 11, folder_at);
 }
 
 fn main(rt: HostRuntime) {
-    let mut cases = [0u8; 304000];
-    run(&rt, &mut cases);
+    test_cases::with_file::<304000, _>(&rt, b"cases.dat", run);
 }

@@ -2,14 +2,12 @@
 // expected output by tests/expected/test_origin.py.
 #![tactic(auto)]
 
-use test_buffers::{between, u16_at};
+use test_buffers::between;
 
 // Where the part at `at` ends, which has three bytes of length in front.
 fn end_of(cases: &[u8], at: usize) -> usize {
     let start = at % 1000000;
-    let low = u16_at(cases, start) as usize;
-    let high = test_buffers::byte_at(cases, start + 2) as usize;
-    start + 3 + low + 65536 * high
+    start + 3 + test_cases::length_at(cases, start)
 }
 
 // A line of a word, with 1 for yes and 0 for no.
@@ -45,21 +43,11 @@ fn case(rt: &HostRuntime, cases: &[u8], start: usize) -> usize {
     fifth
 }
 
-// Each case of a file.
-fn each(rt: &HostRuntime, cases: &[u8], count: u64) {
-    let mut at = 0;
-    for number in 0..count {
-        at = case(rt, cases, at);
-    }
-}
-
-// Each case of cases.dat, which is read into this buffer.
-fn run(rt: &HostRuntime, buffer: &mut [u8]) {
-    let n = file_io::read_file(rt, b"cases.dat", buffer);
-    each(rt, file_io::first_bytes(buffer, n), 195);
+// The cases of a file.
+fn run(rt: &HostRuntime, cases: &[u8]) {
+    test_cases::one_after_another(rt, cases, 0, 195, case);
 }
 
 fn main(rt: HostRuntime) {
-    let mut cases = [0u8; 300000];
-    run(&rt, &mut cases);
+    test_cases::with_file::<300000, _>(&rt, b"cases.dat", run);
 }

@@ -6,11 +6,7 @@ ghost use Rattle.std.specs.Prelude.{◌<◌};
 
 use queue_rounds::{Plan, Refused, Served};
 use test_buffers::{between, u16_at};
-
-// The 4-byte number at `at`.
-fn u32_at(cases: &[u8], at: usize) -> u32 {
-    (u16_at(cases, at) + 65536 * u16_at(cases, at % 1000000 + 2)) as u32
-}
+use test_cases::u32_at;
 
 // The sheets of the queue at `at`.
 fn plan_at(cases: &[u8], at: usize) -> Plan {
@@ -111,16 +107,6 @@ fn case(rt: &HostRuntime, cases: &[u8], start: usize) -> usize {
     end
 }
 
-// Each case of a file. Gives back where the runs of mixqueue start, behind the last case.
-fn each(rt: &HostRuntime, cases: &[u8], count: u64) -> usize {
-    let mut at = 0;
-    for number in 0..count {
-        test_printing::line(rt, b"case", number);
-        at = case(rt, cases, at);
-    }
-    at
-}
-
 // The run of mixqueue at `start`: the allowance in 4 bytes, the length of the folder's name in 2, and the name. Gives back where the next run
 // starts.
 fn folder(rt: &HostRuntime, cases: &[u8], start: usize) -> usize {
@@ -135,23 +121,12 @@ fn folder(rt: &HostRuntime, cases: &[u8], start: usize) -> usize {
     end
 }
 
-// mixqueue in one folder after another.
-fn folders(rt: &HostRuntime, cases: &[u8], start: usize, count: u64) {
-    let mut at = start;
-    for number in 0..count {
-        at = folder(rt, cases, at);
-    }
-}
-
-// All of it; the cases and the runs are read into this buffer.
-fn run(rt: &HostRuntime, buffer: &mut [u8]) {
-    let n = file_io::read_file(rt, b"cases.dat", buffer);
-    let cases = file_io::first_bytes(buffer, n);
-    let runs = each(rt, cases, 240);
-    folders(rt, cases, runs, 32);
+// All of it: the cases, and mixqueue in one folder after another. The runs start behind the last case.
+fn run(rt: &HostRuntime, cases: &[u8]) {
+    let runs = test_cases::each(rt, cases, 240, case);
+    test_cases::one_after_another(rt, cases, runs, 32, folder);
 }
 
 fn main(rt: HostRuntime) {
-    let mut cases = [0u8; 110000];
-    run(&rt, &mut cases);
+    test_cases::with_file::<110000, _>(&rt, b"cases.dat", run);
 }

@@ -68,15 +68,6 @@ fn case(rt: &HostRuntime, cases: &[u8], start: usize) -> usize {
     end
 }
 
-// Each case of a file.
-fn each(rt: &HostRuntime, cases: &[u8], count: u64) {
-    let mut at = 0;
-    for number in 0..count {
-        test_printing::line(rt, b"case", number);
-        at = case(rt, cases, at);
-    }
-}
-
 // mixedition in a folder, and the sheet that stands there afterwards.
 fn folder(rt: &HostRuntime, name: &[u8]) {
     let mut left = [0u8; 40001];
@@ -87,18 +78,21 @@ fn folder(rt: &HostRuntime, name: &[u8]) {
     test_printing::line(rt, b"sum", test_buffers::checksum(&left[..n]));
 }
 
+// All of it.
+fn run(rt: &HostRuntime, cases: &[u8]) {
+    test_cases::each(rt, cases, 236, case);
+    folder(rt, b"");
+    folder(rt, b"down");
+    folder(rt, b"front");
+    folder(rt, b"longest");
+    folder(rt, b"too_long");
+    folder(rt, b"factor");
+    folder(rt, b"columns");
+    folder(rt, b"no_steps");
+    folder(rt, b"taken");
+    folder(rt, b"none");
+}
+
 fn main(rt: HostRuntime) {
-    let mut cases = [0u8; 17000];
-    let n = file_io::read_file(&rt, b"cases.dat", &mut cases);
-    each(&rt, &cases[..n], 236);
-    folder(&rt, b"");
-    folder(&rt, b"down");
-    folder(&rt, b"front");
-    folder(&rt, b"longest");
-    folder(&rt, b"too_long");
-    folder(&rt, b"factor");
-    folder(&rt, b"columns");
-    folder(&rt, b"no_steps");
-    folder(&rt, b"taken");
-    folder(&rt, b"none");
+    test_cases::with_file::<17000, _>(&rt, b"cases.dat", run);
 }

@@ -1,9 +1,0 @@
--- `test_origin::main` meets its contract: only it sees the size of the buffer.
-use mathlib.Core.Path.{sym}
-use Prim.Native.Nat.{ℕ}
-use lib.ListN.{length-replicate}
-use borrow.Author.Rules.{rules}
-use Rattle.test_origin.proofs.main.Goals as goal
-
-pub slice_bounds-run-end : goal.slice_bounds-run-end
-slice_bounds-run-end c = sym (length-replicate {A = ℕ} 300000 0)
