@@ -16,6 +16,9 @@ pub fn file_other(rt: &HostRuntime, folder: &[u8]) {
     }
     let size = given.ok().map(|edition| edition.size);
     if file_io::replace_or_leave(rt, folder, b"other.wsh", &output, size) {
-        file_io::print(rt, edition_text::edition_line(given));
+        file_io::print(
+            rt,
+            edition_text::edition_line(given.map_err(|refusal| refusal.number())),
+        );
     }
 }

@@ -10,10 +10,9 @@ ghost use Rattle.files.specs.Sheet as Sheets;
 ghost use Rattle.files.specs.Sheet.{sheet_refusal_in};
 ghost use Rattle.factors.specs.Factors.{all_ones};
 ghost use Rattle.files.specs.Limits.{file_limit};
-ghost use Rattle.editions.specs.Rewritten.{rewritten};
 ghost use Rattle.editions.specs.Rewriting.{other_edition, edition_refusal};
 ghost use Rattle.text.specs.Texts.{Holds};
-ghost use Rattle.edition_text.specs.Lines.{edition_line, first_other, columns_line, factor_line, size_line, edition_detail};
+ghost use Rattle.edition_text.specs.Lines.{by_number, edition_line, first_other, columns_line, factor_line, size_line, edition_detail};
 
 use editions::Edition;
 use refusals::Refusal;
@@ -23,12 +22,12 @@ use text::Text;
 const MOST_BYTES: usize = 40000;
 
 // ENTRY. The line of what a conversion gave back: the edition and its bytes, or the number that refuses it.
-pub fn edition_line(given: Result<Edition, Refusal>) -> Text
-    ensures { Holds (edition_line (rewritten given)) result }
+pub fn edition_line(given: Result<Edition, u32>) -> Text
+    ensures { Holds (edition_line (by_number given)) result }
 {
     match given {
         Ok(e) => Text::empty().with_pair(b"edition ", e.number as u64, e.size as u64),
-        Err(refusal) => Text::empty().with_line(b"refused ", refusal.number() as u64),
+        Err(n) => Text::empty().with_line(b"refused ", n as u64),
     }
 }
 

@@ -8,7 +8,10 @@ use test_buffers::{between, u16_at};
 
 // Prints the line of a conversion; gives back how many bytes it wrote.
 fn size_of(rt: &HostRuntime, given: Result<Edition, Refusal>) -> usize {
-    file_io::print(rt, edition_text::edition_line(given));
+    file_io::print(
+        rt,
+        edition_text::edition_line(given.map_err(|refusal| refusal.number())),
+    );
     match given {
         Ok(e) => e.size,
         Err(_) => 0,
