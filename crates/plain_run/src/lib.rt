@@ -3,14 +3,18 @@
 // Helpers for other crates, whose callers prove what they require: clear, run.
 #![tactic(auto)]
 
-ghost use Rattle.std.specs.Prelude.{◌≡◌, ◌++◌, ◌≤◌, length, drop, replicate, option_copied};
+ghost use Rattle.std.specs.Prelude.{◌≡◌, ◌++◌, ◌*◌, ◌≤◌, length, drop, replicate, option_copied};
+ghost use Rattle.method.specs.Problem.{allowed_steps};
 ghost use Rattle.method.specs.Calls.{schedule_in, schedule_refusal};
 ghost use Rattle.method.specs.Plain.{plain_problem};
 ghost use Rattle.method.specs.Answers.{run_answer, run_iterate};
 ghost use Rattle.files.specs.Book.{boats};
 ghost use Rattle.files.specs.Sheet.{files_refusal};
+ghost use Rattle.files.specs.Sheet as Sheets;
+ghost use Rattle.iteration.specs.States.{file_layout, Holds};
+ghost use Rattle.run_loop.specs.Runs.{SharesAt};
 
-use iteration::State;
+use iteration::{Layout, State};
 use method::Answer;
 
 // Sets the first `count` slots to 0.
@@ -19,6 +23,43 @@ pub fn clear(list: &mut [u16], count: usize)
     ensures { list.new ≡ replicate count 0 ++ drop count list.old }
 {
     list[..count].fill(0);
+}
+
+// A run from its fresh state, in memory for so many boats' scores and so many products. What a function has in memory it clears when it is
+// called, so each size has a call of its own.
+fn run_in<const SCORES: usize, const PRODUCTS: usize>(
+    start: State,
+    steps: u32,
+    book: &[u8],
+    sheet: &[u8],
+    table: Option<&[u16]>,
+    layout: Layout,
+    shares: &mut [u16],
+) -> Answer
+    requires sheet_value { files_refusal book.now sheet.now ≡ 0 }
+    requires table_value { schedule_refusal (schedule_in (option_copied table)) ≡ 0 }
+    requires layout_value { layout ≡ file_layout book.now sheet.now }
+    requires steps_value { steps ≡ allowed_steps (schedule_in (option_copied table)) (Sheets.sheet sheet.now).steps }
+    requires holds { Holds (schedule_in (option_copied table)) book.now sheet.now 0 start }
+    requires shares_at { SharesAt (schedule_in (option_copied table)) book.now sheet.now 0 shares.old }
+    requires scores_room { (boats book.now ≤ SCORES) × (SCORES ≤ 256) }
+    requires products_room { (64 * boats book.now ≤ PRODUCTS) × (PRODUCTS ≤ 16384) }
+    ensures value { result ≡ run_answer (plain_problem (schedule_in (option_copied table.entry)) book.now sheet.now) }
+    ensures shares_after { shares.new ≡ (run_iterate (plain_problem (schedule_in (option_copied table.entry)) book.now sheet.now)).shares ++ drop (boats book.now) shares.old }
+{
+    let mut scores = [0i64; SCORES];
+    let mut memory = [0i32; PRODUCTS];
+    run_loop::run_from(
+        start,
+        steps,
+        book,
+        sheet,
+        table,
+        layout,
+        shares,
+        &mut scores,
+        &mut memory,
+    )
 }
 
 // The run of files and shares that are not refused, with every factor 1: steps until one stops it. It leaves the shares in the first slots, one a boat.
@@ -43,46 +84,10 @@ pub fn run(book: &[u8], sheet: &[u8], table: Option<&[u16]>, shares: &mut [u16])
         return answer;
     }
     if boats <= 16 {
-        let mut scores = [0i64; 16];
-        let mut memory = [0i32; 1024];
-        return run_loop::run_from(
-            start,
-            steps,
-            book,
-            sheet,
-            table,
-            layout,
-            shares,
-            &mut scores,
-            &mut memory,
-        );
+        return run_in::<16, 1024>(start, steps, book, sheet, table, layout, shares);
     }
     if boats <= 64 {
-        let mut scores = [0i64; 64];
-        let mut memory = [0i32; 4096];
-        return run_loop::run_from(
-            start,
-            steps,
-            book,
-            sheet,
-            table,
-            layout,
-            shares,
-            &mut scores,
-            &mut memory,
-        );
+        return run_in::<64, 4096>(start, steps, book, sheet, table, layout, shares);
     }
-    let mut scores = [0i64; 256];
-    let mut memory = [0i32; 16384];
-    run_loop::run_from(
-        start,
-        steps,
-        book,
-        sheet,
-        table,
-        layout,
-        shares,
-        &mut scores,
-        &mut memory,
-    )
+    run_in::<256, 16384>(start, steps, book, sheet, table, layout, shares)
 }
