@@ -129,6 +129,7 @@ fn word_after(columns: usize) -> usize
     5
 }
 
+// A byte of a CSV takes a table to the next. What it passes through is inlined, so that a reader's loop has the table in registers.
 impl Table {
     // Nothing was read.
     pub fn start() -> Table
@@ -267,6 +268,7 @@ impl Table {
     }
 
     #[tactic(auto, unfolding(crate::specs::Table::whole_line_ended, crate::specs::Table::next_line))]
+    #[inline(always)]
     fn whole_line_ended(self) -> Table
         requires { self.boats < 4294967296 }
         ensures { numbered result ≡ whole_line_ended (numbered self) }
@@ -290,6 +292,7 @@ impl Table {
 
     // A line without bytes is passed over.
     #[tactic(auto, unfolding(crate::specs::Table::line_ended))]
+    #[inline(always)]
     fn line_ended(self) -> Table
         requires { self.boats < 4294967296 }
         ensures { numbered result ≡ line_ended (numbered self) }
@@ -318,6 +321,7 @@ impl Table {
     }
 
     #[tactic(auto, unfolding(crate::specs::Table::consumed))]
+    #[inline(always)]
     fn consumed(self, token: Token) -> Table
         requires { self.boats < 4294967296 }
         ensures { numbered result ≡ consumed (numbered self) (token_number token) }
@@ -335,6 +339,7 @@ impl Table {
 
     // What was read with one token more.
     #[tactic(auto, unfolding(crate::specs::Table::after))]
+    #[inline(always)]
     pub fn after(self, token: Token) -> Table
         requires { self.boats < 4294967296 }
         ensures { numbered result ≡ after (numbered self) (token_number token) }
