@@ -24,6 +24,7 @@ pub fn put_bytes(output: &mut [u8], at: usize, bytes: &[u8])
     requires { at + length bytes.now ≤ length output.old }
     ensures { output.new ≡ placed output.old at bytes.now }
 {
-    let end = at + bytes.len();
-    output[at..end].copy_from_slice(bytes);
+    for i in 0..bytes.len() {
+        output[at + i] = bytes[i];
+    }
 }

@@ -1,13 +1,14 @@
--- `buffers::put_bytes` meets its contract: the bytes are the part that is lent.
-use Prim.Native.Nat.{◌+◌}
+-- `buffers::put_bytes` meets its contract: the bytes that are left are still to be put.
+use borrow.Author.Rules.{rules}
 use native.Mathlib.Omega.{arith}
-use borrow.Rule.Slice.PartMut.{Post-is}
-use lib.ListN.{length}
-use Rattle.buffers.specs.Placed.{placed}
+use Rattle.buffers.proofs.Writing.{copying_start, copying_more, copying_end}
 use Rattle.buffers.proofs.put_bytes.Goals as goal
 
+pub loop-i-init : goal.loop-i-init
+loop-i-init c = copying_start
+
+pub loop-i-preserved : goal.loop-i-preserved
+loop-i-preserved c = search (rules, copying_more)
+
 pub returns : goal.returns
-unfolding placed
-returns c =
-    let at = c.args.at in
-    rw (Post-is at (at + length c.args.bytes.now) c.args.output.now (omega arith), c.copy_from_slice.ensures.after)
+returns c = search (rules, copying_end)
