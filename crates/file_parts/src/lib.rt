@@ -3,11 +3,9 @@
 // Helpers for other crates, whose callers prove what they require: is_between, body_refusal.
 #![tactic(auto)]
 
-ghost use Rattle.std.specs.Prelude.{◌≡◌, ◌+◌, ◌*◌, ◌≤◌, ◌<◌, length, drop};
+ghost use Rattle.std.specs.Prelude.{ℕ, ◌≡◌, ◌+◌, ◌*◌, ◌≤◌, ◌<◌, length, drop};
 ghost use Rattle.files.specs.Bytes.{value, values, in_range, all_in_range, between, body_refusal};
-ghost use Rattle.refusals.specs.Numbers.{number, refusal_number};
-
-use refusals::Refusal;
+ghost use Rattle.file_parts.specs.Reasons.{told};
 
 // Whether 16 bits hold a value in range: from -2,000 they count 0 to 4,000.
 fn value_in_range(v: u32) -> bool
@@ -42,17 +40,18 @@ pub fn is_between(least: usize, most: usize, x: usize) -> bool
 }
 
 // Whether a body that is to have `back` bytes, and begins with `count` values, before a trailer of `size` bytes, is refused:
-// for `place` where the back count is wrong or reaches too far, for `range` where a value is out of range.
-pub fn body_refusal(
+// for `place` where the back count is wrong or reaches too far, for `range` where a value is out of range. The two reasons are the caller's, of any
+// type: a Refusal, or numbers.
+pub fn body_refusal<R: Copy>(
     b: &[u8],
     size: usize,
     back: usize,
     count: usize,
-    place: Refusal,
-    range: Refusal,
-) -> Result<(), Refusal>
+    place: R,
+    range: R,
+) -> Result<(), R>
     requires { (4 ≤ size) × (size ≤ length b.now) × (2 * count ≤ back) }
-    ensures { refusal_number result ≡ body_refusal size back count (number place) (number range) b.now }
+    ensures { (said : R → ℕ) → told said result ≡ body_refusal size back count (said place) (said range) b.now }
 {
     let room = b.len() - size;
     let own = files::u32_at(b, room) as usize;

@@ -1,9 +1,11 @@
 -- `validation::book_refusal` meets its contract: a law of `Refusal` for each return. The passed tests bound what the calls require.
 use native.Mathlib.Omega.{arith}
-use mathlib.Core.Path.{ap}
+use mathlib.Core.Path.{ap, ◌∙◌}
 use mathlib.Core.Bool.{not}
 use borrow.Author.Rules.{rules}
 use Rattle.files.proofs.Refusal.{at_least, few_values, book_length_out, book_letters_differ, boats_out, columns_out, book_body}
+use Rattle.refusals.specs.Numbers.{number}
+use Rattle.validation.proofs.Reasons.{numbered}
 use Rattle.validation.proofs.book_refusal.Goals as goal
 
 pub returns-then-not-is_between : goal.returns-then-not-is_between
@@ -37,4 +39,4 @@ pub body_refusal-requires : goal.body_refusal-requires
 body_refusal-requires c = (search rules, search (rules, at_least), omega (arith, few_values _ _ _ _ c.is_between-2.ensures (ap not c.if-not-is_between-2.false) c.is_between-3.ensures (ap not c.if-not-is_between-3.false)))
 
 pub returns : goal.returns
-returns c = book_body _ _ c.is_between.ensures (ap not c.if-not-is_between.false) _ c.ends_with.ensures (ap not c.if-not-ends_with.false) _ c.boats-n.ensures _ c.is_between-2.ensures (ap not c.if-not-is_between-2.false) _ c.columns-c.ensures.value _ c.is_between-3.ensures (ap not c.if-not-is_between-3.false) _ c.body_refusal.ensures
+returns c = book_body _ _ c.is_between.ensures (ap not c.if-not-is_between.false) _ c.ends_with.ensures (ap not c.if-not-ends_with.false) _ c.boats-n.ensures _ c.is_between-2.ensures (ap not c.if-not-is_between-2.false) _ c.columns-c.ensures.value _ c.is_between-3.ensures (ap not c.if-not-is_between-3.false) _ (numbered _ ∙ c.body_refusal.ensures number)

@@ -5,6 +5,7 @@ use borrow.Author.Rules.{rules}
 use Rattle.files.proofs.Accepted.{body_whole}
 use Rattle.files.proofs.Refusal.{at_least, sheet_length_out, sheet_letters_differ, columns_differ, steps_out, tolerance_out, body_refused, factors_out, factors_in}
 use Rattle.refusals.proofs.Numbers.{positive, passed_on}
+use Rattle.refusals.specs.Numbers.{number}
 use Rattle.validation.proofs.sheet_refusal_in.Goals as goal
 
 pub returns-then-not-is_between : goal.returns-then-not-is_between
@@ -41,13 +42,13 @@ pub body_refusal-requires : goal.body_refusal-requires
 body_refusal-requires c = (search rules, search (rules, at_least), search rules)
 
 pub returns-in_err-body_refusal : goal.returns-in_err-body_refusal
-returns-in_err-body_refusal c = passed_on _ _ c.from_residual.ensures (body_refused _ _ _ _ c.is_between.ensures (ap not c.if-not-is_between.false) _ c.is_lettered.ensures (ap not c.if-not-is_lettered.false) _ c.sheet_columns-columns.ensures.value _ c.is_between-2.ensures (ap not c.if-not-is_between-2.false) _ c.steps.ensures _ c.is_between-3.ensures (ap not c.if-not-is_between-3.false) _ c.tolerance.ensures c.if-tolerance-gt1024000000.false _ c.sheet_back-back.ensures _ c.in_err-body_refusal.ensures (positive _))
+returns-in_err-body_refusal c = passed_on _ _ c.from_residual.ensures (body_refused _ _ _ _ c.is_between.ensures (ap not c.if-not-is_between.false) _ c.is_lettered.ensures (ap not c.if-not-is_lettered.false) _ c.sheet_columns-columns.ensures.value _ c.is_between-2.ensures (ap not c.if-not-is_between-2.false) _ c.steps.ensures _ c.is_between-3.ensures (ap not c.if-not-is_between-3.false) _ c.tolerance.ensures c.if-tolerance-gt1024000000.false _ c.sheet_back-back.ensures _ (c.in_err-body_refusal.ensures number) (positive _))
 
 pub factor_total-requires : goal.factor_total-requires
-factor_total-requires c = body_whole _ _ (search (rules, at_least)) c.sheet_back-back.ensures c.in_ok-body_refusal.ensures refl
+factor_total-requires c = body_whole _ _ (search (rules, at_least)) c.sheet_back-back.ensures (c.in_ok-body_refusal.ensures number) refl
 
 pub returns-then-not-is_between-4 : goal.returns-then-not-is_between-4
-returns-then-not-is_between-4 c = factors_out _ _ _ _ c.is_between.ensures (ap not c.if-not-is_between.false) _ c.is_lettered.ensures (ap not c.if-not-is_lettered.false) _ c.sheet_columns-columns.ensures.value _ c.is_between-2.ensures (ap not c.if-not-is_between-2.false) _ c.steps.ensures _ c.is_between-3.ensures (ap not c.if-not-is_between-3.false) _ c.tolerance.ensures c.if-tolerance-gt1024000000.false _ c.sheet_back-back.ensures _ c.in_ok-body_refusal.ensures refl _ c.factor_total.ensures _ c.is_between-4.ensures (ap not c.if-not-is_between-4.true)
+returns-then-not-is_between-4 c = factors_out _ _ _ _ c.is_between.ensures (ap not c.if-not-is_between.false) _ c.is_lettered.ensures (ap not c.if-not-is_lettered.false) _ c.sheet_columns-columns.ensures.value _ c.is_between-2.ensures (ap not c.if-not-is_between-2.false) _ c.steps.ensures _ c.is_between-3.ensures (ap not c.if-not-is_between-3.false) _ c.tolerance.ensures c.if-tolerance-gt1024000000.false _ c.sheet_back-back.ensures _ (c.in_ok-body_refusal.ensures number) refl _ c.factor_total.ensures _ c.is_between-4.ensures (ap not c.if-not-is_between-4.true)
 
 pub returns : goal.returns
-returns c = factors_in _ _ _ _ c.is_between.ensures (ap not c.if-not-is_between.false) _ c.is_lettered.ensures (ap not c.if-not-is_lettered.false) _ c.sheet_columns-columns.ensures.value _ c.is_between-2.ensures (ap not c.if-not-is_between-2.false) _ c.steps.ensures _ c.is_between-3.ensures (ap not c.if-not-is_between-3.false) _ c.tolerance.ensures c.if-tolerance-gt1024000000.false _ c.sheet_back-back.ensures _ c.in_ok-body_refusal.ensures refl _ c.factor_total.ensures _ c.is_between-4.ensures (ap not c.if-not-is_between-4.false)
+returns c = factors_in _ _ _ _ c.is_between.ensures (ap not c.if-not-is_between.false) _ c.is_lettered.ensures (ap not c.if-not-is_lettered.false) _ c.sheet_columns-columns.ensures.value _ c.is_between-2.ensures (ap not c.if-not-is_between-2.false) _ c.steps.ensures _ c.is_between-3.ensures (ap not c.if-not-is_between-3.false) _ c.tolerance.ensures c.if-tolerance-gt1024000000.false _ c.sheet_back-back.ensures _ (c.in_ok-body_refusal.ensures number) refl _ c.factor_total.ensures _ c.is_between-4.ensures (ap not c.if-not-is_between-4.false)

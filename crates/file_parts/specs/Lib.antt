@@ -1,0 +1,2 @@
+-- What the tests of the parts of a file give back.
+pub mod Reasons
