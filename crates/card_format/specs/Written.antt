@@ -13,3 +13,8 @@ pub data Written : Type 0 where
 abbrev pub written : Result FiledCard Refusal → Written
 written (Ok f) = Filed f.answer f.size
 written (Err r) = Refused (number r)
+
+-- the same where any number may refuse
+abbrev pub written_by : Result FiledCard ℕ → Written
+written_by (Ok f) = Filed f.answer f.size
+written_by (Err n) = Refused n

@@ -12,7 +12,7 @@ pub fn file_other(rt: &HostRuntime, folder: &[u8]) {
     let mut output = [0u8; 40000];
     let given = other_edition::other_edition(&sheet[..n], &mut output);
     if let Err(refusal) = given {
-        file_io::tell_text(rt, edition_text::known_detail(&sheet[..n], refusal));
+        file_io::tell_text(rt, edition_text::known_detail(&sheet[..n], Err(refusal)));
     }
     let size = given.ok().map(|edition| edition.size);
     if file_io::replace_or_leave(rt, folder, b"other.wsh", &output, size) {

@@ -1,9 +1,8 @@
 -- The line of a conversion, and what is known of a refusal, in one line. Definitions only.
-use Rattle.std.specs.Prelude.{cond, List, [], ◌∷◌, ◌++◌, ℕ, suc, ◌+◌, eqb, length, get_or, Result, Ok, Err}
+use Rattle.std.specs.Prelude.{cond, List, [], ◌∷◌, ◌++◌, ℕ, suc, ◌+◌, eqb, length, get_or}
 use Rattle.files.specs.Sheet.{sheet_columns, sheet}
 use Rattle.text.specs.Decimal.{decimal}
 use Rattle.text.specs.Lines.{number_line, pair_line}
-use Rattle.editions.specs.declared.Edition.{Edition}
 use Rattle.editions.specs.Rewritten.{Rewritten, Refused, Wrote}
 use Rattle.editions.specs.Rewriting.{other_edition}
 
@@ -46,11 +45,6 @@ abbrev pub BYTES_LIMIT : List ℕ
 BYTES_LIMIT = 32 ∷ 98 ∷ 121 ∷ 116 ∷ 101 ∷ 115 ∷ 44 ∷ 32 ∷ 109 ∷ 111 ∷ 114 ∷ 101 ∷ 32 ∷ 116 ∷ 104 ∷ 97 ∷ 110 ∷ 32 ∷ 52 ∷ 48 ∷ 48 ∷ 48 ∷ 48 ∷ []
 
 -- ---- the line of a conversion: the edition and the bytes that were written, or the number that refuses
-
--- a conversion of which any number says that it is refused
-abbrev pub by_number : Result Edition ℕ → Rewritten
-by_number (Ok e) = Wrote e.number e.size
-by_number (Err n) = Refused n
 
 unfoldable pub edition_line : Rewritten → List ℕ
 edition_line (Refused n) = number_line REFUSED n

@@ -5,14 +5,15 @@
 #![tactic(auto)]
 
 ghost use Rattle.std.specs.Prelude.{◌≡◌, false, ◌≤◌, ◌<◌, length};
-ghost use Rattle.refusals.specs.Numbers.{number};
+ghost use Rattle.refusals.specs.Numbers.{number, refusal_number};
 ghost use Rattle.files.specs.Sheet as Sheets;
 ghost use Rattle.files.specs.Sheet.{sheet_refusal_in};
 ghost use Rattle.factors.specs.Factors.{all_ones};
 ghost use Rattle.files.specs.Limits.{file_limit};
+ghost use Rattle.editions.specs.Rewritten.{rewritten_by};
 ghost use Rattle.editions.specs.Rewriting.{other_edition, edition_refusal};
 ghost use Rattle.text.specs.Texts.{Holds};
-ghost use Rattle.edition_text.specs.Lines.{by_number, edition_line, first_other, columns_line, factor_line, size_line, edition_detail};
+ghost use Rattle.edition_text.specs.Lines.{edition_line, first_other, columns_line, factor_line, size_line, edition_detail};
 
 use editions::Edition;
 use refusals::Refusal;
@@ -23,7 +24,7 @@ const MOST_BYTES: usize = 40000;
 
 // ENTRY. The line of what a conversion gave back: the edition and its bytes, or the number that refuses it.
 pub fn edition_line(given: Result<Edition, u32>) -> Text
-    ensures { Holds (edition_line (by_number given)) result }
+    ensures { Holds (edition_line (rewritten_by given)) result }
 {
     match given {
         Ok(e) => Text::empty().with_pair(b"edition ", e.number as u64, e.size as u64),
@@ -81,9 +82,9 @@ fn size_line(sheet: &[u8], size: usize) -> Text
     told.with_bytes(b"\n")
 }
 
-// What is known of a refusal of a sheet's conversion, in one line; no text where the number alone is known. The caller proves that it is the
-// refusal for an output of 40,000 bytes, so the sheet is not judged again.
-pub fn known_detail(sheet: &[u8], refusal: Refusal) -> Text
+// What is known of a reason that refuses a sheet's conversion into an output of 40,000 bytes, in one line; no text where the number alone is
+// known.
+fn reason_detail(sheet: &[u8], refusal: Refusal) -> Text
     requires { number refusal ≡ edition_refusal sheet.now file_limit }
     ensures { Holds (edition_detail sheet.now (number refusal)) result }
 {
@@ -98,13 +99,22 @@ pub fn known_detail(sheet: &[u8], refusal: Refusal) -> Text
     }
 }
 
+// What is known of a refusal of a sheet's conversion, in one line; no text where nothing is refused, or the number alone is known. The caller
+// proves that this is what a conversion into an output of 40,000 bytes comes to, so the sheet is not judged again.
+pub fn known_detail(sheet: &[u8], judged: Result<(), Refusal>) -> Text
+    requires { refusal_number judged ≡ edition_refusal sheet.now file_limit }
+    ensures { Holds (edition_detail sheet.now (refusal_number judged)) result }
+{
+    match judged {
+        Ok(()) => Text::empty(),
+        Err(refusal) => reason_detail(sheet, refusal),
+    }
+}
+
 // ENTRY. What is known of the refusal of a sheet's conversion into an output of 40,000 bytes, in one line; no text where nothing is refused, or
 // the number alone is known.
 pub fn edition_detail(sheet: &[u8]) -> Text
     ensures { Holds (edition_detail sheet.now (edition_refusal sheet.now file_limit)) result }
 {
-    match other_edition::refusal_in(sheet, MOST_BYTES) {
-        Ok(()) => Text::empty(),
-        Err(refusal) => known_detail(sheet, refusal),
-    }
+    known_detail(sheet, other_edition::refusal_in(sheet, MOST_BYTES))
 }

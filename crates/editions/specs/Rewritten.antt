@@ -12,3 +12,8 @@ pub data Rewritten : Type 0 where
 abbrev pub rewritten : Result Edition Refusal → Rewritten
 rewritten (Ok e) = Wrote e.number e.size
 rewritten (Err r) = Refused (number r)
+
+-- the same where any number may refuse
+abbrev pub rewritten_by : Result Edition ℕ → Rewritten
+rewritten_by (Ok e) = Wrote e.number e.size
+rewritten_by (Err n) = Refused n

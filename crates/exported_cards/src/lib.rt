@@ -33,7 +33,7 @@ pub fn dofitrano_check_card(book: &[u8], sheet: &[u8], card: &[u8], shares: &mut
     ensures check_right { CheckRight book.now sheet.now card.now (outcome (check_refusal book.now sheet.now card.now (length shares.old)) (card_answer book.now sheet.now card.now)) shares.new }
 {
     let found = card::check_card(book, sheet, card, &mut *shares);
-    exported_types::reply_of(found)
+    exported_types::reply_to(found)
 }
 
 // ENTRY. The card writer for other languages: the reply of `write_card` for these files and this buffer, and its bytes afterwards.
@@ -43,7 +43,7 @@ pub fn dofitrano_write_card(book: &[u8], sheet: &[u8], output: &mut [u8]) -> Car
     ensures filing_right { FilingRight book.now sheet.now (filing (write_refusal book.now sheet.now (length output.old)) (run_answer (problem book.now sheet.now)) (length (run_card book.now sheet.now))) output.new }
 {
     let written = written_card::write_card(book, sheet, &mut *output);
-    exported_types::card_reply_of(written)
+    exported_types::card_reply_to(written)
 }
 
 // ENTRY. The card check with a released set and a lent table for other languages: the reply of `check_card_with`, and the share list's slots afterwards.
@@ -63,7 +63,7 @@ pub fn dofitrano_check_card_with(
 {
     let own_table = exported_types::lent_table(lent, table);
     let found = card::check_card_with(book, sheet, released, own_table, card, &mut *shares);
-    exported_types::reply_of(found)
+    exported_types::reply_to(found)
 }
 
 // ENTRY. The card writer with a released set and a lent table for other languages: the reply of `write_card_with`, and the buffer's bytes afterwards.
@@ -82,7 +82,7 @@ pub fn dofitrano_write_card_with(
 {
     let own_table = exported_types::lent_table(lent, table);
     let written = written_card::write_card_with(book, sheet, released, own_table, &mut *output);
-    exported_types::card_reply_of(written)
+    exported_types::card_reply_to(written)
 }
 
 // ENTRY. The better of two cards for other languages: which card, offset and length of its body and trailer, or the refusal, as `choose`
@@ -108,5 +108,5 @@ pub fn dofitrano_work_over(
     ensures working_right { WorkingRight (set_terms released) book.now sheet.now moves (filing (work_refusal (set_terms released) book.now sheet.now moves (length output.old)) (worked_answer (call_problem (set_terms released) book.now sheet.now) moves) (length (worked_card (set_terms released) book.now sheet.now moves))) output.new }
 {
     let written = worked_card::work_over(book, sheet, released, moves, &mut *output);
-    exported_types::card_reply_of(written)
+    exported_types::card_reply_to(written)
 }

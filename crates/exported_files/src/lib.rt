@@ -85,7 +85,7 @@ pub fn dofitrano_other_edition(sheet: &[u8], output: &mut [u8]) -> EditionReply
     ensures edition_right { EditionRight sheet.now (rewriting (edition_refusal sheet.now (length output.old)) (other_number sheet.now) (length (other_edition sheet.now))) output.new }
 {
     let given = other_edition::other_edition(sheet, &mut *output);
-    exported_types::edition_reply_of(given)
+    exported_types::edition_reply_to(given)
 }
 
 // ENTRY. One fleet book from two for other languages: what `merge_books` gives back for these books and this buffer, and its bytes

@@ -27,7 +27,7 @@ pub fn dofitrano_search(book: &[u8], sheet: &[u8], shares: &mut [u16]) -> Reply
     ensures outcome_right { OutcomeRight book.now sheet.now (outcome (search_refusal book.now sheet.now (length shares.old)) (run_answer (problem book.now sheet.now))) shares.new }
 {
     let found = search::search(book, sheet, &mut *shares);
-    exported_types::reply_of(found)
+    exported_types::reply_to(found)
 }
 
 // ENTRY. The search with a released set and a lent table for other languages: the reply of `search_with`, and the share list's slots afterwards.
@@ -46,7 +46,7 @@ pub fn dofitrano_search_with(
 {
     let own_table = exported_types::lent_table(lent, table);
     let found = search::search_with(book, sheet, released, own_table, &mut *shares);
-    exported_types::reply_of(found)
+    exported_types::reply_to(found)
 }
 
 // ENTRY. The listing of a search for other languages, put into the first bytes of `output`: how many bytes it has. Later bytes are as

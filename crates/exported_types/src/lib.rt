@@ -1,13 +1,14 @@
 // What the entries give back as plain numbers, for programs in other languages, and a table that these lend.
 //
-// Helpers, which ask nothing of their caller: lent_table, reply_of, card_reply_of, edition_reply_of.
+// Helpers, which ask nothing of their caller: lent_table, reply_of, card_reply_of, edition_reply_of, which take any number of a refusal, and
+// reply_to, card_reply_to, edition_reply_to, which take its reason.
 #![tactic(auto)]
 
 ghost use Rattle.std.specs.Prelude.{◌≡◌, option_copied};
 ghost use Rattle.method.specs.Calls.{lent_table};
-ghost use Rattle.method.specs.Searched.{searched};
-ghost use Rattle.card_format.specs.Written.{written};
-ghost use Rattle.editions.specs.Rewritten.{rewritten};
+ghost use Rattle.method.specs.Searched.{searched, searched_by};
+ghost use Rattle.card_format.specs.Written.{written, written_by};
+ghost use Rattle.editions.specs.Rewritten.{rewritten, rewritten_by};
 ghost use Rattle.exported_types.specs.Replies.{floor_of, shortfall_of, reply_of, card_reply_of, edition_reply_of};
 
 use card_format::FiledCard;
@@ -67,13 +68,13 @@ fn shortfall_of(v: Verdict) -> u64
     }
 }
 
-// A refusal or an answer as plain numbers.
-pub fn reply_of(found: Result<Answer, Refusal>) -> Reply
-    ensures { result ≡ reply_of (searched found) }
+// The number of a refusal, or an answer, as plain numbers.
+pub fn reply_of(found: Result<Answer, u32>) -> Reply
+    ensures { result ≡ reply_of (searched_by found) }
 {
     match found {
-        Err(r) => Reply {
-            refusal: r.number(),
+        Err(refusal) => Reply {
+            refusal,
             verdict: 0,
             steps: 0,
             weight: 0,
@@ -98,6 +99,16 @@ pub fn reply_of(found: Result<Answer, Refusal>) -> Reply
     }
 }
 
+// What a search or a card check gives back as plain numbers.
+pub fn reply_to(found: Result<Answer, Refusal>) -> Reply
+    ensures { result ≡ reply_of (searched found) }
+{
+    match found {
+        Err(r) => reply_of(Err(r.number())),
+        Ok(a) => reply_of(Ok(a)),
+    }
+}
+
 // The reply of the card writer. A refused call has 0 in `bytes`: nothing was written.
 #[repr(C)]
 #[derive(Clone, Copy)]
@@ -108,13 +119,13 @@ pub struct CardReply {
     pub bytes: usize,
 }
 
-// What the card writer gives back as plain numbers.
-pub fn card_reply_of(filed: Result<FiledCard, Refusal>) -> CardReply
-    ensures { result ≡ card_reply_of (written filed) }
+// The number of a refusal, or a card that was written, as plain numbers.
+pub fn card_reply_of(filed: Result<FiledCard, u32>) -> CardReply
+    ensures { result ≡ card_reply_of (written_by filed) }
 {
     match filed {
-        Err(r) => {
-            let reply = reply_of(Err(r));
+        Err(refusal) => {
+            let reply = reply_of(Err(refusal));
             CardReply { reply, bytes: 0 }
         }
         Ok(card) => {
@@ -124,6 +135,16 @@ pub fn card_reply_of(filed: Result<FiledCard, Refusal>) -> CardReply
                 bytes: card.size,
             }
         }
+    }
+}
+
+// What the card writer gives back as plain numbers.
+pub fn card_reply_to(filed: Result<FiledCard, Refusal>) -> CardReply
+    ensures { result ≡ card_reply_of (written filed) }
+{
+    match filed {
+        Err(r) => card_reply_of(Err(r.number())),
+        Ok(card) => card_reply_of(Ok(card)),
     }
 }
 
@@ -139,13 +160,13 @@ pub struct EditionReply {
     pub bytes: usize,
 }
 
-// What a conversion gives back as plain numbers.
-pub fn edition_reply_of(given: Result<Edition, Refusal>) -> EditionReply
-    ensures { result ≡ edition_reply_of (rewritten given) }
+// The number of a refusal, or an edition that was written, as plain numbers.
+pub fn edition_reply_of(given: Result<Edition, u32>) -> EditionReply
+    ensures { result ≡ edition_reply_of (rewritten_by given) }
 {
     match given {
-        Err(r) => EditionReply {
-            refusal: r.number(),
+        Err(refusal) => EditionReply {
+            refusal,
             edition: 0,
             bytes: 0,
         },
@@ -154,5 +175,15 @@ pub fn edition_reply_of(given: Result<Edition, Refusal>) -> EditionReply
             edition: e.number,
             bytes: e.size,
         },
+    }
+}
+
+// What a conversion gives back as plain numbers.
+pub fn edition_reply_to(given: Result<Edition, Refusal>) -> EditionReply
+    ensures { result ≡ edition_reply_of (rewritten given) }
+{
+    match given {
+        Err(r) => edition_reply_of(Err(r.number())),
+        Ok(e) => edition_reply_of(Ok(e)),
     }
 }

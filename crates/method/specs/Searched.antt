@@ -12,3 +12,8 @@ pub data Searched : Type 0 where
 abbrev pub searched : Result Answer Refusal → Searched
 searched (Ok a) = Answered a
 searched (Err r) = Refused (number r)
+
+-- the same where any number may refuse
+abbrev pub searched_by : Result Answer ℕ → Searched
+searched_by (Ok a) = Answered a
+searched_by (Err n) = Refused n

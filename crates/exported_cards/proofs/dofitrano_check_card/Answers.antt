@@ -7,4 +7,4 @@ use borrow.Author.Rules.{rules}
 use Rattle.exported_cards.proofs.dofitrano_check_card.Goals as goal
 
 pub returns : goal.returns
-returns c = record { value = c.reply_of.ensures ∙ ap reply_of c.check_card-found.ensures.value; shares_after = c.check_card-found.ensures.shares_after; check_right = checked_right plain_terms _ _ _ c.check_card-found.ensures.value c.check_card-found.ensures.shares_after c.check_card-found.ensures.check_right }
+returns c = record { value = c.reply_to.ensures ∙ ap reply_of c.check_card-found.ensures.value; shares_after = c.check_card-found.ensures.shares_after; check_right = checked_right plain_terms _ _ _ c.check_card-found.ensures.value c.check_card-found.ensures.shares_after c.check_card-found.ensures.check_right }

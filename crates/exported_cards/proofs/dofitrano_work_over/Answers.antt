@@ -7,4 +7,4 @@ use borrow.Author.Rules.{rules}
 use Rattle.exported_cards.proofs.dofitrano_work_over.Goals as goal
 
 pub returns : goal.returns
-returns c = record { value = c.card_reply_of.ensures ∙ ap card_reply_of c.work_over-written.ensures.value; output_after = c.work_over-written.ensures.output_after; working_right = worked_right (set_terms c.args.released) _ _ _ c.work_over-written.ensures.value c.work_over-written.ensures.output_after c.work_over-written.ensures.working_right }
+returns c = record { value = c.card_reply_to.ensures ∙ ap card_reply_of c.work_over-written.ensures.value; output_after = c.work_over-written.ensures.output_after; working_right = worked_right (set_terms c.args.released) _ _ _ c.work_over-written.ensures.value c.work_over-written.ensures.output_after c.work_over-written.ensures.working_right }

@@ -7,4 +7,4 @@ use borrow.Author.Rules.{rules}
 use Rattle.exported_cards.proofs.dofitrano_write_card.Goals as goal
 
 pub returns : goal.returns
-returns c = record { value = c.card_reply_of.ensures ∙ ap card_reply_of c.write_card-written.ensures.value; output_after = c.write_card-written.ensures.output_after; filing_right = filed_right plain_terms _ _ c.write_card-written.ensures.value c.write_card-written.ensures.output_after c.write_card-written.ensures.filing_right }
+returns c = record { value = c.card_reply_to.ensures ∙ ap card_reply_of c.write_card-written.ensures.value; output_after = c.write_card-written.ensures.output_after; filing_right = filed_right plain_terms _ _ c.write_card-written.ensures.value c.write_card-written.ensures.output_after c.write_card-written.ensures.filing_right }

@@ -7,4 +7,4 @@ use borrow.Author.Rules.{rules}
 use Rattle.exported_search.proofs.dofitrano_search.Goals as goal
 
 pub returns : goal.returns
-returns c = record { value = c.reply_of.ensures ∙ ap reply_of c.search-found.ensures.value; shares_after = c.search-found.ensures.shares_after; outcome_right = searched_right plain_terms _ _ c.search-found.ensures.value c.search-found.ensures.shares_after c.search-found.ensures.outcome_right }
+returns c = record { value = c.reply_to.ensures ∙ ap reply_of c.search-found.ensures.value; shares_after = c.search-found.ensures.shares_after; outcome_right = searched_right plain_terms _ _ c.search-found.ensures.value c.search-found.ensures.shares_after c.search-found.ensures.outcome_right }

@@ -13,7 +13,7 @@ returns c =
     let right = rw e at c.search_with-found.ensures.outcome_right_with in
     let none = rw e at c.search_with-found.ensures.table_value in
     record {
-      value = c.reply_of.ensures ∙ ap reply_of value;
+      value = c.reply_to.ensures ∙ ap reply_of value;
       shares_after = slots;
       outcome_right_with = searched_right (call_terms c.args.released c.args.lent c.args.table.now) _ _ value slots right;
       table_value = λ a b. none a (ap (λ l. lent_table l c.args.table.now) b);
