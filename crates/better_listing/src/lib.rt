@@ -20,7 +20,7 @@ fn part_text(book: &[u8], sheet: &[u8], part: &[u8], refusal: u32) -> Text
     ensures { Holds (part_listing book.now sheet.now part.now refusal) result }
 {
     if refusal != 0 {
-        return Text::empty().with_line(b"refused ", refusal as u64);
+        return listing::refused_listing(refusal);
     }
     card_listing::judged_text(book, sheet, part)
 }

@@ -37,7 +37,7 @@ pub fn card_text(book: &[u8], sheet: &[u8], filed: &[u8]) -> Listed
 {
     let mut shares = [0u16; 256];
     let outcome = card::check_card(book, sheet, filed, &mut shares);
-    listing::outcome_listing(book, sheet, outcome, shares)
+    listing::listing_of(book, sheet, outcome, shares)
 }
 
 // The listing of a card of files that were accepted, which are not judged again.
@@ -47,7 +47,7 @@ pub fn judged_text(book: &[u8], sheet: &[u8], filed: &[u8]) -> Text
 {
     let mut shares = [0u16; 256];
     let outcome = card::judge_card(book, sheet, filed, &mut shares);
-    let listed = listing::outcome_listing(book, sheet, outcome, shares);
+    let listed = listing::listing_of(book, sheet, outcome, shares);
     listed.text
 }
 
@@ -68,7 +68,7 @@ fn filing_of(book: &[u8], sheet: &[u8], reply: Result<FiledCard, Refusal>, buffe
     match reply {
         Err(refusal) => Filing {
             filed: Err(refusal),
-            text: listing::refused_listing(refusal),
+            text: listing::reason_listing(refusal),
         },
         Ok(card) => Filing {
             filed: Ok(card.size),

@@ -15,10 +15,10 @@ use Rattle.method.specs.declared.Answer.{Answer}
 use Rattle.std.specs.Prelude.{Result, Ok, Err}
 use Rattle.refusals.specs.declared.Refusal.{Refusal}
 use Rattle.refusals.specs.Numbers.{number, refusal_number}
-use Rattle.method.specs.Searched.{Searched, Answered, searched}
+use Rattle.method.specs.Searched.{Searched, Answered, searched, searched_by}
 use Rattle.method.specs.Answers as Answers
 use Rattle.method.specs.Answers.{outcome, search_refusal, slots_after, search_refusal_with}
-use Rattle.listing.specs.Lines.{refused_line, boat_lines, head_lines, listing_of, outcome_listing, Listable}
+use Rattle.listing.specs.Lines.{refused_line, boat_lines, head_lines, listing_of, outcome_listing, Listable, error_number}
 use Rattle.text.specs.Texts.{Holds, Adds}
 use Rattle.text.specs.declared.Text.{Text}
 use Rattle.text.proofs.Texts.{adds_to_empty, holds_more}
@@ -52,6 +52,20 @@ outcome_listed b s slots a q h = rw q (refl, h)
 pub listable_files : {r : Result Answer Refusal} (b s : List ℕ) (a : Answer) → r ≡ Ok a → Listable b s (searched r) → files_refusal b s ≡ 0
 unfolding Listable
 listable_files b s a q h = rw q at h
+
+-- the same where any number may refuse
+pub number_listed : {t : Text} {r : Result Answer ℕ} (b s slots : List ℕ) (n : ℕ) → r ≡ Err n → Holds (refused_line n) t →
+    (n ≡ error_number r) × Holds (outcome_listing b s (searched_by r) slots) t
+unfolding outcome_listing
+number_listed b s slots n q h = rw q (refl, h)
+
+pub result_listed : {t : Text} {r : Result Answer ℕ} (b s slots : List ℕ) (a : Answer) → r ≡ Ok a → Holds (outcome_listing b s (Answered a) slots) t →
+    (0 ≡ error_number r) × Holds (outcome_listing b s (searched_by r) slots) t
+result_listed b s slots a q h = rw q (refl, h)
+
+pub numbered_files : {r : Result Answer ℕ} (b s : List ℕ) (a : Answer) → r ≡ Ok a → Listable b s (searched_by r) → files_refusal b s ≡ 0
+unfolding Listable
+numbered_files b s a q h = rw q at h
 
 -- the number that a search or a card check comes to is that of what the code gives back
 pub number_searched : (r : Result Answer Refusal) → Answers.refusal_number (searched r) ≡ refusal_number r

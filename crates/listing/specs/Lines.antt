@@ -1,5 +1,5 @@
 -- The listing of an answer, line by line, as ASCII bytes. Definitions only. Assumes nothing.
-use Rattle.std.specs.Prelude.{◌≡◌, List, [], ◌∷◌, ◌++◌, ℕ, zero, suc, take}
+use Rattle.std.specs.Prelude.{◌≡◌, Result, Ok, Err, List, [], ◌∷◌, ◌++◌, ℕ, zero, suc, take}
 use Rattle.files.specs.Book.{boats, columns}
 use Rattle.files.specs.Sheet.{sheet, files_refusal}
 use Rattle.method.specs.declared.Verdict.{Verdict}
@@ -86,3 +86,8 @@ outcome_listing b s (Answered a) slots = listing_of (boats b) (columns b) (sheet
 unfoldable pub Listable : (book sheet : List ℕ) → Searched → Type 0
 Listable b s (Refused n) = Prim.Unit {0}
 Listable b s (Answered a) = files_refusal b s ≡ 0
+
+-- the number of an error that is a number, 0 where there is none
+abbrev pub error_number : {value : Type 0} → Result value ℕ → ℕ
+error_number (Ok x) = 0
+error_number (Err n) = n

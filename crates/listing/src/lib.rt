@@ -1,15 +1,16 @@
 // The listing of an answer as text: lines of words and decimal numbers, given back by value with their length.
 //
-// Helpers for other crates, whose callers prove what they require: with_boat, refused_listing, outcome_listing.
+// Helpers for other crates, whose callers prove what they require: with_boat, refused_listing and outcome_listing, which take any number of a
+// refusal, reason_listing and listing_of, which take its reason.
 #![tactic(auto)]
 
 ghost use Rattle.std.specs.Prelude.{◌≡◌, ◌+◌, ◌≤◌, ◌<◌, take};
 ghost use Rattle.files.specs.Sheet.{files_refusal};
 ghost use Rattle.refusals.specs.Numbers.{number, refusal_number};
-ghost use Rattle.method.specs.Searched.{Answered, searched};
+ghost use Rattle.method.specs.Searched.{Answered, searched, searched_by};
 ghost use Rattle.text.specs.Lines.{pair_line};
 ghost use Rattle.text.specs.Texts.{text_limit, Holds, Adds};
-ghost use Rattle.listing.specs.Lines.{verdict_word, boat_line, boat_lines, head_lines, refused_line, outcome_listing, Listable};
+ghost use Rattle.listing.specs.Lines.{verdict_word, boat_line, boat_lines, head_lines, refused_line, outcome_listing, Listable, error_number};
 
 use method::{Answer, Verdict};
 use refusals::Refusal;
@@ -81,6 +82,13 @@ fn answer_listing(book: &[u8], sheet: &[u8], a: Answer, shares: [u16; 256]) -> T
     with_boats(begun, shares, boats)
 }
 
+// A listing, and the number that refuses where it is a refusal's: any number may stand there.
+#[derive(Clone, Copy)]
+pub struct Numbered {
+    pub refusal: Result<(), u32>,
+    pub text: Text,
+}
+
 // A listing, and the reason where it is a refusal's.
 #[derive(Clone, Copy)]
 pub struct Listed {
@@ -88,15 +96,44 @@ pub struct Listed {
     pub text: Text,
 }
 
+// The listing of a number that refuses.
+pub fn refused_listing(n: u32) -> Text
+    ensures { Holds (refused_line n) result }
+{
+    Text::empty().with_line(b"refused ", n as u64)
+}
+
 // The listing of a refusal.
-pub fn refused_listing(refusal: Refusal) -> Text
+pub fn reason_listing(refusal: Refusal) -> Text
     ensures { Holds (refused_line (number refusal)) result }
 {
-    Text::empty().with_line(b"refused ", refusal.number() as u64)
+    refused_listing(refusal.number())
+}
+
+// The listing of an answer of files, with the shares it left, or of the number that refuses, and that number.
+pub fn outcome_listing(
+    book: &[u8],
+    sheet: &[u8],
+    outcome: Result<Answer, u32>,
+    shares: [u16; 256],
+) -> Numbered
+    requires { Listable book.now sheet.now (searched_by outcome) }
+    ensures { (error_number result.refusal ≡ error_number outcome) × Holds (outcome_listing book.now sheet.now (searched_by outcome) shares) result.text }
+{
+    match outcome {
+        Err(n) => Numbered {
+            refusal: Err(n),
+            text: refused_listing(n),
+        },
+        Ok(answer) => Numbered {
+            refusal: Ok(()),
+            text: answer_listing(book, sheet, answer, shares),
+        },
+    }
 }
 
 // The listing of what a search or a card check of files gave back, with the shares it left, and the reason where it was refused.
-pub fn outcome_listing(
+pub fn listing_of(
     book: &[u8],
     sheet: &[u8],
     outcome: Result<Answer, Refusal>,
@@ -108,7 +145,7 @@ pub fn outcome_listing(
     match outcome {
         Err(refusal) => Listed {
             refusal: Err(refusal),
-            text: refused_listing(refusal),
+            text: reason_listing(refusal),
         },
         Ok(answer) => Listed {
             refusal: Ok(()),

@@ -123,7 +123,7 @@ pub fn queue_text(book: &[u8], lengths: &[u32], sheets: &[u8], allowance: u32) -
             }
         }
         Err(refused) => {
-            let text = listing::refused_listing(refused.reason);
+            let text = listing::reason_listing(refused.reason);
             Listed {
                 queue: Err(refused),
                 text,

@@ -21,5 +21,5 @@ pub fn search_listing(book: &[u8], sheet: &[u8]) -> Listed
 {
     let mut shares = [0u16; 256];
     let outcome = search::search(book, sheet, &mut shares);
-    listing::outcome_listing(book, sheet, outcome, shares)
+    listing::listing_of(book, sheet, outcome, shares)
 }

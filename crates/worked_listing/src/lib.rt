@@ -29,7 +29,7 @@ fn filing_of(book: &[u8], sheet: &[u8], reply: Result<FiledCard, Refusal>, buffe
     match reply {
         Err(refusal) => Filing {
             filed: Err(refusal),
-            text: listing::refused_listing(refusal),
+            text: listing::reason_listing(refusal),
         },
         Ok(card) => Filing {
             filed: Ok(card.size),

@@ -1,11 +1,10 @@
 -- `better_listing::part_text` meets its contract.
-use Rattle.text.proofs.Texts.{adds_to_empty}
 use Rattle.better_listing.proofs.Listings.{refused_text, card_text}
 use borrow.Author.Rules.{rules}
 use Rattle.better_listing.proofs.part_text.Goals as goal
 
 pub returns-then-refusal-ne0 : goal.returns-then-refusal-ne0
-returns-then-refusal-ne0 c = refused_text _ _ _ c.if-refusal-ne0.true (adds_to_empty c.empty.ensures c.with_line.ensures.adds)
+returns-then-refusal-ne0 c = refused_text _ _ _ c.if-refusal-ne0.true c.refused_listing.ensures
 
 pub judged_text-requires : goal.judged_text-requires
 judged_text-requires c = c.requires c.if-refusal-ne0.false

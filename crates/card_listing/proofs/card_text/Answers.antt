@@ -7,8 +7,8 @@ use Rattle.card_listing.proofs.Cards.{check_listable, check_number, check_listed
 use borrow.Author.Rules.{rules}
 use Rattle.card_listing.proofs.card_text.Goals as goal
 
-pub outcome_listing-requires : goal.outcome_listing-requires
-outcome_listing-requires c = check_listable _ _ _ (replicate 256 0) c.check_card-outcome.ensures.value
+pub listing_of-requires : goal.listing_of-requires
+listing_of-requires c = check_listable _ _ _ (replicate 256 0) c.check_card-outcome.ensures.value
 
 pub returns : goal.returns
-returns c = record { refusal_value = c.outcome_listing.ensures.0 ∙ sym (number_searched _) ∙ check_number _ _ _ (replicate 256 0) c.check_card-outcome.ensures.value; holds = check_listed _ _ _ (replicate 256 0) c.check_card-outcome.ensures.value c.check_card-outcome.ensures.shares_after c.outcome_listing.ensures.1; check_right = listed_right _ _ _ (all_bytes_known _ c.shared_slice_known-3-1.given) }
+returns c = record { refusal_value = c.listing_of.ensures.0 ∙ sym (number_searched _) ∙ check_number _ _ _ (replicate 256 0) c.check_card-outcome.ensures.value; holds = check_listed _ _ _ (replicate 256 0) c.check_card-outcome.ensures.value c.check_card-outcome.ensures.shares_after c.listing_of.ensures.1; check_right = listed_right _ _ _ (all_bytes_known _ c.shared_slice_known-3-1.given) }

@@ -13,7 +13,7 @@ pub judged_text-requires : goal.judged_text-requires
 judged_text-requires c = files_serve _ _ c.requires.written_value (ap written c.in-Ok.is)
 
 pub returns-in-Err : goal.returns-in-Err
-returns-in-Err c = refused_said _ _ c.requires.written_value _ (ap written c.in-Err.is) c.refused_listing.ensures
+returns-in-Err c = refused_said _ _ c.requires.written_value _ (ap written c.in-Err.is) c.reason_listing.ensures
 
 pub returns-in-Ok : goal.returns-in-Ok
 returns-in-Ok c = filed_said _ _ c.requires.written_value (ap written c.in-Ok.is) c.args.buffer.now c.requires.buffer_value c.judged_text.ensures

@@ -4,8 +4,8 @@ use Rattle.card_listing.proofs.Cards.{check_listable, check_listed}
 use borrow.Author.Rules.{rules}
 use Rattle.card_listing.proofs.judged_text.Goals as goal
 
-pub outcome_listing-listed-requires : goal.outcome_listing-listed-requires
-outcome_listing-listed-requires c = check_listable _ _ _ (replicate 256 0) c.judge_card-outcome.ensures.value
+pub listing_of-listed-requires : goal.listing_of-listed-requires
+listing_of-listed-requires c = check_listable _ _ _ (replicate 256 0) c.judge_card-outcome.ensures.value
 
 pub returns : goal.returns
-returns c = check_listed _ _ _ (replicate 256 0) c.judge_card-outcome.ensures.value c.judge_card-outcome.ensures.shares_after c.outcome_listing-listed.ensures.1
+returns c = check_listed _ _ _ (replicate 256 0) c.judge_card-outcome.ensures.value c.judge_card-outcome.ensures.shares_after c.listing_of-listed.ensures.1

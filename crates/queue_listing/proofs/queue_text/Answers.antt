@@ -21,6 +21,6 @@ returns-in-Err c =
     record {
       refusal_value = number_is c.plan_of-plan.ensures c.in-Err.ensures;
       accepted_value = accepted_is c.plan_of-plan.ensures c.in-Err.ensures;
-      holds = refused_listed c.plan_of-plan.ensures c.in-Err.ensures (positive _) c.refused_listing-text.ensures;
+      holds = refused_listed c.plan_of-plan.ensures c.in-Err.ensures (positive _) c.reason_listing-text.ensures;
       listed_right = listed_right _ _ _ _;
     }

@@ -6,8 +6,8 @@ use lib.ListN.{replicate}
 use borrow.Author.Rules.{rules}
 use Rattle.search_listing.proofs.search_listing.Goals as goal
 
-pub outcome_listing-requires : goal.outcome_listing-requires
-outcome_listing-requires c = search_listable _ _ (replicate 256 0) c.search-outcome.ensures.value
+pub listing_of-requires : goal.listing_of-requires
+listing_of-requires c = search_listable _ _ (replicate 256 0) c.search-outcome.ensures.value
 
 pub returns : goal.returns
-returns c = record { refusal_value = c.outcome_listing.ensures.0 ∙ sym (number_searched _) ∙ search_number _ _ (replicate 256 0) c.search-outcome.ensures.value; holds = search_listed _ _ (replicate 256 0) c.search-outcome.ensures.value c.search-outcome.ensures.shares_after c.outcome_listing.ensures.1; outcome_right = listed_right _ _ }
+returns c = record { refusal_value = c.listing_of.ensures.0 ∙ sym (number_searched _) ∙ search_number _ _ (replicate 256 0) c.search-outcome.ensures.value; holds = search_listed _ _ (replicate 256 0) c.search-outcome.ensures.value c.search-outcome.ensures.shares_after c.listing_of.ensures.1; outcome_right = listed_right _ _ }

@@ -12,7 +12,7 @@ pub judged_text-requires : goal.judged_text-requires
 judged_text-requires c = c.requires.served _ _ (ap written c.in-Ok.is)
 
 pub returns-in-Err : goal.returns-in-Err
-returns-in-Err c = refused_said _ _ _ _ (ap written c.in-Err.is) c.refused_listing.ensures
+returns-in-Err c = refused_said _ _ _ _ (ap written c.in-Err.is) c.reason_listing.ensures
 
 pub returns-in-Ok : goal.returns-in-Ok
 returns-in-Ok c = filed_said _ _ c.args.buffer.now _ _ (ap written c.in-Ok.is) c.judged_text.ensures
