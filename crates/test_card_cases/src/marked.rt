@@ -13,7 +13,7 @@ fn roomed(rt: &HostRuntime, book: &[u8], sheet: &[u8], room: usize) {
 // Checks a card with a list of 4 slots that hold 7, and prints the list.
 fn checked(rt: &HostRuntime, book: &[u8], sheet: &[u8], filed: &[u8]) {
     let mut slots = [7u16; 4];
-    test_printing::outcome(rt, card::check_card(book, sheet, filed, &mut slots));
+    test_printing::searched(rt, card::check_card(book, sheet, filed, &mut slots));
     test_printing::slots(rt, &slots, 4);
 }
 
@@ -66,6 +66,6 @@ pub fn refused_sheet(rt: &HostRuntime, book: &[u8], sheet: &[u8]) {
 // An empty card with a list of two slots, and of four.
 pub fn short_list(rt: &HostRuntime, book: &[u8], sheet: &[u8]) {
     let mut slots = [7u16; 2];
-    test_printing::outcome(rt, card::check_card(book, sheet, b"", &mut slots));
+    test_printing::searched(rt, card::check_card(book, sheet, b"", &mut slots));
     checked(rt, book, sheet, b"");
 }

@@ -2,20 +2,20 @@
 #![tactic(auto)]
 
 ghost use Rattle.std.specs.Prelude.{◌≡◌, length};
-ghost use Rattle.card_format.specs.Written.{written};
+ghost use Rattle.card_format.specs.Written.{written, written_by};
 ghost use Rattle.card_format.specs.Filing.{written_size};
 ghost use Rattle.test_card_printing.specs.Written.{written_length, written_bytes};
 
 use card_format::FiledCard;
 use refusals::Refusal;
 
-// What the writer gives back; its length.
-pub fn print_written(rt: &HostRuntime, filed: Result<FiledCard, Refusal>) -> usize
-    ensures { result ≡ written_size (written filed) }
+// A card that was written, or the number that refuses; its length.
+pub fn print_written(rt: &HostRuntime, filed: Result<FiledCard, u32>) -> usize
+    ensures { result ≡ written_size (written_by filed) }
 {
     match filed {
-        Err(refusal) => {
-            test_printing::refused(rt, refusal);
+        Err(n) => {
+            test_printing::refused(rt, n);
             0
         }
         Ok(card) => {
@@ -23,6 +23,16 @@ pub fn print_written(rt: &HostRuntime, filed: Result<FiledCard, Refusal>) -> usi
             test_printing::line(rt, b"bytes", card.size as u64);
             card.size
         }
+    }
+}
+
+// What the writer gives back; its length.
+pub fn print_filed(rt: &HostRuntime, filed: Result<FiledCard, Refusal>) -> usize
+    ensures { result ≡ written_size (written filed) }
+{
+    match filed {
+        Err(refusal) => print_written(rt, Err(refusal.number())),
+        Ok(card) => print_written(rt, Ok(card)),
     }
 }
 
@@ -35,7 +45,7 @@ pub fn written(rt: &HostRuntime, book: &[u8], sheet: &[u8], buffer: &mut [u8], r
         return 0;
     }
     let start = 0;
-    print_written(
+    print_filed(
         rt,
         written_card::write_card(book, sheet, &mut buffer[start..room]),
     )

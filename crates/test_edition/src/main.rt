@@ -14,7 +14,7 @@ const WCD2: u64 = 50;
 // Checks a card with a list of 20 slots that hold 7, and prints the list.
 fn checked(rt: &HostRuntime, book: &[u8], sheet: &[u8], filed: &[u8]) {
     let mut slots = [7u16; 20];
-    test_printing::outcome(rt, card::check_card(book, sheet, filed, &mut slots));
+    test_printing::searched(rt, card::check_card(book, sheet, filed, &mut slots));
     test_printing::slots(rt, &slots, 20);
 }
 

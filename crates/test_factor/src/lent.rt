@@ -40,9 +40,9 @@ fn found(
     filed: &mut [u8],
 ) -> usize {
     let mut slots = [7u16; 256];
-    test_printing::outcome(rt, search::search_with(book, sheet, set, table, &mut slots));
+    test_printing::searched(rt, search::search_with(book, sheet, set, table, &mut slots));
     test_printing::slots(rt, &slots, boats % 65536 + 1);
-    let n = test_card_printing::print_written(
+    let n = test_card_printing::print_filed(
         rt,
         written_card::write_card_with(book, sheet, set, table, filed),
     );

@@ -235,7 +235,7 @@ fn summary(rt: &HostRuntime, totals: Totals) {
 // Follows the method on a book and a sheet, and reports.
 fn followed(rt: &HostRuntime, book: &[u8], sheet: &[u8], totals: Totals) -> Totals {
     if let Err(refusal) = validation::files_refusal(book, sheet) {
-        test_printing::refused(rt, refusal);
+        test_printing::refused(rt, refusal.number());
         return totals;
     }
     let layout = iteration::layout_of(book, sheet);

@@ -67,7 +67,7 @@ fn put_card(file: &mut [u8], line: &[u8]) -> usize {
 // Checks a card with a list of 4 slots that hold 7, and prints the list.
 fn checked(rt: &HostRuntime, book: &[u8], sheet: &[u8], filed: &[u8]) {
     let mut slots = [7u16; 4];
-    test_printing::outcome(rt, card::check_card(book, sheet, filed, &mut slots));
+    test_printing::searched(rt, card::check_card(book, sheet, filed, &mut slots));
     test_printing::slots(rt, &slots, 4);
 }
 

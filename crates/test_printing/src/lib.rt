@@ -1,6 +1,9 @@
 // Helpers of the test programs: answers and numbers printed.
 #![tactic(auto)]
 
+ghost use Rattle.std.specs.Prelude.{◌≡◌};
+ghost use Rattle.refusals.specs.Numbers.{refusal_number};
+
 use method::{Answer, Verdict};
 use refusals::Refusal;
 
@@ -91,22 +94,32 @@ pub fn answer(rt: &HostRuntime, a: Answer) {
 }
 
 // The number of a refusal.
-pub fn refused(rt: &HostRuntime, refusal: Refusal) {
-    line(rt, b"refused", refusal.number() as u64);
+pub fn refused(rt: &HostRuntime, n: u32) {
+    line(rt, b"refused", n as u64);
 }
 
 // The number of a refusal, 0 where there is none.
-pub fn refusal_number<T: Copy>(found: Result<T, Refusal>) -> u64 {
+pub fn refusal_number<T: Copy>(found: Result<T, Refusal>) -> u64
+    ensures { result ≡ refusal_number found }
+{
     match found {
         Ok(_) => 0,
         Err(refusal) => refusal.number() as u64,
     }
 }
 
-// What a search gives back.
-pub fn outcome(rt: &HostRuntime, found: Result<Answer, Refusal>) {
+// An answer, or the number that refuses.
+pub fn outcome(rt: &HostRuntime, found: Result<Answer, u32>) {
     match found {
-        Err(refusal) => refused(rt, refusal),
+        Err(n) => refused(rt, n),
         Ok(a) => answer(rt, a),
+    }
+}
+
+// What a search gives back.
+pub fn searched(rt: &HostRuntime, found: Result<Answer, Refusal>) {
+    match found {
+        Err(refusal) => outcome(rt, Err(refusal.number())),
+        Ok(a) => outcome(rt, Ok(a)),
     }
 }

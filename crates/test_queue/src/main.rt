@@ -99,7 +99,7 @@ fn case(rt: &HostRuntime, cases: &[u8], start: usize) -> usize {
             records(rt, served);
         }
         Err(refused) => {
-            test_printing::refused(rt, refused.reason);
+            test_printing::refused(rt, refused.reason.number());
             test_printing::line(rt, b"accepted", refused.accepted as u64);
         }
     }

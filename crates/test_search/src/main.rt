@@ -13,7 +13,7 @@ fn search_in(rt: &HostRuntime, book: &[u8], sheet: &[u8], slots: &mut [u16], len
         return;
     }
     let start = 0;
-    test_printing::outcome(rt, search::search(book, sheet, &mut slots[start..length]));
+    test_printing::searched(rt, search::search(book, sheet, &mut slots[start..length]));
 }
 
 // A slot in a wider type.

@@ -41,13 +41,13 @@ fn worked(
     room: usize,
 ) -> usize {
     if buffer.len() < room {
-        return test_card_printing::print_written(
+        return test_card_printing::print_filed(
             rt,
             worked_card::work_over(book, sheet, set, moves, buffer),
         );
     }
     let start = 0;
-    test_card_printing::print_written(
+    test_card_printing::print_filed(
         rt,
         worked_card::work_over(book, sheet, set, moves, &mut buffer[start..room]),
     )

@@ -16,4 +16,4 @@ returns c =
     let l : length (take x.room x.buffer.now) ≡ x.room = length-take-le x.room x.buffer.now c.if-buffer-room.false in
     let v = rw (sub-zero, l) at c.write_card.ensures.value in
     let o = rw (sub-zero, l) at c.write_card.ensures.output_after in
-    rw (le-leb _ _ c.if-buffer-room.false, sub-zero) (record { value = c.print_written.ensures ∙ ap written_size v; buffer_after = rw o })
+    rw (le-leb _ _ c.if-buffer-room.false, sub-zero) (record { value = c.print_filed.ensures ∙ ap written_size v; buffer_after = rw o })
