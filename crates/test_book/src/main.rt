@@ -18,7 +18,7 @@ fn made_of(rt: &HostRuntime, csv: &[u8]) {
             test_printing::line(rt, b"fault", finding.fault.number() as u64);
             test_printing::line(rt, b"line", finding.line as u64);
             test_printing::line(rt, b"field", finding.field as u64);
-            file_io::print(rt, csv_book_text::fleet_fault(csv, finding));
+            file_io::print(rt, csv_book_text::fleet_fault(csv, finding.into()));
             0
         }
     };
@@ -51,7 +51,7 @@ fn limits(rt: &HostRuntime) {
 fn short_buffer(rt: &HostRuntime) {
     let mut output = [1u8; 39999];
     if let Err(finding) = csv_book::csv_book(b"a,b\nc,1\n", &mut output) {
-        file_io::print(rt, csv_book_text::fleet_fault(b"", finding));
+        file_io::print(rt, csv_book_text::fleet_fault(b"", finding.into()));
     }
     test_printing::line(rt, b"sum", test_buffers::checksum(&output));
 }

@@ -18,7 +18,7 @@ fn made_of(rt: &HostRuntime, fleet: &[u8], csv: &[u8]) {
             test_printing::line(rt, b"fault", finding.fault.number() as u64);
             test_printing::line(rt, b"line", finding.line as u64);
             test_printing::line(rt, b"field", finding.field as u64);
-            file_io::print(rt, csv_sheet_text::sheet_fault(fleet, csv, finding));
+            file_io::print(rt, csv_sheet_text::sheet_fault(fleet, csv, finding.into()));
             0
         }
     };
@@ -67,7 +67,7 @@ fn short_buffer(rt: &HostRuntime) {
     let mut output = [1u8; 39999];
     let csv = b",b\nd,1\nsteps,1\ntolerance,1\n";
     if let Err(finding) = csv_sheet::csv_sheet(fleet, csv, &mut output) {
-        file_io::print(rt, csv_sheet_text::sheet_fault(fleet, csv, finding));
+        file_io::print(rt, csv_sheet_text::sheet_fault(fleet, csv, finding.into()));
     }
     test_printing::line(rt, b"sum", test_buffers::checksum(&output));
 }
