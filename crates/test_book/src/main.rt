@@ -56,6 +56,18 @@ fn short_buffer(rt: &HostRuntime) {
     test_printing::line(rt, b"sum", test_buffers::checksum(&output));
 }
 
+// The line of a number that no fault has, at a boat and a column or nowhere.
+fn no_fault(rt: &HostRuntime, fault: u32, line: usize, field: usize, columns: usize) {
+    let finding = csv_book_text::NumberedFinding {
+        fault,
+        line,
+        field,
+        boats: 0,
+        columns,
+    };
+    file_io::print(rt, csv_book_text::fleet_fault(b"a,b\nc,1\n", finding));
+}
+
 // mixbook in a folder, and the book that stands there afterwards.
 fn folder(rt: &HostRuntime, name: &[u8]) {
     let mut book = [0u8; 40001];
@@ -71,6 +83,8 @@ fn run(rt: &HostRuntime, cases: &[u8]) {
     test_cases::each(rt, cases, 500, case);
     limits(rt);
     short_buffer(rt);
+    no_fault(rt, 999, 2, 1, 1);
+    no_fault(rt, 0, 0, 0, 0);
     folder(rt, b"");
     folder(rt, b"larger");
     folder(rt, b"faulty");

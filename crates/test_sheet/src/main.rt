@@ -72,6 +72,18 @@ fn short_buffer(rt: &HostRuntime) {
     test_printing::line(rt, b"sum", test_buffers::checksum(&output));
 }
 
+// The line of a number that no fault has, in a row or nowhere.
+fn no_fault(rt: &HostRuntime, fault: u32, line: usize, row: usize, field: usize) {
+    let finding = csv_sheet_text::NumberedFinding {
+        fault,
+        line,
+        row,
+        field,
+    };
+    let csv = b",b\nd,1\n";
+    file_io::print(rt, csv_sheet_text::sheet_fault(b"a,b\nc,1\n", csv, finding));
+}
+
 // mixsheet in a folder, and the sheet that stands there afterwards.
 fn folder(rt: &HostRuntime, name: &[u8]) {
     let mut sheet = [0u8; 40001];
@@ -112,6 +124,8 @@ fn run(rt: &HostRuntime, buffer: &mut [u8]) {
     each(rt, file_io::first_bytes(buffer, n), 600);
     limits(rt);
     short_buffer(rt);
+    no_fault(rt, 999, 2, 1, 1);
+    no_fault(rt, 0, 0, 0, 0);
     folders(rt);
 }
 
