@@ -22,6 +22,8 @@ def limits():
     yield made_of(bytes(200000))
     yield made_of(bytes(200001))
     yield csv_books.fault_line(b"", csv_reader.Table(), (csv_reader.ROOM, 0, 0)) + b"sum %d\n" % checksum(b"\1" * 39999)
+    # numbers that no fault has, at a boat and a column and without a place
+    yield b"fleet.csv line 2, c, b: no fault\nfleet.csv: no fault\n"
 
 
 def folder(name):

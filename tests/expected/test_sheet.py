@@ -26,6 +26,8 @@ def limits():
     yield made_of(bytes(200000), b"")
     yield made_of(bytes(200001), b"")
     yield b"sheet.csv: a buffer of fewer than 40000 bytes\n" + b"sum %d\n" % checksum(b"\1" * 39999)
+    # numbers that no fault has, in a row and without a place
+    yield b"sheet.csv line 2: no fault\nsheet.csv: no fault\n"
 
 
 def folder(name):

@@ -7,7 +7,7 @@ fn file_made(rt: &HostRuntime, folder: &[u8], csv: &[u8], output: &mut [u8]) {
     let made = match csv_book::csv_book(csv, output) {
         Ok(made) => made,
         Err(finding) => {
-            file_io::tell_text(rt, csv_book_text::fleet_fault(csv, finding));
+            file_io::tell_text(rt, csv_book_text::fleet_fault(csv, finding.into()));
             file_io::tell_kept(rt, folder, b"fleet.wbk");
             return;
         }

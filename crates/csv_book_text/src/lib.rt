@@ -3,14 +3,41 @@
 // Entries, which ask nothing of their caller: fleet_fault, book_lines.
 #![tactic(auto)]
 
-ghost use Rattle.std.specs.Prelude.{◌≡◌, ◌≤◌, length};
+ghost use Rattle.std.specs.Prelude.{◌≡◌, ◌≤◌, List, ℕ, length};
 ghost use Rattle.buffers.specs.Placed.{placed};
 ghost use Rattle.text.specs.Texts.{Holds};
-ghost use Rattle.csv_book.specs.Books.{unmade, made_of};
+ghost use Rattle.csv_fleet_tokens.specs.Faults.{fault_number};
+ghost use Rattle.csv_book.specs.Books.{nothing_made, unmade, made_of};
 ghost use Rattle.csv_book_text.specs.Faults.{looked, fleet_fault, book_lines};
+ghost use Rattle.csv_book_text.specs.Numbered.{by_number};
 
 use csv_book::{Finding, Made};
+use csv_fleet_tokens::Fault;
 use text::Text;
+
+// Why no book was made, as csv_book says it, with the fault by its number. Any number may stand there.
+#[derive(Clone, Copy, Debug, PartialEq, Eq)]
+pub struct NumberedFinding {
+    pub fault: u32,
+    pub line: usize,
+    pub field: usize,
+    pub boats: usize,
+    pub columns: usize,
+}
+
+impl From<Finding> for NumberedFinding {
+    ghost from_gives = { λ finding numbered. by_number numbered ≡ unmade finding };
+
+    fn from(finding: Finding) -> NumberedFinding {
+        NumberedFinding {
+            fault: finding.fault.number(),
+            line: finding.line,
+            field: finding.field,
+            boats: finding.boats,
+            columns: finding.columns,
+        }
+    }
+}
 
 // Puts what stands in a field, where it is wanted and the CSV is not too long; gives back how many bytes that is.
 fn put_looked(csv: &[u8], wanted: bool, line: usize, field: usize, output: &mut [u8]) -> usize
@@ -27,8 +54,8 @@ fn put_looked(csv: &[u8], wanted: bool, line: usize, field: usize, output: &mut 
     csv_fields::put_field(csv, line, field, output)
 }
 
-// ENTRY. The line that names the fault of a CSV, as csv_book gave it back.
-pub fn fleet_fault(csv: &[u8], finding: Finding) -> Text
+// The line that names the fault of a CSV.
+fn known_fault(csv: &[u8], finding: Finding) -> Text
     ensures { Holds (fleet_fault csv.now (unmade finding)) result }
 {
     let fault = finding.fault;
@@ -45,6 +72,30 @@ pub fn fleet_fault(csv: &[u8], finding: Finding) -> Text
     let value_wanted = csv_book_words::wants_value(fault);
     let k = put_looked(csv, value_wanted, line, field, &mut value);
     csv_book_words::line_of(finding, &boat[..n], &column[..m], &value[..k])
+}
+
+// A fault that has the same line as this number. That of the fleet has no words here, as a number that no fault has.
+fn worded(number: u32) -> Fault
+    ensures { (csv : List ℕ) (line field boats columns : ℕ) → fleet_fault csv (nothing_made (fault_number result) line field boats columns) ≡ fleet_fault csv (nothing_made number line field boats columns) }
+{
+    match csv_book_words::fault_of(number) {
+        Some(fault) => fault,
+        None => Fault::Fleet,
+    }
+}
+
+// ENTRY. The line that names the fault of a CSV, as csv_book gave it back; of a number that no fault has, `no fault`.
+pub fn fleet_fault(csv: &[u8], finding: NumberedFinding) -> Text
+    ensures { Holds (fleet_fault csv.now (by_number finding)) result }
+{
+    let known = Finding {
+        fault: worded(finding.fault),
+        line: finding.line,
+        field: finding.field,
+        boats: finding.boats,
+        columns: finding.columns,
+    };
+    known_fault(csv, known)
 }
 
 // ENTRY. The lines of a book that was made of a CSV.

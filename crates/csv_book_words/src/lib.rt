@@ -1,19 +1,56 @@
 // The words of the lines about a fleet's CSV: what is wrong with it and where, once the names are found, and what stands in front of its book.
 //
-// Helpers for other crates: wants_boat, wants_column, wants_value; line_of, whose callers prove that the names are short; with_place, with_plain,
-// with_unnamed, with_many, with_front, whose callers prove that there is room.
+// Helpers for other crates: fault_of, wants_boat, wants_column, wants_value; line_of, whose callers prove that the names are short; with_place,
+// with_plain, with_unnamed, with_many, with_front, whose callers prove that there is room.
 #![tactic(auto)]
 
-ghost use Rattle.std.specs.Prelude.{◌≡◌, ◌+◌, ◌≤◌, length};
+ghost use Rattle.std.specs.Prelude.{◌≡◌, ◌+◌, ◌≤◌, length, IfSome, IfNone};
 ghost use Rattle.text.specs.Texts.{text_limit, Holds, Adds};
 ghost use Rattle.csv_fleet_tokens.specs.Faults.{fault_number};
 ghost use Rattle.csv_book.specs.Books.{unmade};
+ghost use Rattle.csv_book_words.specs.Faults.{NoFault};
 ghost use Rattle.csv_book_words.specs.Words.{place, other_words, plain_words, few_words, unnamed_words, many_words, words, wants_boat, wants_column, wants_value, fault_line, front_line};
 
 use csv_book::Finding;
 use csv_fleet_tokens::Fault;
 use csv_front_text::Front;
 use text::Text;
+
+// The fault that has this number, where one has.
+pub fn fault_of(number: u32) -> Option<Fault>
+    ensures known { IfSome result (λ fault. fault_number fault ≡ number) }
+    ensures unknown { IfNone result (NoFault number) }
+{
+    match number {
+        1 => Some(Fault::Long),
+        2 => Some(Fault::Nameless),
+        3 => Some(Fault::Columnless),
+        4 => Some(Fault::Many),
+        5 => Some(Fault::NoValue),
+        6 => Some(Fault::NotWhole),
+        7 => Some(Fault::OutOfRange),
+        8 => Some(Fault::Boats),
+        9 => Some(Fault::Boatless),
+        10 => Some(Fault::Big),
+        11 => Some(Fault::Room),
+        12 => Some(Fault::Fleet),
+        13 => Some(Fault::Rows),
+        14 => Some(Fault::Again),
+        15 => Some(Fault::NoHull),
+        16 => Some(Fault::NoSteps),
+        17 => Some(Fault::NoTolerance),
+        18 => Some(Fault::Missing),
+        19 => Some(Fault::Twice),
+        20 => Some(Fault::Unknown),
+        21 => Some(Fault::FleetTwice),
+        22 => Some(Fault::FactorTotal),
+        23 => Some(Fault::LargeTolerance),
+        24 => Some(Fault::ManyValues),
+        260 => Some(Fault::Stray),
+        261 => Some(Fault::Open),
+        _ => None,
+    }
+}
 
 // The text followed by the number of a line, where there is one.
 pub fn with_place(text: Text, line: usize) -> Text

@@ -8,12 +8,35 @@ ghost use Rattle.buffers.specs.Placed.{placed};
 ghost use Rattle.text.specs.Texts.{Holds};
 ghost use Rattle.csv_sheet.specs.Outcomes.{refused, written};
 ghost use Rattle.csv_sheet_text.specs.Lines.{looked, row_fault, column_fault, sheet_fault, sheet_lines};
+ghost use Rattle.csv_sheet_text.specs.Numbered.{by_number};
 
 use csv_fleet_tokens::Fault;
 use csv_front_text::Front;
 use csv_sheet::Made;
 use csv_sheet_rows::Finding;
 use text::Text;
+
+// The first fault of a sheet's CSV with its place, as csv_sheet says it, with the fault by its number. Any number may stand there.
+#[derive(Clone, Copy, Debug, PartialEq, Eq)]
+pub struct NumberedFinding {
+    pub fault: u32,
+    pub line: usize,
+    pub row: usize,
+    pub field: usize,
+}
+
+impl From<Finding> for NumberedFinding {
+    ghost from_gives = { λ finding numbered. by_number numbered ≡ refused finding };
+
+    fn from(finding: Finding) -> NumberedFinding {
+        NumberedFinding {
+            fault: finding.fault.number(),
+            line: finding.line,
+            row: finding.row,
+            field: finding.field,
+        }
+    }
+}
 
 // Puts what stands in a field, where it is wanted and the CSV is not too long; gives back how many bytes that is.
 fn put_looked(csv: &[u8], wanted: bool, row: usize, field: usize, output: &mut [u8]) -> usize
@@ -74,9 +97,9 @@ fn column_fault(fleet: &[u8], csv: &[u8], finding: Finding) -> Text
     csv_sheet_words::column_line(fault, &name[..n])
 }
 
-// ENTRY. The line that names the fault of a sheet's CSV, as csv_sheet gave it back. A fault of the fleet's CSV has none here: fleet_fault of csv_book_text has it.
+// The line that names the fault of a sheet's CSV.
 #[tactic(auto, unfolding(crate::specs::Lines::sheet_fault, files::specs::Bytes::between))]
-pub fn sheet_fault(fleet: &[u8], csv: &[u8], finding: Finding) -> Text
+fn known_fault(fleet: &[u8], csv: &[u8], finding: Finding) -> Text
     ensures { Holds (sheet_fault fleet.now csv.now (refused finding)) result }
 {
     match finding.fault {
@@ -85,6 +108,25 @@ pub fn sheet_fault(fleet: &[u8], csv: &[u8], finding: Finding) -> Text
             column_fault(fleet, csv, finding)
         }
         _ => row_fault(csv, finding),
+    }
+}
+
+// ENTRY. The line that names the fault of a sheet's CSV, as csv_sheet gave it back; of a number that no fault has, `no fault`. A fault of the fleet's CSV has none here:
+// fleet_fault of csv_book_text has it.
+pub fn sheet_fault(fleet: &[u8], csv: &[u8], finding: NumberedFinding) -> Text
+    ensures { Holds (sheet_fault fleet.now csv.now (by_number finding)) result }
+{
+    match csv_book_words::fault_of(finding.fault) {
+        Some(fault) => {
+            let known = Finding {
+                fault,
+                line: finding.line,
+                row: finding.row,
+                field: finding.field,
+            };
+            known_fault(fleet, csv, known)
+        }
+        None => csv_sheet_words::no_fault(finding.line),
     }
 }
 

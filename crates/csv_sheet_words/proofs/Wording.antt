@@ -1,6 +1,6 @@
 -- Texts with the words of a fault added, and its line.
 use mathlib.Core.Path.{◌≡◌}
-use mathlib.Core.List.{List, [], ◌∷◌, map}
+use mathlib.Core.List.{List, [], ◌∷◌, ◌++◌, map}
 use Prim.Native.Nat.{ℕ, ◌+◌, ◌-◌, ◌≤◌, ◌<◌}
 use native.Mathlib.Omega.{arith}
 use borrow.Author.Tests.{ne_eqb, lt-ltb, le-ltb}
@@ -9,9 +9,9 @@ use Rattle.text.specs.Texts.{Holds, Adds}
 use Rattle.text.specs.declared.Text.{Text}
 use Rattle.text.proofs.Texts.{adds_both, adds_to_empty}
 use Rattle.message_parts.specs.Parts.{COLON, shown, part}
-use Rattle.csv_book_words.specs.Words.{NOT_WHOLE_WORDS, place, unnamed_words, many_words}
+use Rattle.csv_book_words.specs.Words.{NONE_WORDS, NOT_WHOLE_WORDS, place, unnamed_words, many_words}
 use Rattle.csv_sheet.specs.Outcomes.{Outcome}
-use Rattle.csv_sheet_words.specs.Words.{SHEET_FILE, MANY_FOR_ONE, HULL_UNNAMED, range_words, beyond_words, nameless_words, words, row_line, opening, closing, column_line}
+use Rattle.csv_sheet_words.specs.Words.{SHEET_FILE, MANY_FOR_ONE, HULL_UNNAMED, range_words, beyond_words, nameless_words, words, row_line, no_fault, opening, closing, column_line}
 
 -- ---- words
 module _ {t r : Text} {w : List ℕ} (a : Adds t w r) (h : length w ≤ 50) where
@@ -56,6 +56,10 @@ pub row_told : (m : Outcome) (k : ℕ) (row column value : List ℕ) {t₀ t₁ 
     Adds t₃ (part column) t₄ → Adds t₄ COLON t₅ → Adds t₅ (words m.fault m.field k value) t₆ → Adds t₆ (10 ∷ []) t₇ → Holds (row_line m k row column value) t₇
 unfolding row_line
 row_told m k row column value e a b c d f g h = adds_to_empty e (adds_both a (adds_both b (adds_both c (adds_both d (adds_both f (adds_both g h))))))
+
+pub none_told : (l : ℕ) {t₀ t₁ t₂ t₃ : Text} → Holds [] t₀ → Adds t₀ SHEET_FILE t₁ → Adds t₁ (place l) t₂ → Adds t₂ (COLON ++ (NONE_WORDS ++ (10 ∷ []))) t₃ → Holds (no_fault l) t₃
+unfolding no_fault
+none_told l e a b c = adds_to_empty e (adds_both a (adds_both b c))
 
 pub column_told : (f : ℕ) (name : List ℕ) {t₀ t₁ t₂ t₃ t₄ : Text} → Holds [] t₀ → Adds t₀ (opening f) t₁ → Adds t₁ (map shown name) t₂ → Adds t₂ (closing f) t₃ → Adds t₃ (10 ∷ []) t₄ → Holds (column_line f name) t₄
 unfolding column_line

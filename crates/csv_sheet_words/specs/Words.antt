@@ -2,7 +2,7 @@
 use Rattle.std.specs.Prelude.{Bool, true, false, cond, List, [], ◌∷◌, ◌++◌, map, ℕ, ◌-◌, ltb, eqb}
 use Rattle.files.specs.Bytes.{between}
 use Rattle.message_parts.specs.Parts.{COLON, COLUMN, RANGE_WORDS, shown, part}
-use Rattle.csv_book_words.specs.Words.{FILE, MORE_THAN, NO_COLUMN, NOT_WHOLE_WORDS, UNNAMED, place, unnamed_words, many_words, plain_words}
+use Rattle.csv_book_words.specs.Words.{FILE, MORE_THAN, NONE_WORDS, NO_COLUMN, NOT_WHOLE_WORDS, UNNAMED, place, unnamed_words, many_words, plain_words}
 use Rattle.csv_sheet.specs.Outcomes.{Outcome}
 
 -- ---- the words
@@ -154,6 +154,10 @@ wants_column f k = cond (of_value f) (cond (eqb k 0) true (eqb k 2)) false
 unfoldable pub row_line : Outcome → (kind : ℕ) → (row column value : List ℕ) → List ℕ
 row_line m k row column value =
     SHEET_FILE ++ (place m.line ++ (part row ++ (part column ++ (COLON ++ (words m.fault m.field k value ++ (10 ∷ []))))))
+
+-- of a number that no fault has
+unfoldable pub no_fault : (line : ℕ) → List ℕ
+no_fault l = SHEET_FILE ++ (place l ++ (COLON ++ (NONE_WORDS ++ (10 ∷ []))))
 
 -- ---- the line of a column: 18 missing, 19 twice, 20 not in the fleet, 21 twice in the fleet
 

@@ -1,6 +1,6 @@
 // The words of the lines about a sheet's CSV: what is wrong with it and where, once the names are found.
 //
-// Helpers for other crates: wants_row, wants_column; row_line, column_line, whose callers prove that the names are short.
+// Helpers for other crates: wants_row, wants_column, no_fault; row_line, column_line, whose callers prove that the names are short.
 #![tactic(auto)]
 
 ghost use Rattle.std.specs.Prelude.{◌≡◌, ◌+◌, ◌≤◌, length};
@@ -8,7 +8,7 @@ ghost use Rattle.text.specs.Texts.{text_limit, Holds, Adds};
 ghost use Rattle.csv_fleet_tokens.specs.Faults.{fault_number};
 ghost use Rattle.csv_sheet.specs.Outcomes.{refused};
 ghost use Rattle.csv_sheet_rows.specs.Numbers.{kind_number};
-ghost use Rattle.csv_sheet_words.specs.Words.{range_words, beyond_words, again_words, nameless_words, missing_words, limit_words, words, of_value, wants_row, wants_column, row_line, opening, closing, column_line};
+ghost use Rattle.csv_sheet_words.specs.Words.{range_words, beyond_words, again_words, nameless_words, missing_words, limit_words, words, of_value, wants_row, wants_column, row_line, no_fault, opening, closing, column_line};
 
 use csv_fleet_tokens::Fault;
 use csv_sheet_rows::{Finding, Kind};
@@ -184,6 +184,16 @@ pub fn row_line(finding: Finding, kind: Kind, row: &[u8], column: &[u8], value: 
     let told = whole.with_bytes(b": ");
     let said = with_words(told, finding.fault, finding.field, kind, value);
     said.with_bytes(b"\n")
+}
+
+// The line of a number that no fault has.
+pub fn no_fault(line: usize) -> Text
+    ensures { Holds (no_fault line) result }
+{
+    let empty = Text::empty();
+    let begun = empty.with_bytes(b"sheet.csv");
+    let placed = csv_book_words::with_place(begun, line);
+    placed.with_bytes(b": no fault\n")
 }
 
 // The line of a column, once its name is found.

@@ -10,11 +10,11 @@ fn tell_fault(rt: &HostRuntime, fleet: &[u8], csv: &[u8], finding: Finding) {
     if finding.fault == Fault::Fleet {
         let mut output = [0u8; 40000];
         if let Err(found) = csv_book::csv_book(fleet, &mut output) {
-            file_io::tell_text(rt, csv_book_text::fleet_fault(fleet, found));
+            file_io::tell_text(rt, csv_book_text::fleet_fault(fleet, found.into()));
         }
         return;
     }
-    file_io::tell_text(rt, csv_sheet_text::sheet_fault(fleet, csv, finding));
+    file_io::tell_text(rt, csv_sheet_text::sheet_fault(fleet, csv, finding.into()));
 }
 
 // Files the sheet of two CSVs in a folder as sheet.wsh, and prints its columns, factors, steps, tolerance and front text.

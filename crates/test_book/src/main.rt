@@ -18,7 +18,7 @@ fn made_of(rt: &HostRuntime, csv: &[u8]) {
             test_printing::line(rt, b"fault", finding.fault.number() as u64);
             test_printing::line(rt, b"line", finding.line as u64);
             test_printing::line(rt, b"field", finding.field as u64);
-            file_io::print(rt, csv_book_text::fleet_fault(csv, finding));
+            file_io::print(rt, csv_book_text::fleet_fault(csv, finding.into()));
             0
         }
     };
@@ -51,9 +51,21 @@ fn limits(rt: &HostRuntime) {
 fn short_buffer(rt: &HostRuntime) {
     let mut output = [1u8; 39999];
     if let Err(finding) = csv_book::csv_book(b"a,b\nc,1\n", &mut output) {
-        file_io::print(rt, csv_book_text::fleet_fault(b"", finding));
+        file_io::print(rt, csv_book_text::fleet_fault(b"", finding.into()));
     }
     test_printing::line(rt, b"sum", test_buffers::checksum(&output));
+}
+
+// The line of a number that no fault has, at a boat and a column or nowhere.
+fn no_fault(rt: &HostRuntime, fault: u32, line: usize, field: usize, columns: usize) {
+    let finding = csv_book_text::NumberedFinding {
+        fault,
+        line,
+        field,
+        boats: 0,
+        columns,
+    };
+    file_io::print(rt, csv_book_text::fleet_fault(b"a,b\nc,1\n", finding));
 }
 
 // mixbook in a folder, and the book that stands there afterwards.
@@ -71,6 +83,8 @@ fn run(rt: &HostRuntime, cases: &[u8]) {
     test_cases::each(rt, cases, 500, case);
     limits(rt);
     short_buffer(rt);
+    no_fault(rt, 999, 2, 1, 1);
+    no_fault(rt, 0, 0, 0, 0);
     folder(rt, b"");
     folder(rt, b"larger");
     folder(rt, b"faulty");

@@ -18,7 +18,7 @@ fn made_of(rt: &HostRuntime, fleet: &[u8], csv: &[u8]) {
             test_printing::line(rt, b"fault", finding.fault.number() as u64);
             test_printing::line(rt, b"line", finding.line as u64);
             test_printing::line(rt, b"field", finding.field as u64);
-            file_io::print(rt, csv_sheet_text::sheet_fault(fleet, csv, finding));
+            file_io::print(rt, csv_sheet_text::sheet_fault(fleet, csv, finding.into()));
             0
         }
     };
@@ -67,9 +67,21 @@ fn short_buffer(rt: &HostRuntime) {
     let mut output = [1u8; 39999];
     let csv = b",b\nd,1\nsteps,1\ntolerance,1\n";
     if let Err(finding) = csv_sheet::csv_sheet(fleet, csv, &mut output) {
-        file_io::print(rt, csv_sheet_text::sheet_fault(fleet, csv, finding));
+        file_io::print(rt, csv_sheet_text::sheet_fault(fleet, csv, finding.into()));
     }
     test_printing::line(rt, b"sum", test_buffers::checksum(&output));
+}
+
+// The line of a number that no fault has, in a row or nowhere.
+fn no_fault(rt: &HostRuntime, fault: u32, line: usize, row: usize, field: usize) {
+    let finding = csv_sheet_text::NumberedFinding {
+        fault,
+        line,
+        row,
+        field,
+    };
+    let csv = b",b\nd,1\n";
+    file_io::print(rt, csv_sheet_text::sheet_fault(b"a,b\nc,1\n", csv, finding));
 }
 
 // mixsheet in a folder, and the sheet that stands there afterwards.
@@ -112,6 +124,8 @@ fn run(rt: &HostRuntime, buffer: &mut [u8]) {
     each(rt, file_io::first_bytes(buffer, n), 600);
     limits(rt);
     short_buffer(rt);
+    no_fault(rt, 999, 2, 1, 1);
+    no_fault(rt, 0, 0, 0, 0);
     folders(rt);
 }
 
