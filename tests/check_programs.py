@@ -43,9 +43,19 @@ def main_of(program, function):
     return MAIN_WITH_NUMBER % (program, NUMBERS[program], function) if program in NUMBERS else MAIN % (program, function)
 
 
-def code(crate):
-    """The words of a program's source, without its comments and the line that each crate begins with."""
-    with open(os.path.join(CRATES, crate, "src", "main.rt"), encoding="utf-8") as file:
+# what calls that function in the folder that the argument names: no contract says that it does, so their words are compared
+CALLS = (
+    "pub fn in_folder<F: FnOnce(&HostRuntime, &[u8])>(rt: &HostRuntime, program: &[u8], work: F) requires { F.IsAlwaysCallable work }"
+    " { let mut name = [0u8; 4095]; if let Some(len) = folder(rt, program, &mut name) { work(rt, &name[..len]); } }",
+    "pub fn in_folder_with<F: FnOnce(&HostRuntime, &[u8], u32)>( rt: &HostRuntime, program: &[u8], word: &[u8], work: F, )"
+    " requires { F.IsAlwaysCallable work } { let mut name = [0u8; 4095];"
+    " if let Some(asked) = number_and_folder(rt, program, word, &mut name) { work(rt, &name[..asked.len], asked.number); } }",
+)
+
+
+def code(crate, source="main.rt"):
+    """The words of a crate's source, without its comments and the line that each crate begins with."""
+    with open(os.path.join(CRATES, crate, "src", source), encoding="utf-8") as file:
         return " ".join(word for line in file if not line.startswith(("//", "#![tactic(auto)]")) for word in line.split())
 
 
@@ -89,6 +99,10 @@ def main():
             faults += 1
         if "%s(rt, %s);" % (function, argument) not in code(test):
             print("%s: crates/%s/src/main.rt does not call %s" % (program, test, function))
+            faults += 1
+    for call in CALLS:
+        if call not in code("arguments", "lib.rt"):
+            print("crates/arguments/src/lib.rt: does not have the words %s" % call)
             faults += 1
     print("programs: %d, faults: %d" % (len(PROGRAMS), faults))
     return 1 if faults else 0
